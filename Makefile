@@ -7,7 +7,8 @@
 #             them there, with their header and a file for pkg-config
 # make wrong  tries the wrong bodies outside the gate, in a copy of the repository
 # make memory proves the tests of refused memory, and runs them and the program that make run built with each allocation refused in turn
-# make bench  times the store at a million keys, each subject in a process of its own, and then over files (docs/MEASURED.md)
+# make bench  times the store at a million keys, each subject in a process of its own, at other sizes and beside other stores, draws docs/speed.svg of
+#             that, and then times it over files (docs/MEASURED.md)
 # make peers  times other stores under the same load: LMDB and LevelDB, by their C libraries (liblmdb-dev, libleveldb-dev) and rustc
 # make crash  kills the program that make run built in mid-run, and looks at what its folder holds; then puts 10,000 folders together as a loss of
 #             power could leave them, from what a run asked of the system by a shim that cc makes, and looks at each
@@ -15,7 +16,7 @@
 
 PROGRAM = crates/bwlog
 PREFIX = /usr/local
-BENCH = --keys 1000000 --operations 1000000
+BENCH = --keys 1000000
 # One check a processor, each at one job: two jobs for one check cost a tenth more time of the processors.
 JOBS = $(shell n=$$(nproc); echo $$((n < 4 ? n : 4)))
 SUBJECTS = pages cleaning core alone beside late one one-beside many many-beside
@@ -41,7 +42,7 @@ test:
 	python3 tools/same.py
 	python3 tools/specs.py --check
 	python3 tools/surface.py
-	RT_JOBS=$(JOBS) rt ci
+	RT_JOBS=$(JOBS) python3 tools/shown.py rt ci
 	python3 tools/manual.py --check
 	python3 tests/program/cases.py
 	python3 tests/program/drawn.py
@@ -53,6 +54,7 @@ test:
 	python3 tests/program/failing.py
 	python3 tests/program/steady.py
 	python3 tests/program/people.py crates/bwlog/out/bwlog 100000
+	python3 tests/program/terminal.py
 	python3 tests/program/growth.py
 	python3 tools/refuse.py --every 5
 
@@ -67,13 +69,7 @@ memory:
 	python3 tools/refuse.py
 
 bench:
-	@cd crates/bw_bench && for subject in $(SUBJECTS); do rt run -- $(BENCH) --times --only $$subject || exit 1; done
-	@cd crates/bw_bench && folder=$$(mktemp -d) && trap "rm -rf $$folder" EXIT && \
-	rt run -- --times --only appends --dir $$folder && \
-	rt run -- --keys 500000 --operations 1 --batch 4096 --times --only alone --dir $$folder && \
-	for batch in 64 512 4096; do mkdir $$folder/$$batch && \
-	  rt run -- --keys 100000 --operations 100000 --batch $$batch --times --only many --dir $$folder/$$batch || exit 1; \
-	done
+	@python3 tools/bench.py $(BENCH) $(SUBJECTS)
 
 peers:
 	@folder=$$(mktemp -d /dev/shm/peers.XXXXXX) && trap "rm -rf $$folder" EXIT && \

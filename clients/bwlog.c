@@ -176,6 +176,13 @@ static void read_value(void *pairs, size_t index, const char *line) {
 
 /* ---- The store */
 
+/* Whether the first answer, `ready frame N protocol 1`, maybe with more behind, is of the protocol
+ * that is spoken here. */
+static int store_is_greeted(const struct store *s) {
+    unsigned protocol = 0;
+    return sscanf(s->line, "ready frame %*s protocol %u", &protocol) == 1 && protocol == 1;
+}
+
 /* The store of a folder, which is made where it is missing. */
 int store_open(struct store *s, const char *program, const char *folder) {
     int to[2], from[2], errors[2];
@@ -196,9 +203,10 @@ int store_open(struct store *s, const char *program, const char *folder) {
     }
     close(to[0]), close(from[1]), close(errors[1]);
     s->in = to[1], s->out = from[0], s->errors = errors[0];
-    if (store_exchange(s, 1, NULL, NULL) == 0) return 0; /* ready frame N */
+    int is_told = store_exchange(s, 1, NULL, NULL) == 0;
+    if (is_told && store_is_greeted(s)) return 0;
     char why[MAX_LINE];
-    strcpy(why, s->line);
+    snprintf(why, sizeof why, "%s%.1300s", is_told ? "no protocol 1: " : "", s->line);
     store_end(s, why);
     return -1;
 }
@@ -249,9 +257,10 @@ int store_get_all(struct store *s, struct pair *pairs, size_t count) {
     return store_exchange(s, count, read_value, pairs);
 }
 
-/* Answers 1 and the pair with the least key at or above this one, or 0 where there is none. */
-int store_next(struct store *s, const void *key, size_t key_len, struct pair *found) {
-    if (store_ask(s, "next", key, key_len, NULL, 0)) return -1;
+/* Answers 1 and the pair that this request about a key is answered, or 0 where there is none. */
+static int store_pair(struct store *s, const char *request, const void *key, size_t key_len,
+                      struct pair *found) {
+    if (store_ask(s, request, key, key_len, NULL, 0)) return -1;
     char *middle = strchr(s->line, '=');
     found->is_found = !strncmp(s->line, "pair ", 5) && middle;
     if (!found->is_found) return 0;
@@ -259,6 +268,21 @@ int store_next(struct store *s, const void *key, size_t key_len, struct pair *fo
     found->value_len = read_word(middle + 1, s->line + strlen(s->line), found->value,
                                  sizeof found->value);
     return 1;
+}
+
+/* Answers 1 and the pair with the least key at or above this one, or 0 where there is none. */
+int store_next(struct store *s, const void *key, size_t key_len, struct pair *found) {
+    return store_pair(s, "next", key, key_len, found);
+}
+
+/* The same of the pair with the greatest key at or below this one. */
+int store_prev(struct store *s, const void *key, size_t key_len, struct pair *found) {
+    return store_pair(s, "prev", key, key_len, found);
+}
+
+/* The same of the pair with the greatest key below this one. */
+int store_below(struct store *s, const void *key, size_t key_len, struct pair *found) {
+    return store_pair(s, "below", key, key_len, found);
 }
 
 /* The least key above that of a pair takes its place; 0 above the greatest. */

@@ -16,11 +16,15 @@ import threading
 
 
 class Refused(Exception):
-    """The store refused a request: `refused E5 NoSegment`, say. docs/REFUSALS.md has what to do."""
+    """The store refused a request: `refused E5 NoSegment`, say. docs/USING.md has what to do."""
 
 
 class Ended(Exception):
     """The child has ended, with its own words: `folder FOLDER: in use`, say."""
+
+
+# The version of the protocol that is spoken here.
+PROTOCOL = "1"
 
 
 class Store:
@@ -34,7 +38,7 @@ class Store:
             bufsize=1 << 16,
         )
         try:
-            self._heard(self._line())  # ready frame N
+            self._greeted(self._heard(self._line()))
         except BaseException:
             self.abandon()
             raise
@@ -72,11 +76,22 @@ class Store:
 
     def next(self, key):
         """The pair with the least key at or above this one; None where there is none."""
-        answer = self._ask("next " + word_of(key))
-        if answer == "none":
-            return None
-        key, value = answer[len("pair ") :].split("=")
-        return bytes_of(key), bytes_of(value)
+        return pair_in(self._ask("next " + word_of(key)))
+
+    def prev(self, key):
+        """The pair with the greatest key at or below this one; None where there is none."""
+        return pair_in(self._ask("prev " + word_of(key)))
+
+    def below(self, key):
+        """The pair with the greatest key below this one; None where there is none."""
+        return pair_in(self._ask("below " + word_of(key)))
+
+    def walk_back(self, key=b"\xff" * 128):
+        """All pairs at or below a key, the greatest first."""
+        pair = self.prev(key)
+        while pair is not None:
+            yield pair
+            pair = self.below(pair[0])
 
     def scan(self, key, most=64):
         """The first pairs at or above a key, no more than so many of 1 to 1,024."""
@@ -158,6 +173,13 @@ class Store:
         except BrokenPipeError:
             pass  # who reads the answers finds their end
 
+    @staticmethod
+    def _greeted(answer):
+        """Refuses a program of another protocol: the first answer is `ready frame N protocol 1`, maybe with more behind."""
+        words = answer.split()
+        if words[:2] != ["ready", "frame"] or words[3:5] != ["protocol", PROTOCOL]:
+            raise Ended("no protocol %s: %s" % (PROTOCOL, answer))
+
     def _line(self):
         line = self.child.stdout.readline()
         if not line.endswith(b"\n"):
@@ -186,6 +208,14 @@ def change_line(key, value):
 
 def bytes_of(word):
     return bytes.fromhex(word[2:]) if word.startswith("0x") else word.encode()
+
+
+def pair_in(answer):
+    """The pair of an answer; None where it has none."""
+    if answer == "none":
+        return None
+    key, value = answer[len("pair ") :].split("=")
+    return bytes_of(key), bytes_of(value)
 
 
 def value_in(answer):

@@ -61,6 +61,16 @@ fn heard(answer: String) -> Result<String> {
     Ok(answer)
 }
 
+/// Refuses a program of another protocol: the first answer is `ready frame N protocol 1`, maybe with
+/// more behind.
+fn greeted(answer: String) -> Result<()> {
+    let words: Vec<&str> = answer.split(' ').collect();
+    match words.as_slice() {
+        ["ready", "frame", _, "protocol", "1", ..] => Ok(()),
+        _ => Err(Error::other(format!("no protocol 1: {answer}"))),
+    }
+}
+
 /// The least key above this one; `None` above the greatest.
 pub fn after(key: &[u8]) -> Option<Vec<u8>> {
     let mut next = key.to_vec();
@@ -91,7 +101,7 @@ impl Store {
             input,
             output: BufReader::new(output),
         };
-        store.line().and_then(heard)?; // ready frame N
+        store.line().and_then(heard).and_then(greeted)?;
         Ok(store)
     }
 
@@ -182,7 +192,22 @@ impl Store {
 
     /// The pair with the least key at or above this one.
     pub fn next(&mut self, key: &[u8]) -> Result<Option<Pair>> {
-        let answer = self.ask(format!("next {}", word_of(key)))?;
+        self.pair("next", key)
+    }
+
+    /// The pair with the greatest key at or below this one.
+    pub fn prev(&mut self, key: &[u8]) -> Result<Option<Pair>> {
+        self.pair("prev", key)
+    }
+
+    /// The pair with the greatest key below this one.
+    pub fn below(&mut self, key: &[u8]) -> Result<Option<Pair>> {
+        self.pair("below", key)
+    }
+
+    /// The pair that a request about a key is answered.
+    fn pair(&mut self, request: &str, key: &[u8]) -> Result<Option<Pair>> {
+        let answer = self.ask(format!("{request} {}", word_of(key)))?;
         let words = answer.strip_prefix("pair ").and_then(|pair| pair.split_once('='));
         let Some((key, value)) = words else {
             return Ok(None);

@@ -39,13 +39,13 @@ _bwlog() {
         count) COMPREPLY=($(compgen -W "--dir --help" -- "$word")) ;;
         import) COMPREPLY=($(compgen -W "--dir --format --skip --help" -- "$word")) ;;
         export) COMPREPLY=($(compgen -W "--dir --format --mapsize --help" -- "$word")) ;;
-        replay) COMPREPLY=($(compgen -W "--writers --places --m --frame --segments --capacity --dir --take --reuse --help" -- "$word")) ;;
+        replay) COMPREPLY=($(compgen -W "--writers --places --m --frame --segments --capacity --dir --take --reuse --most-segments --help" -- "$word")) ;;
         serve) COMPREPLY=($(compgen -W "--places --m --frame --segments --capacity --dir --most-segments --help" -- "$word")) ;;
-        threads) COMPREPLY=($(compgen -W "--writers --places --m --frame --segments --capacity --dir --limit --flush-every --clean-at --tries --readers --forget --reuse --help" -- "$word")) ;;
+        threads) COMPREPLY=($(compgen -W "--writers --places --m --frame --segments --capacity --dir --limit --flush-every --clean-at --tries --readers --forget --reuse --most-segments --help" -- "$word")) ;;
         scan) COMPREPLY=($(compgen -W "--dir --help" -- "$word")) ;;
         print) COMPREPLY=($(compgen -W "--dir --help" -- "$word")) ;;
         stats) COMPREPLY=($(compgen -W "--dir --help" -- "$word")) ;;
-        picture) COMPREPLY=($(compgen -W "--dir --help" -- "$word")) ;;
+        picture) COMPREPLY=($(compgen -W "--dir --capacity --help" -- "$word")) ;;
         verify) COMPREPLY=($(compgen -W "--dir --help" -- "$word")) ;;
         copy) COMPREPLY=($(compgen -W "--dir --to --compact --m --frame --segments --capacity --help" -- "$word")) ;;
         salvage) COMPREPLY=($(compgen -W "--dir --to --help" -- "$word")) ;;

@@ -84,7 +84,7 @@ def page(program, modes):
         escaped("FOLDER/segment-NNNN.sum"),
         "the digests of its pieces",
         ".SH SEE ALSO",
-        "The page BWLOG of the source has the lines of scripts, the requests of serve, and all that is printed.",
+        "The page USING of the source has the lines of scripts, the requests of serve, and all that is printed.",
     ]
     return "\n".join(lines) + "\n"
 

@@ -207,6 +207,7 @@ fn measure(name: &str, peer: &mut dyn Peer, keys: u64) {
 fn main() {
     let words: Vec<String> = std::env::args().collect();
     let (folder, keys) = (words[1].as_str(), words[2].parse().expect("a number of keys"));
+    println!("{keys} keys of 8 bytes, values of 100, batches of {BATCH}");
     measure("a BTreeMap", &mut Map(BTreeMap::new()), keys);
     measure("LMDB", &mut Lmdb::open(&format!("{folder}/lmdb"), 0), keys);
     measure("LMDB, a writable map", &mut Lmdb::open(&format!("{folder}/map"), WRITE_MAP), keys);

@@ -4,7 +4,8 @@
     prove.py CRATE [JOBS]
 
 Each crate is proved and built once all crates that it names in crates.txt are, at most JOBS at a time (as many as there are
-processors, four at most). What stands proved already is not proved again. It prints a line for each crate."""
+processors, four at most). What stands proved already is not proved again. It prints a line for each crate. On a terminal one line that is
+written over says which crates it proves, how many are done, and how long the rest takes by the times of the last run."""
 
 import os
 import subprocess
@@ -12,16 +13,7 @@ import sys
 import time
 from concurrent.futures import FIRST_COMPLETED, ThreadPoolExecutor, wait
 
-HERE = os.path.dirname(os.path.abspath(__file__))
-TOP = os.path.join(HERE, "..")
-
-
-def stands_on():
-    """What each crate of the repository names of the others."""
-    lines = open(os.path.join(TOP, "crates.txt"), encoding="utf-8").read().splitlines()
-    rows = [line.split(":") for line in lines if line.strip() and not line.startswith("#")]
-    named = {name.split()[0]: deps.split() for name, deps in rows}
-    return {name: [dep for dep in deps if dep in named] for name, deps in named.items()}
+from shown import TOP, Line, crates, keep_times
 
 
 def below(crate, named):
@@ -40,16 +32,16 @@ def prove(name, word):
     words = ["rt", word] + (["--jobs", "1"] if word == "check" else [])
     ran = subprocess.run(words, cwd=os.path.join(TOP, "crates", name), capture_output=True, text=True)
     told = "proved" if ran.returncode == 0 else "NOT PROVED\n" + ran.stdout + ran.stderr
-    print("%s: %s, %.0f s" % (name, told, time.time() - begun), flush=True)
-    return name, ran.returncode == 0
+    return name, ran.returncode == 0, told, time.time() - begun
 
 
 def main():
     crate = sys.argv[1]
     jobs = int(sys.argv[2]) if len(sys.argv) > 2 else min(4, os.cpu_count() or 1)
-    named = stands_on()
+    named = crates()
     waiting = below(crate, named)
-    done, running, failed = set(), {}, False
+    line = Line("run", sorted(waiting), named, jobs)
+    done, running, failed, took = set(), {}, False, {}
     with ThreadPoolExecutor(jobs) as pool:
         while (waiting and not failed) or running:
             ready = [name for name in waiting if all(dep in done for dep in named[name])]
@@ -57,14 +49,20 @@ def main():
                 for name in sorted(ready)[: jobs - len(running)]:
                     waiting.discard(name)
                     running[pool.submit(prove, name, "check" if name == crate else "lib")] = name
-            ended, _ = wait(running, return_when=FIRST_COMPLETED)
+            line.show(done, ", " + " ".join(sorted(running.values())))
+            ended, _ = wait(running, timeout=1 if line.is_seen else None, return_when=FIRST_COMPLETED)
             for one in ended:
                 del running[one]
-                name, proved = one.result()
+                name, proved, told, seconds = one.result()
+                line.rest()
+                print("%s: %s, %.0f s" % (name, told, seconds), flush=True)
                 if proved:
                     done.add(name)
+                    took[name] = seconds
                 else:
                     failed = True
+    line.rest()
+    keep_times("run", took)
     return 1 if failed else 0
 
 

@@ -100,6 +100,7 @@ CASES = [
     Case("five puts", ["replay"], FIVE + "page 1\npage 2\npage 3\nsegments\ndump 1\n", list(zip("abcde", "12345"))),
     Case("a cleaning", ["replay"], THREE + "clean\n" + ASKED, OF_THREE),
     Case("two cleanings", ["replay"], THREE + "clean\nleases\nsegments\nclean\nclean\nadd\n" + ASKED, OF_THREE),
+    Case("room that is made", ["replay", "--segments=2", "--most-segments=5"], THREE + "get j\n"),
     Case("an eviction", ["replay"], "put 0 k v\nturn 1\nevict 1\nflush\nevict 1\nevict 1\npage 1\nget k\nevict 1\nput 0 l w\nsettle\n", [("k", "v"), ("l", "w")]),
     Case("an append that fails", ["replay"], "put 0 k v\nflush\nput 0 j 2\nflush\nflush\npage 1\ncuts\n", [("k", "v")], file_bytes=80),
     Case("writers", ["threads", "--limit=2", "--flush-every=1"], "".join("put %d %s%d %d\n" % (w, "ab"[w], it, it) for it in range(4) for w in range(2))),

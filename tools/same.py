@@ -1,21 +1,20 @@
 #!/usr/bin/env python3
-"""The examples of README.md and EMBEDDING.md stand to the letter in the tests that run them, the dumps of FORMAT.md have the bytes that the
-tests read, and the stored folder from which the program goes on has the second of them: so none can go stale. It prints nothing
+"""The example of README.md stands to the letter in a program of the gate, the lines of INSIDE.md in the sources, the dumps of
+FORMAT.md have the bytes that the tests read, and the stored folder from which the program goes on has the second of them. Each file that a
+page names is there, each `Type::call` is a function, and so is each that stands behind a file. So none can go stale. It prints nothing
 where all hold."""
 
+import os
 import re
 import sys
 
 EXAMPLES = {
-    "README.md": ["crates/folder_tests/src/tests.rt"] * 2,
-    "docs/EMBEDDING.md": [
-        "crates/folder_tests/src/tests/again.rt",
-        "crates/store_tests/src/tests/readme.rt",
-        "crates/store_tests/src/tests/readme.rt",
-        "crates/drive_tests/src/tests/readme.rt",
-        "crates/log_tests/src/tests/readme.rt",
-    ],
+    "README.md": ["crates/first/src/main.rt"],
+    "docs/INSIDE.md": ["crates/bw_file/src/segment.rt", "crates/bw_versions/src/writer.rt", "crates/bw_codec/src/decoder.rt"],
 }
+PAGES = ["README.md"] + ["docs/%s.md" % name for name in ("USING", "FORMAT", "PROMISES", "INSIDE", "DECISIONS", "TESTING", "MEASURED")]
+# What a run or a reader of a page makes.
+MADE = ("out/", "crates/bwlog/out/", "crates/mine")
 VECTORS = "crates/test_vectors/src/lib.rt"
 STORED = "crates/bwlog/data/store/segment-0000.bw"
 
@@ -37,8 +36,36 @@ def dumps(page):
             yield "".join(re.sub(r"\s", "", line) for line in lines)
 
 
+def files():
+    """All files of the repository but what is made, each behind a slash."""
+    for folder, inner, names in os.walk("."):
+        inner[:] = [it for it in inner if it not in (".git", "out", "target", "__pycache__")]
+        yield from (os.path.join(folder, name)[1:] for name in names + inner)
+
+
+def stale(page, paths, functions):
+    """What a page names and no source has."""
+    shown = re.sub(r"^```.*?^```$|^<!--.*-->$", "", text(page), flags=re.M | re.S)
+    for name in re.findall(r"`([\w.-]+/[\w./-]+|[\w./-]+\.(?:rt|antt|py|c|h|rs|toml))`", shown):
+        known = ("/" + name.rstrip("/"), "/" + name + ".antt")
+        if not name.startswith(MADE) and "NAME" not in name and not any(path.endswith(known) for path in paths):
+            yield "%s names %s" % (page, name)
+    for name in re.findall(r"`\w+::(?:\w+::)*(\w+)`", shown):
+        if name[0].islower() and name not in functions and not any(path.endswith("/src/%s.rt" % name) for path in paths):
+            yield "%s names a call %s" % (page, name)
+    for name, listed in re.findall(r"`([\w/]+\.rt)`: ((?:`\w+`(?:, )?)+)", shown):
+        sources = [text("." + path) for path in paths if path.endswith("/" + name)]
+        for one in re.findall(r"\w+", listed):
+            if not any(re.search(r"\bfn %s\b" % one, source) for source in sources):
+                yield "%s names %s of %s" % (page, one, name)
+
+
 def main():
     wrong = []
+    paths = list(files())
+    functions = {name for path in paths if path.endswith(".rt") for name in re.findall(r"\bfn (\w+)", text("." + path))}
+    for page in PAGES:
+        wrong += stale(page, paths, functions)
     for page, paths in EXAMPLES.items():
         shown = blocks(text(page), "rust")
         if len(shown) != len(paths):

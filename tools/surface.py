@@ -1,5 +1,5 @@
 #!/usr/bin/env python3
-"""Each public call of a library crate has a row in the table of TESTING, "Refused memory", and each row is a call: so a new call without a
+"""Each public call of a library crate has a row in the table of tools/surface.md, and each row is a call: so a new call without a
 row fails `make test` and `make memory`. Laws are left out. The calls are read from the sources: what `lib.rt` names by `pub use` or `pub mod`, the functions
 among it, the `pub fn` of its types, and the methods of its traits. Each call is also looked for in the sources of the tests that its row
 names. It prints nothing where all holds."""
@@ -10,7 +10,7 @@ import sys
 
 HERE = os.path.dirname(os.path.abspath(__file__))
 CRATES = os.path.join(HERE, "..", "crates")
-PAGE = os.path.join(HERE, "..", "docs", "TESTING.md")
+PAGE = os.path.join(HERE, "surface.md")
 # Crates that are no library of the store: programs, tests, and what tests stand on.
 OTHERS = {"bwlog", "bw_bench", "test_marks", "test_vectors"}
 
@@ -81,8 +81,7 @@ def surface(crate):
 
 def rows():
     """The table: for each crate and each test the calls that stand there."""
-    part = re.search(r"^## Refused memory\n(.*?)(?=^## |\Z)", text(PAGE), re.M | re.S)
-    for line in part[1].split("\n") if part else []:
+    for line in text(PAGE).split("\n"):
         cells = [it.strip() for it in line.strip().strip("|").split("|")]
         if len(cells) == 4 and re.fullmatch(r"`\w+`", cells[0]):
             yield cells[0].strip("`"), re.findall(r"`([\w:]+)`", cells[1]), cells[2], re.findall(r"`(\w+)(?:::(\w+))?`", cells[3])
@@ -111,10 +110,10 @@ def main():
             told[crate, call] = tests
     crates = libraries()
     for crate in crates:
-        wrong += ["TESTING.md has no row for %s %s" % (crate, it) for it in sorted(surface(crate)) if (crate, it) not in told]
+        wrong += ["surface.md has no row for %s %s" % (crate, it) for it in sorted(surface(crate)) if (crate, it) not in told]
     for (crate, call), tests in sorted(told.items()):
         if crate not in crates or call not in surface(crate):
-            wrong.append("TESTING.md has a row for %s %s, which is no public call" % (crate, call))
+            wrong.append("surface.md has a row for %s %s, which is no public call" % (crate, call))
         for name, module in tests:
             if not os.path.isdir(os.path.join(CRATES, name)) or not re.search(r"\b%s\b" % call.rsplit("::", 1)[-1], tests_text(name, module)):
                 wrong.append("%s%s has no %s of %s" % (name, "::" + module if module else "", call, crate))

@@ -26,9 +26,11 @@ BUILDS = {
     "bwlog.c": (["cc", "-O2", "-Wall", "-Werror", "-o", "{out}", "{}"], ["{out}"]),
     "bwlog.rs": (["rustc", "-O", "--edition", "2021", "-o", "{out}", "{}"], ["{out}"]),
 }
+# Programs of another protocol, of one with a further word, and of none.
+OTHERS = {"other": "ready frame 0 protocol 2", "further": "ready frame 0 protocol 1 tomorrow 7", "none": "ready frame 0"}
 # A program whose first answer is no line of the longest that a client reads.
 FAKE = """#!/bin/sh
-echo ready frame 0
+echo ready frame 0 protocol 1
 read line
 head -c 2000 /dev/zero | tr '\\0' x
 echo
@@ -50,13 +52,18 @@ def run(language, source, folder, more, wanted):
     return ""
 
 
-def fake_in(folder):
-    """A program that stands in the folder."""
-    path = os.path.join(folder, "fake")
+def fake_in(folder, name, text):
+    """A program of this name and text that stands in the folder."""
+    path = os.path.join(folder, name)
     with open(path, "w", encoding="ascii") as file:
-        file.write(FAKE)
+        file.write(text)
     os.chmod(path, 0o755)
     return path
+
+
+def others_in(folder):
+    """Programs that greet otherwise, and then answer nothing, up to the end of their input."""
+    return [fake_in(folder, name, "#!/bin/sh\necho %s\nexec cat > /dev/null\n" % line) for name, line in OTHERS.items()]
 
 
 def asked(name, count):
@@ -73,7 +80,7 @@ def asked(name, count):
         return wrong
     took = time.time() - begun
     with tempfile.TemporaryDirectory(dir=FAST) as folder:
-        more = [fake_in(folder)] if language == "c" else []
+        more = others_in(folder) + ([fake_in(folder, "fake", FAKE)] if language == "c" else [])
         wrong = run(language, os.path.join(CHECKS, "check." + language), folder, more, "kept to\n")
     if not wrong:
         print("%s: %d records kept and walked in %.1f s" % (name, count, took))

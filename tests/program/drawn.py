@@ -389,9 +389,9 @@ class Life:
 class Table:
     """What a store is opened with, and what its lives draw from."""
 
-    def __init__(self, program, seed, keys, are_shared=True, m=4, places=8, segments=4, capacity=65560):
+    def __init__(self, program, seed, keys, are_shared=True, m=4, places=8, segments=4, capacity=65560, frame=65536):
         self.program, self.keys, self.are_shared, self.m = program, keys, are_shared, m
-        self.options = ["--writers=2", "--m=%d" % m, "--places=%d" % places, "--segments=%d" % segments, "--capacity=%d" % capacity]
+        self.options = ["--writers=2", "--m=%d" % m, "--places=%d" % places, "--segments=%d" % segments, "--capacity=%d" % capacity, "--frame=%d" % frame]
         self.draw = random.Random(seed)
         self.model = Model(places)
         # How many pages there are at least, and at most: two pairs a page stand in it when it is cut.

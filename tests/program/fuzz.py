@@ -3,8 +3,8 @@
 
 Segments are made by drawn runs of the program or by this script, and changed: bits, numbers, pieces; frames and blocks exchanged,
 doubled, dropped, cut, or spliced from two runs. `bwlog scan` has to answer what hostile/reader.py answers, byte by byte, which is
-written from docs/FORMAT.md alone and shares nothing with the program. Scripts have to end at the fault that docs/BWLOG.md tells, behind
-the answers of the lines before it. Folders have to be refused as docs/BWLOG.md and docs/FILES.md tell, and stay as they are. Logs
+written from docs/FORMAT.md alone and shares nothing with the program. Scripts have to end at the fault that docs/USING.md tells, behind
+the answers of the lines before it. Folders have to be refused as docs/USING.md and docs/FORMAT.md tell, and stay as they are. Logs
 of both formats are upgraded, and have the same pages then.
 
     fuzz.py [--cases N] [--seed N] [--from N] [--program FILE] [--jobs N]

@@ -7,7 +7,7 @@ A drawn script leaves a folder of several segments, whose pages were split and w
 - its files of digests are cut, emptied, removed, and put beside the segments of another folder, and `verify` tells what the check of sums.py tells;
 - `salvage` is asked of each beginning of its newest segment, of the folder without each of its segments, of the folder with a changed bit in each of
   its frames and headers, with digests and without: what it prints and what its new folder holds are compared with what a walk over the format
-  tells, which is written here from docs/FORMAT.md and docs/BWLOG.md;
+  tells, which is written here from docs/FORMAT.md and docs/USING.md;
 - `copy` and `copy --compact` have its pairs, whose pages are full; `restore` of each frame before a changed bit is that of the whole folder.
 
 Last, `serve` is asked for backups while records come. Each opens as what was put before it, and is whole. And copies are killed at drawn moments:

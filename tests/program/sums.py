@@ -5,7 +5,7 @@ Runs of `bwlog replay --dir` over drawn scripts go under a library that notes ea
 (tools/watch.c). Then folders are put together as a loss of power could leave them. Of a segment's file stands all that was synced, and of a
 write in flight its first bytes. Of a file of sums, for whose writes nobody waits, stands any choice of what was written and cut since it was
 last synced: each of these wholly, in part or not at all, a lost one with bytes of 0 in its place, or with what an earlier time had there.
-None of these folders may be damaged, by a check that is written here from docs/FILES.md; drawn ones are looked at by `bwlog scan` too. And
+None of these folders may be damaged, by a check that is written here from docs/FORMAT.md; drawn ones are looked at by `bwlog scan` too. And
 before each append to a file that was emptied none of its old sums may come back.
 
 Last, of the folder that each run leaves, each of many drawn bits is changed: in a segment's file `bwlog scan` has to tell the damage, by the
@@ -43,7 +43,7 @@ def ask(condition, *what):
         raise Wrong(" ".join(str(it) for it in what))
 
 
-# ---- sums, as docs/FILES.md has them
+# ---- sums, as docs/FORMAT.md has them
 
 
 def turned(number, by):

@@ -76,7 +76,7 @@ def main():
         print(PROGRAM + " is not built: make run")
         return 1
     rows = [(["replay"], sent, wanted) for sent, wanted in REPLAY]
-    rows += [(["serve"], sent, [b"ready frame 0\n"] + wanted) for sent, wanted in SERVE]
+    rows += [(["serve"], sent, [b"ready frame 0 protocol 1\n"] + wanted) for sent, wanted in SERVE]
     for words, sent, wanted in rows:
         writes = writes_of(words, sent, len(wanted))
         if writes != wanted:

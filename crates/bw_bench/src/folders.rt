@@ -155,9 +155,9 @@ fn in_folder<R: System, L: SharedLegs<R, Answer = Option<()>>>(
     let path = format!(in bench.alloc; "{dir}/{name}").ok()?;
     let options = Options {
         writers,
-        places: usize::from(bench.options.batch),
-        m: MAX_PAIRS,
-        f: MIN_FRAME,
+        queue_groups: usize::from(bench.options.batch),
+        pairs_a_page: MAX_PAIRS,
+        frame_bytes: MIN_FRAME,
         segments: count_of(bench.options),
         capacity: CAPACITY,
     };

@@ -172,7 +172,7 @@ pub fn steady<R: System>(rt: &R, bench: &Bench, dir: &str, name: &'static str) -
     must_be_new(bench, dir, name)?;
     let path = format!(in bench.alloc; "{dir}/{name}").ok()?;
     let options = Options {
-        places: usize::from(bench.options.batch),
+        queue_groups: usize::from(bench.options.batch),
         segments: SEGMENTS,
         capacity: CAPACITY,
         ..Options::default()

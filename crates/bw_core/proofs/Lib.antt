@@ -35,6 +35,9 @@ pub mod Edging
 pub mod Stopping
 pub mod EvictedPages
 pub mod Walks
+pub mod Backwards
+pub mod BackSeen
 pub mod Counted
 pub mod NeededMore
 pub mod CountsMore
+pub mod Machines

@@ -60,10 +60,10 @@ not_first s h empty =
     (nothing_by s (s.before + s.durable + 1)
     (subst (λ (bs : List Block). TellsBy s (s.before + s.durable + 1) (leaves_at s s.durable) (waiting s) bs) empty h.tells)).0
 
-all_appended : (s : Kept) → IsSound s → s.log.is_failed ≡ false → length s.cuts ≡ s.durable
+pub all_appended : (s : Kept) → IsSound s → s.log.is_failed ≡ false → length s.cuts ≡ s.durable
 all_appended s h works = (elim h.beyond as (λ _. length s.cuts ≡ s.durable) [ inl e ↦ e | inr p ↦ (let failed = p.1 in absurd cc) ])
 
-settled : (s : Kept) → IsSound s → s.making.blocks ≡ [] → s.log.is_failed ≡ false → IsSettled s
+pub settled : (s : Kept) → IsSound s → s.making.blocks ≡ [] → s.log.is_failed ≡ false → IsSettled s
 settled s h empty works =
     let told = nothing_by s (s.before + s.durable + 1)
     (subst (λ (bs : List Block). TellsBy s (s.before + s.durable + 1) (leaves_at s s.durable) (waiting s) bs) empty h.tells) in

@@ -5,6 +5,8 @@ use Rattle.std.proofs.Common.{List, [], ◌∷◌, ◌++◌, length, take, refl,
 use Rattle.std.specs.Prelude.{IfSome, MatchResult, nat_le}
 use Rattle.std.specs.List.{AllByRecursion as All}
 use Rattle.std.proofs.lemmas.Bool.{cases_lt, le-leb, lt-leb}
+use Rattle.std.proofs.Math.Seq.{take-length}
+use Rattle.std.proofs.lemmas.List.{take_all}
 use Rattle.std.proofs.lemmas.List.Elements.{filter-append}
 use Rattle.bw_record.specs.declared.leaf.Leaf.{Leaf}
 use Rattle.bw_codec.specs.declared.block.Frame.{Frame}
@@ -14,12 +16,14 @@ use Rattle.bw_log.specs.Appends.{last_of}
 use Rattle.bw_log.specs.Contents as logs
 use Rattle.bw_log.specs.Contents.{IsRoomy}
 use Rattle.bw_log.specs.Places.{first_number}
-use Rattle.bw_log.specs.Segments.{segment_frames, AreFrom}
+use Rattle.bw_log.specs.Segments.{segment_frames, AreFrom, next_of}
+use Rattle.bw_log.proofs.Adding.{following_is}
 use Rattle.bw_care.specs.Laws.{cut_newest, frames_held, FoundAs, IsFound}
-use Rattle.bw_care.specs.Recovery.{Finding, frames_in, last_number}
+use Rattle.bw_care.specs.Recovery.{Finding, frames_in, last_number, recovery}
 use Rattle.bw_lines.specs.declared.cause.RecoverCause.{RecoverCause}
 use Rattle.bw_lines.specs.declared.cause.RecoverCause.TheVariants.{Empty}
 use Rattle.bw_care.proofs.CutBoxes.{cut_boxes, cut_taken, numbered_taken, stopped_boxes}
+use Rattle.bw_care.proofs.OwnFound.{own_boxes}
 use Rattle.bw_core.specs.Edges.{newest_number}
 use Rattle.bw_core.specs.Growing.{frames_upto}
 use Rattle.bw_core.specs.Kept.{Kept, leaves_at, IsSound}
@@ -115,6 +119,10 @@ held_upto q n (h ∷ k ∷ hs) holds =
     ∙ ap (λ (fs : List Frame). frames_upto q (segment_frames h.bytes) ++ fs) (held_upto q n (k ∷ hs) holds)
     ∙ sym (filter-append (λ (f : Frame). nat_le f.number q) (segment_frames h.bytes) (frames_held (k ∷ hs)))
 
+lawful_first : (fs : List Frame) → All IsNumbered fs → 1 ≤ length fs → 1 ≤ first_number fs
+lawful_first [] are more = absurd (omega arith)
+lawful_first (x ∷ xs) are more = are.0.number.0
+
 -- ---- a cut
 
 roomy_at : (newest length_then segment f n : ℕ) (Q : Holding → Type 0) (o : Option Holding) → 1 ≤ newest → (segment ≡ 0) ⊎ (24 ≤ length_then)
@@ -193,10 +201,7 @@ module _ (s : Kept) (h : IsSound s) (works : s.log.is_failed ≡ false) (n : ℕ
         omega arith
 
     from_one : 1 ≤ first
-    from_one = lawful_first counted (counted_lawful s.log h.log) (let here = some in let many = within in omega arith) where
-      lawful_first : (fs : List Frame) → All IsNumbered fs → 1 ≤ length fs → 1 ≤ first_number fs
-      lawful_first [] are more = absurd (omega arith)
-      lawful_first (x ∷ xs) are more = are.0.number.0
+    from_one = lawful_first counted (counted_lawful s.log h.log) (let here = some in let many = within in omega arith)
 
     -- no frame up to the floor's is missing
     low : s.before + s.floor ≤ last_number cut_frames
@@ -258,6 +263,70 @@ module _ (s : Kept) (h : IsSound s) (works : s.log.is_failed ≡ false) (n : ℕ
 
   pub cut_found : FindsCut s cut_all
   cut_found = cut_found_by cut_frames refl
+
+-- ---- between calls
+
+-- a length that cuts nothing off
+abbrev beyond_last : List Holding → ℕ
+beyond_last [] = 1
+beyond_last (h ∷ []) = suc (length h.bytes)
+beyond_last (h ∷ k ∷ hs) = beyond_last (k ∷ hs)
+
+some_beyond : (live : List Holding) → beyond_last live ≡ 0 → ⊥
+some_beyond [] none = absurd cc
+some_beyond (h ∷ []) none = absurd cc
+some_beyond (h ∷ k ∷ hs) none = some_beyond (k ∷ hs) none
+
+uncut : (live : List Holding) → cut_newest (beyond_last live) live ≡ live
+uncut [] = refl
+uncut (h ∷ []) = ap (λ (bytes : List ℕ). record h { bytes = bytes } ∷ []) (take_all (suc (length h.bytes)) h.bytes (omega arith))
+uncut (h ∷ k ∷ hs) = ap (λ (l : List Holding). h ∷ l) (uncut (k ∷ hs))
+
+take_none : (n : ℕ) → take {A = Frame} n [] ≡ []
+take_none zero = refl
+take_none (suc n) = refl
+
+module _ (s : Kept) (h : IsSound s) (works : s.log.is_failed ≡ false) where
+  abbrev FindsNow : Result Finding RecoverCause → Type 0
+  FindsNow r = MatchResult r (λ f. f.leaves ≡ leaves_at s s.durable) (λ e. (e ≡ Empty) × (s.before ≡ 0) × (s.durable ≡ 0))
+
+  -- no frame: nothing was ever kept
+  nothing_now : logs.counted s.log ≡ [] → FindsNow (recovery (logs.boxes s.log))
+  nothing_now none =
+      let n = beyond_last s.log.live in
+      let held = cut_taken s.log n h.log works in
+      let empty : frames_held (cut_newest n s.log.live) ≡ [] = held.1 ∙ ap (take held.0) none ∙ take_none held.0 in
+      let found = ((cut_boxes s.log n h.log works (λ zeroth. absurd (some_beyond s.log.live zeroth))).1 empty).0 in
+      let is = ap (λ (hs : List Holding). recovery (hs ++ s.log.spares)) (sym (uncut s.log.live)) ∙ found in
+      let follows : s.log.next ≡ next_of [] = subst (λ (fs : List Frame). s.log.next ≡ next_of fs) none h.log.holds.follows in
+      let first = following_is (s.before + s.durable) 1 (sym h.next ∙ follows) in
+      subst FindsNow (sym is) (refl, omega arith, omega arith)
+
+  -- all counted frames stand for the pages up to the durable cut
+  stand_now : 1 ≤ length (logs.counted s.log) → Stand s.log.m (logs.counted s.log) (leaves_at s s.durable)
+  stand_now some =
+      let counted = logs.counted s.log in
+      let first = first_number counted in
+      let top = none_above s.log counted first h.log refl h.log.holds.numbered some in
+      let low = h.last in
+      let next = next_after first counted h.log.holds.numbered some (first + length counted - 1) (omega arith) in
+      let same = same_end (s.before + s.durable) (first + length counted - 1) (omega arith) (omega arith) (sym h.next ∙ h.log.holds.follows ∙ next) in
+      let one = lawful_first counted (counted_lawful s.log h.log) some in
+      let all : frames_upto (s.before + s.durable) counted ≡ counted =
+      upto_taken (s.before + s.durable) first (length counted) counted h.log.holds.numbered (omega arith) ∙ take-length counted in
+      let floor = h.floor in
+      subst (λ (m : ℕ). Stand m counted (leaves_at s s.durable)) h.pairs
+      (subst (λ (fs : List Frame). Stand s.filed.m fs (leaves_at s s.durable)) all (h.stands s.durable floor (omega arith) (omega arith)))
+
+  whole_by : (fs : List Frame) → logs.counted s.log ≡ fs → FindsNow (recovery (logs.boxes s.log))
+  whole_by [] none = nothing_now none
+  whole_by (x ∷ xs) is =
+      let some = ap (λ (fs : List Frame). length fs) is in
+      subst FindsNow (sym (own_boxes s.log (leaves_at s s.durable) h.log works (stand_now (omega arith)))) refl
+
+  -- where no append failed, recovery finds the pages up to the durable cut
+  pub whole_found : FindsNow (recovery (logs.boxes s.log))
+  whole_found = whole_by (logs.counted s.log) refl
 
 -- ---- the boxes handed out
 

@@ -3,6 +3,7 @@ pub mod Growing
 pub mod Edges
 pub mod Kept
 pub mod Stopping
+pub mod Machine
 pub mod Faults
 pub mod Noted
 pub mod Views
@@ -11,12 +12,14 @@ pub mod Fitting
 pub mod Settled
 pub mod Emptied
 pub mod Reading
+pub mod Back
 pub mod Taking
 pub mod Opened
 pub mod Reopened
 pub mod Following
 pub mod Cleaning
 pub mod Settling
+pub mod Goal
 pub mod Upgrading
 pub mod Rewriting
 pub mod Counting

@@ -7,6 +7,7 @@ ghost use Rattle.bw_core.specs.Counting.{counted_gone, CountsClean};
 ghost use Rattle.bw_core.specs.Emptied.{Emptied, IsUnready};
 ghost use Rattle.bw_core.specs.Following.{Continues, Follows, HasBoxes};
 ghost use Rattle.bw_core.specs.Kept.{EachCutStands};
+ghost use Rattle.bw_core.specs.Machine.{KeepsAs, MayBeStopped};
 ghost use Rattle.bw_core.specs.Settled.{IsSettled};
 
 use crate::fault::StoreFault;
@@ -46,6 +47,10 @@ impl Core {
 
         ensures follows { Continues (kept_by self.old holding) (kept_by self.new holding) }
         ensures boxes { HasBoxesBut 1 (kept_by self.old holding) result (kept_by self.new holding) }
+
+        // As the machine: all that was taken is kept, and what a stop leaves is found.
+        ensures steps { KeepsAs result (kept_by self.old holding) (kept_by self.new holding) }
+        ensures may_leave { MayBeStopped (kept_by self.new holding) }
     {
         if self.log.live() < 2 {
             return Err(StoreFault::NothingOld);

@@ -1,6 +1,6 @@
 //! The frame in the making is appended, and the next one begun.
 
-ghost use Rattle.std.specs.Prelude.{◌≡◌, ◌≤◌, ◌<◌, Some, [], true, false, length, vec_len, OnOk, IfErr};
+ghost use Rattle.std.specs.Prelude.{◌≡◌, ◌≤◌, ◌<◌, Some, [], true, false, length, vec_len, OnOk, IfErr, MatchResult};
 ghost use Rattle.std.specs.Vec.{vec_capacity};
 ghost use Rattle.bw_codec.specs.Grammar.{frame_bytes};
 ghost use Rattle.bw_buffer.specs.Filling.{frame_of};
@@ -9,7 +9,9 @@ ghost use Rattle.bw_log.specs.Appends.{refusal};
 ghost use Rattle.bw_core.specs.Faults.{FlushLeaves, AppendLeaves, IsNext, IsRefused, FlushAnswers, flush_refusal, refusal_by};
 ghost use Rattle.bw_core.specs.Following.{Follows, HasBoxes};
 ghost use Rattle.bw_core.specs.Kept.{EachCutStands};
+ghost use Rattle.bw_core.specs.Machine.{machine_of, MayBeStopped};
 ghost use Rattle.bw_core.specs.Settled.{IsSettled};
+ghost use Rattle.bw_history.specs.Machine.{Stops, keeps};
 
 use crate::append::append_to;
 use crate::fault::StoreFault;
@@ -40,6 +42,14 @@ impl Core {
         ensures follows { Follows (kept_by self.old holding) (kept_by self.new holding) }
         ensures boxes { HasBoxes (kept_by self.old holding) (kept_by self.new holding) }
         ensures noted { noted_of self.new ≡ noted_of self.old }
+
+        // As the machine: all that was taken is kept, and what a stop leaves is found.
+        ensures steps { MatchResult result
+            (λ _. machine_of (kept_by self.new holding)
+            ≡ keeps (machine_of (kept_by self.old holding)))
+            (λ _. Stops (machine_of (kept_by self.old holding))
+            (machine_of (kept_by self.new holding))) }
+        ensures may_leave { MayBeStopped (kept_by self.new holding) }
     {
         self.flush_making(false)
     }

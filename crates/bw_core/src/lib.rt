@@ -12,6 +12,7 @@
 #![tactic(auto)]
 
 mod append;
+mod back;
 mod clean;
 mod config;
 mod count;
@@ -23,6 +24,7 @@ mod fault;
 mod flush;
 mod forget;
 mod groups;
+mod laws;
 mod moved;
 mod needed;
 mod open;
@@ -37,6 +39,7 @@ mod segments;
 mod settle;
 mod store;
 mod take;
+mod take_all;
 mod turn;
 mod upgrade;
 mod walk;
@@ -46,6 +49,7 @@ pub use bw_history::{Entry, PackedEntry};
 pub use config::Config;
 pub use edge::Edge;
 pub use fault::{OpenFault, StoreFault, TurnFault};
+pub use laws::each_line_of_the_goal;
 pub use open::are_taken;
 pub use reopen::ReopenFault;
 pub use store::Core;

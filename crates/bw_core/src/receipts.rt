@@ -1,7 +1,9 @@
 //! How much of what a writer put is durable.
 
 ghost use Rattle.std.specs.Prelude.{◌≡◌, length};
-ghost use Rattle.bw_history.specs.History.{cut, of_writer, upto};
+ghost use Rattle.bw_core.specs.Machine.{machine_of};
+ghost use Rattle.bw_history.specs.Machine.{IsMachine};
+ghost use Rattle.bw_history.specs.History.{of_writer, upto};
 
 use crate::store::Core;
 
@@ -21,10 +23,12 @@ impl Core {
         self.intake.count_upto(writer, self.durable_end())
     }
 
-    /// The history's length at the durable cut. No memory is taken.
+    /// The history's length at the durable cut: so much of it a stop leaves at least. A store is a
+    /// machine that lost nothing of it. No memory is taken.
     pub fn durable_end(&self) -> usize
         requires { IsSound self.now holding }
-        ensures { result ≡ cut (kept_by self.now holding).cuts (kept_by self.now holding).durable }
+        ensures value { result ≡ (machine_of (kept_by self.now holding)).durable }
+        ensures machine { IsMachine (machine_of (kept_by self.now holding)) }
     {
         if self.durable == 0 {
             return 0;

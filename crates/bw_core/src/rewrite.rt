@@ -6,6 +6,7 @@ ghost use Rattle.std.specs.Vec.{vec_capacity};
 ghost use Rattle.bw_log.specs.Reads.{IsPage};
 ghost use Rattle.bw_core.specs.Following.{Follows, HasBoxes};
 ghost use Rattle.bw_core.specs.Kept.{EachCutStands};
+ghost use Rattle.bw_core.specs.Machine.{KeepsAs, MayBeStopped};
 ghost use Rattle.bw_core.specs.Rewriting.{are_pages, RewriteLeaves, RewriteMoves};
 ghost use Rattle.bw_core.specs.Settled.{IsSettled};
 
@@ -45,6 +46,10 @@ impl Core {
         ensures follows { Follows (kept_by self.old holding) (kept_by self.new holding) }
         ensures boxes { HasBoxes (kept_by self.old holding) (kept_by self.new holding) }
         ensures noted { noted_of self.new ≡ noted_of self.old }
+
+        // As the machine: all that was taken is kept, and what a stop leaves is found.
+        ensures steps { KeepsAs result (kept_by self.old holding) (kept_by self.new holding) }
+        ensures may_leave { MayBeStopped (kept_by self.new holding) }
     {
         if !are_pages(self.leaves.count(), pages) {
             return Err(StoreFault::NoPage);

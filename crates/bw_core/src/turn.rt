@@ -2,7 +2,9 @@
 
 ghost use Rattle.std.specs.Prelude.{◌≡◌, ◌≤◌, ◌<◌, ◌+◌, ◌*◌, length, IfOk, IfErr, MatchResult};
 ghost use Rattle.bw_core.specs.Following.{Turned, TookInTurn, RefusedAfter, TurnsOn, groups_since};
+ghost use Rattle.bw_core.specs.Machine.{machine_of, MayBeStopped};
 ghost use Rattle.bw_history.specs.Lanes.{Dries, AreDry};
+ghost use Rattle.bw_history.specs.Machine.{TakesAndStops, TakesMany};
 
 use crate::fault::TurnFault;
 use crate::store::Core;
@@ -54,6 +56,14 @@ impl Core {
         ensures tried { IfErr result (λ fault.
             groups_since (kept_by self.old holding) (kept_by self.new holding) < limit) }
         ensures noted { noted_of self.new ≡ noted_of self.old }
+
+        // As the machine: so many groups are taken, and what a stop leaves is found.
+        ensures steps { MatchResult result
+            (λ _. TakesMany (groups_since (kept_by self.old holding) (kept_by self.new holding))
+            (machine_of (kept_by self.old holding)) (machine_of (kept_by self.new holding)))
+            (λ _. TakesAndStops (machine_of (kept_by self.old holding))
+            (machine_of (kept_by self.new holding))) }
+        ensures may_leave { MayBeStopped (kept_by self.new holding) }
     {
         let mut taken = Count {
             groups: 0,

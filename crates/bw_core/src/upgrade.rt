@@ -6,6 +6,7 @@ ghost use Rattle.bw_core.specs.Cleaning.{HasBoxesBut, HasFloorBut};
 ghost use Rattle.bw_core.specs.Counting.{counted_gone, CountsUpgraded};
 ghost use Rattle.bw_core.specs.Following.{Continues};
 ghost use Rattle.bw_core.specs.Kept.{EachCutStands};
+ghost use Rattle.bw_core.specs.Machine.{KeepsAs, MayBeStopped};
 ghost use Rattle.bw_core.specs.Upgrading.{UpgradeMoves, UpgradeLeaves};
 
 use crate::fault::StoreFault;
@@ -49,6 +50,10 @@ impl Core {
             (kept_by self.new holding) self.new.tally }
         ensures boxes { HasBoxesBut (old_segments (kept_by self.old holding).log)
             (kept_by self.old holding) result (kept_by self.new holding) }
+
+        // As the machine: all that was taken is kept, and what a stop leaves is found.
+        ensures steps { KeepsAs result (kept_by self.old holding) (kept_by self.new holding) }
+        ensures may_leave { MayBeStopped (kept_by self.new holding) }
     {
         if self.old_segments() == 0 {
             return Err(StoreFault::NothingOld);

@@ -5,7 +5,7 @@
 //! says that the file has the piece, and reads are answered by the copy. A `Folder` has a file for
 //! each lease, and nobody else has it open. Beside each file stand the sums of its pieces, by which
 //! damage is found when the file is read again. What a file gives back is outside every contract, so a
-//! clause speaks of the copy alone; `docs/FILES.md` says what the files have to keep, and what then
+//! clause speaks of the copy alone; `docs/FORMAT.md` says what the files have to keep, and what then
 //! holds.
 #![tactic(auto)]
 

@@ -1,6 +1,8 @@
 -- What callers see, in reading order.
 pub mod Entries
 pub mod History
+pub mod Machine
+pub mod Laws
 pub mod Remembered
 pub mod Lanes
 pub mod Entering

@@ -5,15 +5,18 @@
 //! have them. `Intake` is the lanes and the history together: what is taken from a lane stands in the
 //! history at once, so each writer's records in the history are always those that its lane gave, in
 //! order. `specs/History.antt` has what a history tells: streams of writers, groups, cuts and shares.
+//! `specs/Machine.antt` has the machine that a store is, and `laws` what holds of it.
 #![tactic(auto)]
 
 mod beside;
 mod entry;
 mod history;
 mod intake;
+mod laws;
 mod packed;
 
 pub use entry::Entry;
 pub use history::History;
 pub use intake::Intake;
+pub use laws::{a_stop_leaves_a_beginning, a_stop_loses_nothing, what_is_durable_stays};
 pub use packed::PackedEntry;

@@ -2,3 +2,4 @@ pub mod Ready
 pub mod Putting
 pub mod Renewing
 pub mod Sharing
+pub mod Maps

@@ -2,23 +2,22 @@
 
 ghost use Rattle.std.specs.Prelude.{◌≡◌, ◌<◌, ◌≤◌, ℕ, Some, Err, true, length, map, slice_get, IfOk, IfErr, OnOk, OnErr, MatchResult};
 ghost use Rattle.std.specs.FinMap as finite;
-ghost use Rattle.std.specs.List.{AllByRecursion};
 ghost use Rattle.bw_page.specs.Ahead.{IsFirst, IsStretch};
-ghost use Rattle.bw_page.specs.Leaves.{pages, plain};
-ghost use Rattle.bw_page.specs.Standing.{Stand};
-ghost use Rattle.bw_log.specs.Contents.{counted, image, limits_of};
-ghost use Rattle.bw_log.specs.Segments.{AreLive};
+ghost use Rattle.bw_page.specs.Leaves.{plain};
 ghost use Rattle.bw_ring.specs.Ends.{accepted, ring_of_feed};
 ghost use Rattle.bw_care.specs.Found.{IsRecovered};
 ghost use Rattle.bw_history.specs.Entries.{records};
-ghost use Rattle.bw_history.specs.History.{streams};
 ghost use Rattle.bw_history.specs.Lanes.{AreDry};
+ghost use Rattle.bw_history.specs.Machine.{Stops, TakesAndKeeps, TakesAndStops, TakesMany, keeps};
+ghost use Rattle.bw_core.specs.Back.{IsLast, IsLastBelow};
 ghost use Rattle.bw_core.specs.Faults.{FlushAnswers, FlushLeaves, flush_refusal};
 ghost use Rattle.bw_core.specs.Following.{Follows, HasBoxes, RefusedAfter, TookInTurn, Turned, groups_since};
-ghost use Rattle.bw_core.specs.Kept.{EachCutStands, TellsShare};
+ghost use Rattle.bw_core.specs.Goal.{Goal, SameFeeds, Sequel};
+ghost use Rattle.bw_core.specs.Kept.{EachCutStands};
+ghost use Rattle.bw_core.specs.Machine.{machine_of, MayBeStopped};
 ghost use Rattle.bw_core.specs.Reading.{HasRead};
-ghost use Rattle.bw_core.specs.Settled.{IsAllCut, IsSettled};
-ghost use Rattle.bw_core.specs.Settling.{SettleRefuses, Settles};
+ghost use Rattle.bw_core.specs.Settled.{IsSettled};
+ghost use Rattle.bw_core.specs.Settling.{SettleRefuses};
 ghost use Rattle.bw_home.specs.Putting.{Added, AddedGroup};
 
 use crate::fault::{GroupNotPut, HomeFault, NotPut};
@@ -117,11 +116,11 @@ impl Home {
     {
         let Options {
             writers,
-            places,
+            queue_groups,
             ..
         } = *options;
         let found = Some(Found::of(&recovered));
-        match Core::reopen(rt.alloc(), recovered, writers, places) {
+        match Core::reopen(rt.alloc(), recovered, writers, queue_groups) {
             Ok((store, feeds)) => Ok(Home::of(store, feeds, site, options.capacity, found)),
             Err(fault) => Err(HomeFault::from(fault.cause)),
         }
@@ -229,6 +228,12 @@ impl Home {
             (away_in self.new.store) fault.cause (kept_in self.new holding)) }
         ensures tried { IfErr result (λ fault.
             groups_since (kept_in self.old holding) (kept_in self.new holding) < limit) }
+        ensures steps { MatchResult result
+            (λ _. TakesMany (groups_since (kept_in self.old holding) (kept_in self.new holding))
+            (machine_of (kept_in self.old holding)) (machine_of (kept_in self.new holding)))
+            (λ _. TakesAndStops (machine_of (kept_in self.old holding))
+            (machine_of (kept_in self.new holding))) }
+        ensures may_leave { MayBeStopped (kept_in self.new holding) }
     {
         self.store.turn(limit)
     }
@@ -245,6 +250,12 @@ impl Home {
         ensures each_cut { EachCutStands (kept_in self.new holding) }
         ensures follows { Follows (kept_in self.old holding) (kept_in self.new holding) }
         ensures boxes { HasBoxes (kept_in self.old holding) (kept_in self.new holding) }
+        ensures steps { MatchResult result
+            (λ _. machine_of (kept_in self.new holding)
+            ≡ keeps (machine_of (kept_in self.old holding)))
+            (λ _. Stops (machine_of (kept_in self.old holding))
+            (machine_of (kept_in self.new holding))) }
+        ensures may_leave { MayBeStopped (kept_in self.new holding) }
     {
         self.store.flush()
     }
@@ -254,43 +265,21 @@ impl Home {
     pub fn settle(&mut self) -> Result<u64, StoreFault>
         requires { IsReady self.old holding }
         ensures ready { IsReady self.new holding }
-        ensures ends { map ring_of_feed self.new.feeds.items
-            ≡ map ring_of_feed self.old.feeds.items }
-        ensures accepted { map accepted self.new.feeds.items
-            ≡ map accepted self.old.feeds.items }
-
-        ensures exactly { OnOk result
-            (streams 0 (length self.new.feeds.items) (kept_in self.new holding).entries
-            ≡ map accepted self.new.feeds.items) }
-        ensures writers { OnOk result
-            (AllByRecursion (λ e. e.writer < length self.new.feeds.items)
-            (kept_in self.new holding).entries) }
-        ensures last_cut { OnOk result (IsAllCut (kept_in self.new holding)) }
-        ensures shares { OnOk result
-            (AllByRecursion (λ f. (kept_in self.new holding).before < f.number
-            → TellsShare (kept_in self.new holding) f) (counted (kept_in self.new holding).log)) }
-        ensures whole { OnOk result ((old_f : ℕ)
-            × AreLive (limits_of (image (kept_in self.new holding).log) old_f)
-            (kept_in self.new holding).log.number
-            (image (kept_in self.new holding).log).bytes) }
-        ensures pages { OnOk result
-            (Stand (kept_in self.new holding).log.m (counted (kept_in self.new holding).log)
-            (pages (kept_in self.new holding).log.m (kept_in self.new holding).start
-            (records (kept_in self.new holding).entries))) }
-        ensures answer { IfOk result (λ n. n ≡ length (kept_in self.new holding).entries) }
-
+        ensures goal { IfOk result
+            (Goal self.new.feeds.items (kept_in self.old holding) (kept_in self.new holding)) }
         ensures refused { IfErr result (λ cause. SettleRefuses (kept_in self.old holding)
             (lanes_of self.new.store) (away_in self.new.store) cause
             (kept_in self.new holding)) }
-        ensures settles { OnOk result
-            (Settles (kept_in self.old holding) (kept_in self.new holding)) }
         ensures failed { (kept_in self.old holding).log.is_failed ≡ true
             → result ≡ Err StoreFault.Failed }
-        ensures noted { noted_of self.new.store ≡ noted_of self.old.store }
-
-        ensures each_cut { EachCutStands (kept_in self.new holding) }
-        ensures follows { Follows (kept_in self.old holding) (kept_in self.new holding) }
-        ensures boxes { HasBoxes (kept_in self.old holding) (kept_in self.new holding) }
+        ensures steps { MatchResult result
+            (λ _. TakesAndKeeps (machine_of (kept_in self.old holding))
+            (machine_of (kept_in self.new holding)))
+            (λ _. TakesAndStops (machine_of (kept_in self.old holding))
+            (machine_of (kept_in self.new holding))) }
+        ensures feeds { SameFeeds self.old.feeds.items self.new.feeds.items }
+        ensures sequel { Sequel (kept_in self.old holding) (kept_in self.new holding)
+            (noted_of self.old.store) (noted_of self.new.store) }
     {
         self.store.settle(&mut self.feeds)
     }
@@ -323,6 +312,35 @@ impl Home {
         ensures boxes { HasBoxes (kept_in self.old holding) (kept_in self.new holding) }
     {
         self.store.next_at(key)
+    }
+
+    /// The pair with the greatest key at or below this one, as all that was taken leaves it, flushed
+    /// or not; `None` before the first pair. As `Core::prev_at`.
+    pub fn prev_at(&mut self, key: &Key) -> Result<Option<(Key, Value)>, StoreFault>
+        requires { IsReady self.old holding }
+        ensures ready { IsReady self.new holding }
+        ensures feeds { self.new.feeds ≡ self.old.feeds }
+        ensures value { IfOk result (λ pair. IsLast (plain (kept_in self.old holding).start
+            (records (kept_in self.old holding).entries)) key.now pair) }
+        ensures read { HasRead (kept_in self.old holding) (kept_in self.new holding) }
+        ensures follows { Follows (kept_in self.old holding) (kept_in self.new holding) }
+        ensures boxes { HasBoxes (kept_in self.old holding) (kept_in self.new holding) }
+    {
+        self.store.prev_at(key)
+    }
+
+    /// The same, but of the keys below this one alone. As `Core::prev_below`.
+    pub fn prev_below(&mut self, key: &Key) -> Result<Option<(Key, Value)>, StoreFault>
+        requires { IsReady self.old holding }
+        ensures ready { IsReady self.new holding }
+        ensures feeds { self.new.feeds ≡ self.old.feeds }
+        ensures value { IfOk result (λ pair. IsLastBelow (plain (kept_in self.old holding).start
+            (records (kept_in self.old holding).entries)) key.now pair) }
+        ensures read { HasRead (kept_in self.old holding) (kept_in self.new holding) }
+        ensures follows { Follows (kept_in self.old holding) (kept_in self.new holding) }
+        ensures boxes { HasBoxes (kept_in self.old holding) (kept_in self.new holding) }
+    {
+        self.store.prev_below(key)
     }
 
     /// Puts the pairs at or above a key into `found`, in the order of keys and no more than so

@@ -7,6 +7,8 @@
 //! and `with_segments` do the same over segments in memory. A `Course` is handed a `Home`: the
 //! store, its feeds, and where its segments stand. The store is sound and the rings are those of
 //! the feeds (`specs/Ready.antt`), and the course has to leave them so: each call of `Home` does.
+//! With one writer a home is a map: `set`, `delete`, `get`, `next_at`, `scan`, and `keep`, which makes
+//! it durable (`specs/Maps.antt`).
 #![tactic(auto)]
 
 mod begun;
@@ -16,6 +18,7 @@ mod fault;
 mod folder_look;
 mod found;
 mod home;
+mod map;
 mod opened;
 mod options;
 mod segments;
@@ -26,7 +29,7 @@ mod system;
 mod upgraded;
 
 pub use course::{Course, Legs};
-pub use fault::{GroupNotPut, HomeFault, NotPut};
+pub use fault::{GroupNotPut, HomeFault, MapFault, NotPut};
 pub use found::Found;
 pub use home::Home;
 pub use opened::{with_store, with_store_at, with_store_in_legs, with_store_in_memory};

@@ -9,12 +9,12 @@ use bw_core::Config;
 pub struct Options {
     /// How many writers there are, 1 to 64: each has a queue of its own.
     pub writers: usize,
-    /// The places of each queue, 1 to 4,096.
-    pub places: usize,
+    /// How many groups wait in a queue at most, 1 to 4,096.
+    pub queue_groups: usize,
     /// The most pairs of a page, 4 to 32.
-    pub m: u16,
+    pub pairs_a_page: u16,
     /// The most bytes of a frame, 65,536 to 262,144.
-    pub f: u32,
+    pub frame_bytes: u32,
     /// How many segments there are at least, up to 4,096. A folder with more files has more.
     pub segments: u32,
     /// How many bytes a new segment has room for, up to 1 GiB. All of it is reserved in memory.
@@ -26,9 +26,9 @@ impl Default for Options {
     fn default() -> Options {
         Options {
             writers: 1,
-            places: 64,
-            m: MAX_PAIRS,
-            f: MIN_FRAME,
+            queue_groups: 64,
+            pairs_a_page: MAX_PAIRS,
+            frame_bytes: MIN_FRAME,
             segments: 4,
             capacity: 16_777_216,
         }
@@ -40,9 +40,9 @@ impl Options {
     pub(crate) fn config(&self) -> Config {
         Config {
             writers: self.writers,
-            places: self.places,
-            m: self.m,
-            f: self.f,
+            places: self.queue_groups,
+            m: self.pairs_a_page,
+            f: self.frame_bytes,
         }
     }
 }

@@ -80,10 +80,10 @@ impl SharedHome {
     {
         let config = Config {
             writers: options.writers,
-            places: options.places,
+            places: options.queue_groups,
             readers,
-            m: options.m,
-            f: options.f,
+            m: options.pairs_a_page,
+            f: options.frame_bytes,
         };
         match Store::open(rt, rt.alloc(), &config, segments) {
             Ok((store, feeds)) => Ok(SharedHome::of(store, feeds, site, options.capacity, found)),
@@ -103,11 +103,11 @@ impl SharedHome {
     {
         let Options {
             writers,
-            places,
+            queue_groups,
             ..
         } = *options;
         let found = Some(Found::of(&recovered));
-        match Store::reopen(rt, rt.alloc(), recovered, writers, places, readers) {
+        match Store::reopen(rt, rt.alloc(), recovered, writers, queue_groups, readers) {
             Ok((store, feeds)) => Ok(SharedHome::of(store, feeds, site, options.capacity, found)),
             Err(fault) => Err(HomeFault::from(fault.cause)),
         }
@@ -131,6 +131,15 @@ impl SharedHome {
         self.stock.given_up = Some(cleaned.lease);
         self.stock.renew(rt)?;
         Ok(cleaned)
+    }
+
+    /// As `Home::make_spare`.
+    pub fn make_spare<R: System>(&mut self, rt: &R) -> Result<(), HomeFault>
+        requires { IsShared self.old holding }
+        ensures ready { IsShared self.new holding }
+        ensures feeds { self.new.feeds ≡ self.old.feeds }
+    {
+        self.stock.make_spare(rt)
     }
 
     // The leases of the live segments, the oldest first.

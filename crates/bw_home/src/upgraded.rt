@@ -56,7 +56,7 @@ pub fn upgrade<R: System>(rt: &R, path: &str, leases: u32) -> Result<Upgraded, H
     // Nobody puts.
     let options = Options {
         writers: 1,
-        places: 1,
+        queue_groups: 1,
         segments: 0,
         capacity: old.capacity,
         ..Options::default()

@@ -5,6 +5,7 @@ use crate::span::Span;
 use bw_codec::{Leaf, Pair};
 use bw_page::Leaves;
 use bw_pairs::{Letters, Spelling, write_dumped, write_end, write_header, write_pair};
+use bw_watch::{Watch, Work};
 use std::io::Write;
 
 /// How pairs are written.
@@ -86,8 +87,14 @@ impl<'a, O: Write> Listing<'a, O> {
     }
 
     /// Writes the pairs of these pages, in the order of their keys.
-    pub fn all_up(&mut self, leaves: &Leaves, pages: &[u32]) -> Result<(), KeysFault> {
-        for page in pages {
+    pub fn all_up<W: Watch>(
+        &mut self,
+        leaves: &Leaves,
+        pages: &[u32],
+        watch: &mut W,
+    ) -> Result<(), KeysFault> {
+        for (index, page) in pages.iter().enumerate() {
+            watch.see(Work::Listing, index as u64, pages.len() as u64);
             if let (true, Some(leaf)) = (self.left > 0, leaves.page(*page)) {
                 self.up(leaf)?;
             }
@@ -96,8 +103,14 @@ impl<'a, O: Write> Listing<'a, O> {
     }
 
     /// The same against that order.
-    pub fn all_down(&mut self, leaves: &Leaves, pages: &[u32]) -> Result<(), KeysFault> {
-        for page in pages.iter().rev() {
+    pub fn all_down<W: Watch>(
+        &mut self,
+        leaves: &Leaves,
+        pages: &[u32],
+        watch: &mut W,
+    ) -> Result<(), KeysFault> {
+        for (index, page) in pages.iter().rev().enumerate() {
+            watch.see(Work::Listing, index as u64, pages.len() as u64);
             if let (true, Some(leaf)) = (self.left > 0, leaves.page(*page)) {
                 self.down(leaf)?;
             }

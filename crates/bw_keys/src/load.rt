@@ -8,6 +8,7 @@ use crate::records::Records;
 use crate::tending::{Tending, forget};
 use bw_home::{Added, Home, HomeFault, Legs, System};
 use bw_ring::{FullGroup, Group};
+use bw_watch::{Watch, Work};
 
 /// What comes next.
 #[derive(Debug, Clone, Copy, PartialEq, Eq)]
@@ -22,8 +23,11 @@ enum Step {
 
 /// Records that go into a store.
 #[derive(Drop)]
-pub struct Load<'a, S> {
+pub struct Load<'a, S, W> {
     records: &'a mut S,
+    /// How many bytes the input of the records has; 0 where that is not known.
+    all: u64,
+    watch: &'a mut W,
     tending: Tending,
     /// A record that found the queue full.
     waiting: Option<Group>,
@@ -35,11 +39,13 @@ pub struct Load<'a, S> {
     count: u64,
 }
 
-impl<'a, S: Records> Load<'a, S> {
-    /// These records, into a store that is tended so.
-    pub fn new(records: &'a mut S, tending: Tending) -> Load<'a, S> {
+impl<'a, S: Records, W: Watch> Load<'a, S, W> {
+    /// These records, of an input of so many bytes, into a store that is tended so.
+    pub fn new(records: &'a mut S, all: u64, watch: &'a mut W, tending: Tending) -> Load<'a, S, W> {
         Load {
             records,
+            all,
+            watch,
             tending,
             waiting: None,
             is_over: false,
@@ -76,7 +82,19 @@ impl<'a, S: Records> Load<'a, S> {
             return Ok(Step::Room);
         }
         forget(home);
+        self.watch
+            .see(Work::Importing, self.records.bytes(), self.all);
         Ok(Step::On)
+    }
+
+    /// Tells of a segment that was added.
+    fn tell_added(&mut self, home: &Home)
+        requires { IsReady home.now holding }
+    {
+        if self.tending.took_further() {
+            let segments = home.store.live().saturating_add(home.store.spares());
+            self.watch.added(segments);
+        }
     }
 
     /// Puts a record into the queue.
@@ -173,13 +191,14 @@ fn refused_spare(home: &Home) -> Result<(), KeysFault>
     }
 }
 
-impl<R: System, S: Records> Legs<R> for Load<'_, S> {
+impl<R: System, S: Records, W: Watch> Legs<R> for Load<'_, S, W> {
     type Answer = Result<u64, KeysFault>;
 
     fn leg(&mut self, rt: &R, home: &mut Home) -> Option<Result<u64, KeysFault>> {
         if let Err(fault) = refused_spare(home) {
             return Some(Err(fault));
         }
+        self.tell_added(home);
         match self.up_to_room(rt, home) {
             Ok(Step::End) => Some(self.answer()),
             Ok(_) => None,

@@ -9,6 +9,7 @@ use bw_device::{Desk, MemSegment, Segment};
 use bw_file::FolderReader;
 use bw_home::{HomeFault, System};
 use bw_page::Leaves;
+use bw_watch::{Watch, Work, folder_bytes};
 use std::alloc::Global;
 
 /// The least capacity of a copy, in bytes: a header and the longest frame.
@@ -54,18 +55,24 @@ pub fn check_store<R: System>(rt: &R, path: &str) -> Result<(), KeysFault> {
 }
 
 /// Copies of all segments of a folder, by a desk of so many leases. Each is the one of its lease, so
-/// what is told of one names it.
-fn copies_of<R: System>(
+/// what is told of one names it. The files have so many bytes.
+fn copies_of<R: System, W: Watch>(
     rt: &R,
     reader: &FolderReader,
     files: &[u32],
     leases: u32,
+    all: u64,
+    watch: &mut W,
 ) -> Result<Vec<MemSegment>, HomeFault> {
     let count = files.last().map_or(0, |last| last.saturating_add(1));
     let mut desk = Desk::new(rt.alloc(), leases)?;
     let mut copies = Vec::new(rt.alloc());
+    let mut done = 0u64;
     for _ in 0..count {
-        copies.push(copy_of(rt, reader, &mut desk, files)?)?;
+        let copy = copy_of(rt, reader, &mut desk, files)?;
+        done = done.saturating_add(copy.len());
+        copies.push(copy)?;
+        watch.see(Work::Reading, done, all);
     }
     Ok(copies)
 }
@@ -123,11 +130,17 @@ fn pages_in_copies(alloc: Global, copies: Vec<MemSegment>) -> Result<Option<Leav
 /// nothing was ever durable there. Other readers are no hindrance.
 ///
 /// What recovery refuses is refused, a file above so many leases, and a folder without the file of
-/// any segment. It takes memory for a copy of
-/// all files, and the time of a recovery.
-pub fn pages_in<R: System>(rt: &R, path: &str, leases: u32) -> Result<Option<Leaves>, KeysFault> {
+/// any segment. It takes memory for a copy of all files, and the time of a recovery.
+pub fn pages_in<R: System, W: Watch>(
+    rt: &R,
+    path: &str,
+    leases: u32,
+    watch: &mut W,
+) -> Result<Option<Leaves>, KeysFault> {
     let (reader, files) = opened(rt, path)?;
-    let copies = copies_of(rt, &reader, files.as_slice(), leases)?;
+    let all = folder_bytes(rt, path, leases, watch);
+    let copies = copies_of(rt, &reader, files.as_slice(), leases, all, watch)?;
+    watch.see(Work::Recovering, 0, all);
     Ok(pages_in_copies(rt.alloc(), copies)?)
 }
 

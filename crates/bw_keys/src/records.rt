@@ -9,6 +9,9 @@ use std::io::Read;
 pub trait Records: Drop {
     /// The next one; `None` behind the last.
     fn next_record(&mut self) -> Result<Option<Record>, KeysFault>;
+
+    /// How many bytes of an input were read for those so far; 0 where there is none.
+    fn bytes(&self) -> u64;
 }
 
 /// A single record.
@@ -21,10 +24,18 @@ impl Records for Single {
     fn next_record(&mut self) -> Result<Option<Record>, KeysFault> {
         Ok(self.record.take())
     }
+
+    fn bytes(&self) -> u64 {
+        0
+    }
 }
 
 impl<I: Read + Drop> Records for Pairs<I> {
     fn next_record(&mut self) -> Result<Option<Record>, KeysFault> {
         Ok(self.next_put()?)
+    }
+
+    fn bytes(&self) -> u64 {
+        Pairs::bytes(self)
     }
 }

@@ -10,9 +10,11 @@ use crate::tending::Tending;
 use bw_codec::limits::MAX_VALUE;
 use bw_codec::{Key, Record, Value};
 use bw_home::{Options, System, with_store_at};
+use bw_look::frame_in_folder;
 use bw_pairs::{
     LineFault, Pairs, PairsFault, Skipped, Spelling, key_of, value_from, value_of, write_word,
 };
+use bw_watch::{Watch, Work, folder_bytes, input_bytes};
 use std::alloc::Global;
 use std::io::{Read, Write};
 
@@ -72,9 +74,11 @@ const MOST: u32 = 64;
 
 /// A store that one writer puts into, with a queue that is long enough for batches.
 fn options() -> Options {
+    let other = Options::default();
     Options {
-        places: 1_024,
-        ..Options::default()
+        queue_groups: 1_024,
+        frame_bytes: frame_in_folder(other.capacity),
+        ..other
     }
 }
 
@@ -110,17 +114,19 @@ fn value_by<I: Read>(alloc: Global, word: &str, input: &mut I) -> Result<Value, 
 
 /// Puts records into the store in a folder, which is made where it is missing, and answers how many
 /// these are, once they are durable.
-fn load<R: System, S: Records>(
+fn load<R: System, S: Records, W: Watch>(
     rt: &R,
     dir: &str,
     leases: u32,
     records: &mut S,
+    all: u64,
+    watch: &mut W,
 ) -> Result<u64, KeysFault> {
     let options = options();
-    let mut load = Load::new(
-        &mut *records,
-        Tending::new(options.capacity, MOST.min(leases)),
-    );
+    let held = folder_bytes(rt, dir, leases, watch);
+    watch.see(Work::Opening, 0, held);
+    let tending = Tending::new(options.capacity, MOST.min(leases));
+    let mut load = Load::new(&mut *records, all, &mut *watch, tending);
     match with_store_at(rt, Some(dir), leases, &options, &mut load) {
         Ok(answer) => answer,
         Err(fault) => Err(KeysFault::from(fault)),
@@ -128,32 +134,46 @@ fn load<R: System, S: Records>(
 }
 
 /// Puts one record.
-fn put<R: System>(rt: &R, dir: &str, leases: u32, record: Record) -> Result<Told, KeysFault> {
+fn put<R: System, W: Watch>(
+    rt: &R,
+    dir: &str,
+    leases: u32,
+    record: Record,
+    watch: &mut W,
+) -> Result<Told, KeysFault> {
     let mut records = Single {
         record: Some(record),
     };
-    let _ = load(rt, dir, leases, &mut records)?;
+    let _ = load(rt, dir, leases, &mut records, 0, watch)?;
     Ok(Told::Done)
 }
 
 /// Deletes a key from the store in a folder, which has to be there.
-fn del<R: System>(rt: &R, dir: &str, leases: u32, key: Key) -> Result<Told, KeysFault> {
+fn del<R: System, W: Watch>(
+    rt: &R,
+    dir: &str,
+    leases: u32,
+    key: Key,
+    watch: &mut W,
+) -> Result<Told, KeysFault> {
     check_store(rt, dir)?;
-    put(rt, dir, leases, Record::Del(key))
+    put(rt, dir, leases, Record::Del(key), watch)
 }
 
 /// Writes the value of a key.
-fn get<R: System, O: Write>(
+fn get<R: System, O: Write, W: Watch>(
     rt: &R,
     dir: &str,
     leases: u32,
     key: &Key,
     spelling: Spelling,
     output: &mut O,
+    watch: &mut W,
 ) -> Result<Told, KeysFault> {
-    let Some(leaves) = pages_in(rt, dir, leases)? else {
+    let Some(leaves) = pages_in(rt, dir, leases, watch)? else {
         return Ok(Told::NoValue);
     };
+    watch.rest();
     let Some(pair) = pair_of(&leaves, key) else {
         return Ok(Told::NoValue);
     };
@@ -165,16 +185,18 @@ fn get<R: System, O: Write>(
 }
 
 /// Writes how many pairs there are.
-fn count<R: System, O: Write>(
+fn count<R: System, O: Write, W: Watch>(
     rt: &R,
     dir: &str,
     leases: u32,
     output: &mut O,
+    watch: &mut W,
 ) -> Result<Told, KeysFault> {
-    let count = match pages_in(rt, dir, leases)? {
+    let count = match pages_in(rt, dir, leases, watch)? {
         Some(leaves) => count_of(&leaves),
         None => 0,
     };
+    watch.rest();
     writeln!(output, "{count}").map_err(KeysFault::of_output)?;
     Ok(Told::Done)
 }
@@ -188,23 +210,24 @@ struct Order {
 }
 
 /// Writes the pairs of a stretch of keys.
-fn list<R: System, O: Write>(
+fn list<R: System, O: Write, W: Watch>(
     rt: &R,
     dir: &str,
     leases: u32,
     span: &Span,
     order: Order,
     output: &mut O,
+    watch: &mut W,
 ) -> Result<Told, KeysFault> {
-    let found = pages_in(rt, dir, leases)?;
+    let found = pages_in(rt, dir, leases, watch)?;
     let mut listing = Listing::new(&mut *output, order.style, span, order.limit);
     listing.begin()?;
     if let Some(leaves) = found {
         let pages = pages_over(rt.alloc(), &leaves, span)?;
         if order.reverse {
-            listing.all_down(&leaves, pages.as_slice())?;
+            listing.all_down(&leaves, pages.as_slice(), watch)?;
         } else {
-            listing.all_up(&leaves, pages.as_slice())?;
+            listing.all_up(&leaves, pages.as_slice(), watch)?;
         }
     }
     listing.end()?;
@@ -221,16 +244,18 @@ fn span_of(listed: &Listed<'_>) -> Result<Span, KeysFault> {
 }
 
 /// Puts the pairs of an input.
-fn import<R: System, I: Read>(
+fn import<R: System, I: Read, W: Watch>(
     rt: &R,
     dir: &str,
     leases: u32,
     input: &mut I,
     is_dump: bool,
     skips: bool,
+    watch: &mut W,
 ) -> Result<Told, KeysFault> {
+    let all = input_bytes(rt, watch);
     let mut pairs = Pairs::new(rt.alloc(), input, is_dump, skips)?;
-    let count = load(rt, dir, leases, &mut pairs)?;
+    let count = load(rt, dir, leases, &mut pairs, all, watch)?;
     let Skipped {
         count: skipped,
         first,
@@ -243,49 +268,54 @@ fn import<R: System, I: Read>(
 }
 
 /// All pairs, in this style.
-fn export<R: System, O: Write>(
+fn export<R: System, O: Write, W: Watch>(
     rt: &R,
     dir: &str,
     leases: u32,
     style: Style,
     output: &mut O,
+    watch: &mut W,
 ) -> Result<Told, KeysFault> {
     let order = Order {
         style,
         limit: u64::MAX,
         reverse: false,
     };
-    list(rt, dir, leases, &Span::all(), order, output)
+    list(rt, dir, leases, &Span::all(), order, output, watch)
 }
 
 /// Does a task over the keys of a folder, by so many leases at most. What it reads and prints comes
-/// from this input and goes to this output.
-pub fn perform<R: System, I: Read, O: Write>(
+/// from this input and goes to this output, and how far it is, is told to a watch.
+pub fn perform<R: System, I: Read, O: Write, W: Watch>(
     rt: &R,
     dir: &str,
     leases: u32,
     task: &Task<'_>,
     input: &mut I,
     output: &mut O,
+    watch: &mut W,
 ) -> Result<Told, KeysFault> {
     match task {
         Task::Put(key, value) => {
             let key = key_by("KEY", *key)?;
             let value = value_by(rt.alloc(), *value, input)?;
-            put(rt, dir, leases, Record::Put(key, value))
+            put(rt, dir, leases, Record::Put(key, value), watch)
         }
-        Task::Get(key, spelling) => get(rt, dir, leases, &key_by("KEY", *key)?, *spelling, output),
-        Task::Del(key) => del(rt, dir, leases, key_by("KEY", *key)?),
+        Task::Get(key, spelling) => {
+            let key = key_by("KEY", *key)?;
+            get(rt, dir, leases, &key, *spelling, output, watch)
+        }
+        Task::Del(key) => del(rt, dir, leases, key_by("KEY", *key)?, watch),
         Task::List(listed) => {
             let order = Order {
                 style: Style::Tabs(listed.spelling),
                 limit: listed.limit,
                 reverse: listed.reverse,
             };
-            list(rt, dir, leases, &span_of(listed)?, order, output)
+            list(rt, dir, leases, &span_of(listed)?, order, output, watch)
         }
-        Task::Count => count(rt, dir, leases, output),
-        Task::Import { is_dump, skips } => import(rt, dir, leases, input, *is_dump, *skips),
-        Task::Export(style) => export(rt, dir, leases, *style, output),
+        Task::Count => count(rt, dir, leases, output, watch),
+        Task::Import { is_dump, skips } => import(rt, dir, leases, input, *is_dump, *skips, watch),
+        Task::Export(style) => export(rt, dir, leases, *style, output, watch),
     }
 }

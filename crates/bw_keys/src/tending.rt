@@ -28,6 +28,8 @@ pub struct Tending {
     has_cleaned: bool,
     /// Whether a cleaning made something durable that `took_flush` did not tell yet.
     has_flushed: bool,
+    /// Whether a further segment was made that `took_further` did not tell yet.
+    has_added: bool,
 }
 
 /// Whether a segment was wanted and too few spares stood.
@@ -82,6 +84,7 @@ impl Tending {
             seen: 0,
             has_cleaned: false,
             has_flushed: false,
+            has_added: false,
         }
     }
 
@@ -124,7 +127,7 @@ impl Tending {
 
     /// Whether a further segment was made, which is where there are fewer than are added by
     /// themselves.
-    fn has_further<R: System>(&self, rt: &R, home: &mut Home) -> Result<bool, HomeFault>
+    fn has_further<R: System>(&mut self, rt: &R, home: &mut Home) -> Result<bool, HomeFault>
         requires { IsReady home.old holding }
         ensures { IsReady home.new holding }
     {
@@ -133,7 +136,10 @@ impl Tending {
             return Ok(false);
         }
         match home.make_spare(rt) {
-            Ok(()) => Ok(true),
+            Ok(()) => {
+                self.has_added = true;
+                Ok(true)
+            }
             Err(HomeFault::Lease(NotTaken::NoLease)) => Ok(false),
             Err(fault) => Err(fault),
         }
@@ -219,6 +225,14 @@ impl Tending {
             }
         }
         Ok(false)
+    }
+
+    /// Whether a further segment was made since this was asked last. It is a spare from the next leg
+    /// on.
+    pub fn took_further(&mut self) -> bool {
+        let has_added = self.has_added;
+        self.has_added = false;
+        has_added
     }
 
     /// Whether a cleaning made something durable since this was asked last.

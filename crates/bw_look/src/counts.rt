@@ -47,7 +47,7 @@ fn frame_bytes(survey: &Survey) -> u64 {
 }
 
 /// How many bytes of the blocks of a segment, by its index, are still needed.
-fn needed_in(survey: &Survey, segment: usize) -> u64 {
+pub(crate) fn needed_in(survey: &Survey, segment: usize) -> u64 {
     let mut bytes = 0u64;
     for (index, row) in survey.blocks().iter().enumerate() {
         if row.segment == segment && survey.is_needed(index, row) {
@@ -58,7 +58,7 @@ fn needed_in(survey: &Survey, segment: usize) -> u64 {
 }
 
 /// How many bytes the pages have that a block of a segment, by its index, set last.
-fn rewritten_in(survey: &Survey, segment: usize, lengths: &[u64]) -> u64 {
+pub(crate) fn rewritten_in(survey: &Survey, segment: usize, lengths: &[u64]) -> u64 {
     let blocks = survey.blocks();
     let mut bytes = 0u64;
     for (page, set) in survey.set() {

@@ -1,7 +1,7 @@
 //! The limits of a log, as a segment of it tells them.
 
 use crate::frames::{Frames, Step};
-use bw_codec::limits::{HEADER_LEN, MIN_FRAME};
+use bw_codec::limits::{HEADER_LEN, MAX_FRAME, MIN_FRAME};
 use bw_codec::{HeaderRead, read_header};
 use std::alloc::{AllocError, Global};
 
@@ -12,6 +12,17 @@ pub struct Limits {
     pub m: u16,
     /// The most bytes that a frame has.
     pub f: u32,
+}
+
+/// The most bytes of a frame of a new store in a folder, where nothing is said of them: as many as a
+/// segment of this capacity has room for, of those that are allowed. Each frame is synced once, so
+/// long ones are fast.
+pub fn frame_in_folder(capacity: u64) -> u32 {
+    let room = capacity.saturating_sub(HEADER_LEN as u64);
+    u32::try_from(room)
+        .unwrap_or(MAX_FRAME)
+        .max(MIN_FRAME)
+        .min(MAX_FRAME)
 }
 
 /// The limits that a segment tells, where it has a whole frame: without one nothing goes on.

@@ -77,6 +77,11 @@ impl<I: Read + Drop> Pairs<I> {
         self.skipped
     }
 
+    /// How many bytes of it were read.
+    pub fn bytes(&self) -> u64 {
+        self.lines.bytes()
+    }
+
     /// Reads the next line, and says whether there was one.
     fn read_line(&mut self) -> Result<bool, PairsFault> {
         self.lines.read_line().map_err(PairsFault::of_read)

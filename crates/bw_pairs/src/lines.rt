@@ -52,6 +52,8 @@ pub struct Lines<R> {
     has_rest: bool,
     /// How many lines were read.
     number: u64,
+    /// How many bytes these have, but for what was read over of lines that are too long.
+    bytes: u64,
 }
 
 impl<R: Read + Drop> Lines<R> {
@@ -65,6 +67,7 @@ impl<R: Read + Drop> Lines<R> {
             kept: u64::from(longest) + 1,
             has_rest: false,
             number: 0,
+            bytes: 0,
         })
     }
 
@@ -77,6 +80,7 @@ impl<R: Read + Drop> Lines<R> {
         self.line.clear();
         self.number = self.number.saturating_add(1);
         let count = read_front(&mut self.input, self.kept, &mut self.line)?;
+        self.bytes = self.bytes.saturating_add(count as u64);
         if self.line.last() == Some(&b'\r') {
             let _ = read_front(&mut self.input, 1, &mut self.line)?;
         }
@@ -102,5 +106,10 @@ impl<R: Read + Drop> Lines<R> {
     /// The number of that line, from 1.
     pub fn number(&self) -> u64 {
         self.number
+    }
+
+    /// How many bytes were read, but for the rests of lines that are too long.
+    pub fn bytes(&self) -> u64 {
+        self.bytes
     }
 }

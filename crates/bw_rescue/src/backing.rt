@@ -7,6 +7,7 @@ use crate::fault::RescueFault;
 use crate::target::Target;
 use bw_home::{Home, HomeFault, System};
 use bw_look::Image;
+use bw_watch::Unseen;
 use std::alloc::Global;
 
 /// The i-th live segment, from 0; `None` where there are fewer.
@@ -59,6 +60,6 @@ pub fn backup<R: System>(
 {
     let target = Target::of(rt, to)?;
     let images = live_images(rt.alloc(), home)?;
-    target.write(rt, images.as_slice())?;
-    target.end(rt, leases)
+    target.write(rt, images.as_slice(), &mut Unseen)?;
+    target.end(rt, leases, &mut Unseen)
 }

@@ -11,6 +11,7 @@ use bw_codec::limits::HEADER_LEN;
 use bw_core::StoreFault;
 use bw_home::{HomeFault, Options, System};
 use bw_remains::pairs_of;
+use bw_watch::Watch;
 use std::alloc::{AllocError, Global};
 
 /// The pages that were found.
@@ -26,7 +27,7 @@ fn leaves_of(alloc: Global, judged: &Judged) -> Result<Vec<Leaf>, AllocError> {
 
 /// Refuses segments without room for a frame, before anything is made.
 fn with_room(options: &Options) -> Result<(), RescueFault> {
-    if options.capacity < u64::from(options.f).saturating_add(HEADER_LEN as u64) {
+    if options.capacity < u64::from(options.frame_bytes).saturating_add(HEADER_LEN as u64) {
         return Err(RescueFault::Home(HomeFault::Store(StoreFault::BadConfig)));
     }
     Ok(())
@@ -36,19 +37,27 @@ fn with_room(options: &Options) -> Result<(), RescueFault> {
 /// pages are full, but for the last three at most; no empty page is among them. There are so many
 /// leases. It is refused as `copy` is, and `Home` where the options allow no store, or the leases
 /// too few segments.
-pub fn compact<R: System>(
+pub fn compact<R: System, W: Watch>(
     rt: &R,
     from: &str,
     to: &str,
     leases: u32,
     options: &Options,
+    watch: &mut W,
 ) -> Result<Copied, RescueFault> {
     with_room(options)?;
     let target = Target::of(rt, to)?;
-    let images = sound_images(rt, from, leases)?;
-    let judged = judge(rt.alloc(), images.as_slice())?;
+    let images = sound_images(rt, from, leases, watch)?;
+    let judged = judge(rt.alloc(), images.as_slice(), watch)?;
     let leaves = leaves_of(rt.alloc(), &judged)?;
     let pairs = pairs_of(rt.alloc(), leaves.as_slice())?;
-    load(rt, target.partial(), leases, options, pairs.as_slice())?;
-    target.end(rt, leases)
+    load(
+        rt,
+        target.partial(),
+        leases,
+        options,
+        pairs.as_slice(),
+        watch,
+    )?;
+    target.end(rt, leases, watch)
 }

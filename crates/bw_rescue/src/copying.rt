@@ -7,6 +7,7 @@ use crate::target::Target;
 use bw_codec::{HeaderRead, read_header};
 use bw_home::System;
 use bw_look::Image;
+use bw_watch::Watch;
 use std::alloc::AllocError;
 
 /// What a new folder holds.
@@ -47,10 +48,16 @@ fn live_of(images: Vec<Image>) -> Result<Vec<Image>, AllocError> {
 /// Refused, and nothing is made: `Target` where the new folder is there already; `Source`, where the
 /// other one is locked for writing or damaged; `Recovery`, where it is no store. Behind `Partial` and
 /// `Target` a part may stand under the name with `.partial` behind, which is no copy.
-pub fn copy<R: System>(rt: &R, from: &str, to: &str, leases: u32) -> Result<Copied, RescueFault> {
+pub fn copy<R: System, W: Watch>(
+    rt: &R,
+    from: &str,
+    to: &str,
+    leases: u32,
+    watch: &mut W,
+) -> Result<Copied, RescueFault> {
     let target = Target::of(rt, to)?;
-    let images = sound_images(rt, from, leases)?;
-    let _ = judge(rt.alloc(), images.as_slice())?;
-    target.write(rt, live_of(images)?.as_slice())?;
-    target.end(rt, leases)
+    let images = sound_images(rt, from, leases, watch)?;
+    let _ = judge(rt.alloc(), images.as_slice(), watch)?;
+    target.write(rt, live_of(images)?.as_slice(), watch)?;
+    target.end(rt, leases, watch)
 }

@@ -7,6 +7,7 @@ use bw_device::{Desk, MAX_LEASES, MemSegment, Segment};
 use bw_home::Found;
 use bw_look::Image;
 use bw_page::Leaves;
+use bw_watch::{Watch, Work};
 use std::alloc::Global;
 
 /// The least capacity of a copy, in bytes: a header and the longest frame.
@@ -68,8 +69,22 @@ fn judge_copies(alloc: Global, copies: Vec<MemSegment>) -> Result<Judged, Rescue
     judge_boxes(alloc, boxes)
 }
 
+/// How many bytes segments have.
+pub(crate) fn bytes_of(images: &[Image]) -> u64 {
+    let mut bytes = 0u64;
+    for image in images {
+        bytes = bytes.saturating_add(image.bytes.len() as u64);
+    }
+    bytes
+}
+
 /// What recovery says of copies of these segments.
-pub(crate) fn judge(alloc: Global, images: &[Image]) -> Result<Judged, RescueFault> {
+pub(crate) fn judge<W: Watch>(
+    alloc: Global,
+    images: &[Image],
+    watch: &mut W,
+) -> Result<Judged, RescueFault> {
+    watch.see(Work::Recovering, 0, bytes_of(images));
     let mut desk = Desk::new(alloc, MAX_LEASES)?;
     let mut copies = Vec::new(alloc);
     for image in images {

@@ -11,6 +11,7 @@ use crate::fault::RescueFault;
 use bw_codec::{Pair, Record};
 use bw_core::StoreFault;
 use bw_home::{Home, HomeFault, Legs, NotPut, Options, System, with_store_at};
+use bw_watch::{Watch, Work};
 use std::alloc::{AllocError, Global};
 
 /// After so many pairs what is durable leaves the history.
@@ -18,7 +19,8 @@ const FORGET_EVERY: usize = 4_096;
 
 /// Pairs that go into a store.
 #[derive(Drop)]
-struct Loading<'a> {
+struct Loading<'a, W> {
+    watch: &'a mut W,
     pairs: &'a [Pair],
     /// Their positions, in the order in which they are put.
     order: &'a [usize],
@@ -72,14 +74,12 @@ fn put(home: &mut Home, pair: &Pair) -> Result<(), HomeFault>
     }
 }
 
-/// Lets go of the history as far as it is durable, after each so many pairs.
-fn forget(home: &mut Home, done: usize)
+/// Lets go of the history as far as it is durable.
+fn forget(home: &mut Home)
     requires { IsReady home.old holding }
     ensures { IsReady home.new holding }
 {
-    if done % FORGET_EVERY == 0 {
-        let _ = home.store.forget();
-    }
+    let _ = home.store.forget();
 }
 
 /// Takes all that was put, and flushes.
@@ -110,7 +110,19 @@ fn refused(home: &Home) -> Option<HomeFault> {
     }
 }
 
-impl Loading<'_> {
+impl<W: Watch> Loading<'_, W> {
+    /// After each so many pairs, lets go of the history, and says how many there were.
+    fn pause(&mut self, home: &mut Home)
+        requires { IsReady home.old holding }
+        ensures { IsReady home.new holding }
+    {
+        if self.done % FORGET_EVERY == 0 {
+            forget(home);
+            self.watch
+                .see(Work::Loading, self.done as u64, self.pairs.len() as u64);
+        }
+    }
+
     /// Puts the next pair; `false` where there is none.
     fn put_next(&mut self, home: &mut Home) -> Result<bool, HomeFault>
         requires { IsReady home.old holding }
@@ -124,7 +136,7 @@ impl Loading<'_> {
         };
         put(home, pair)?;
         self.done = self.done.saturating_add(1);
-        forget(home, self.done);
+        self.pause(home);
         Ok(true)
     }
 
@@ -165,7 +177,7 @@ impl Loading<'_> {
     }
 }
 
-impl<R: System> Legs<R> for Loading<'_> {
+impl<R: System, W: Watch> Legs<R> for Loading<'_, W> {
     type Answer = Result<(), HomeFault>;
 
     fn leg(&mut self, rt: &R, home: &mut Home) -> Option<Result<(), HomeFault>> {
@@ -181,15 +193,17 @@ impl<R: System> Legs<R> for Loading<'_> {
 }
 
 // Runs a loading over the store in a folder.
-fn run<R: System>(
+fn run<R: System, W: Watch>(
     rt: &R,
     path: &str,
     leases: u32,
     options: &Options,
     pairs: &[Pair],
     order: &[usize],
+    watch: &mut W,
 ) -> Result<(), HomeFault> {
     let mut loading = Loading {
+        watch: &mut *watch,
         pairs,
         order,
         done: 0,
@@ -199,15 +213,16 @@ fn run<R: System>(
 
 /// Makes a store in the folder of this path, with these pairs, whose keys ascend. There are so many
 /// leases; segments are added as they are wanted.
-pub(crate) fn load<R: System>(
+pub(crate) fn load<R: System, W: Watch>(
     rt: &R,
     path: &str,
     leases: u32,
     options: &Options,
     pairs: &[Pair],
+    watch: &mut W,
 ) -> Result<(), RescueFault> {
-    let m = usize::from(options.m).max(1);
+    let m = usize::from(options.pairs_a_page).max(1);
     let order = order_of(rt.alloc(), pairs.len(), m)?;
-    run(rt, path, leases, options, pairs, order.as_slice())?;
+    run(rt, path, leases, options, pairs, order.as_slice(), watch)?;
     Ok(())
 }

@@ -4,6 +4,7 @@ use crate::fault::RescueFault;
 use bw_file::{FolderFault, FolderReader};
 use bw_home::System;
 use bw_look::Image;
+use bw_watch::{Watch, Work, folder_bytes};
 
 /// The lease again, where it is below the number of leases.
 pub(crate) fn allowed(lease: u32, leases: u32) -> Result<u32, RescueFault> {
@@ -16,19 +17,25 @@ pub(crate) fn allowed(lease: u32, leases: u32) -> Result<u32, RescueFault> {
 
 /// The segments of a folder, by their leases, of which there are so many. Refused where the bytes of
 /// one do not fit their digests.
-pub(crate) fn sound_images<R: System>(
+pub(crate) fn sound_images<R: System, W: Watch>(
     rt: &R,
     path: &str,
     leases: u32,
+    watch: &mut W,
 ) -> Result<Vec<Image>, RescueFault> {
     let reader = FolderReader::open(rt, path)?;
+    let all = folder_bytes(rt, path, leases, watch);
     let mut images = Vec::new(rt.alloc());
+    let mut done = 0u64;
     for lease in &reader.leases(rt)? {
         let lease = allowed(*lease, leases)?;
+        let bytes = reader.sound_bytes(rt, lease)?;
+        done = done.saturating_add(bytes.len() as u64);
         images.push(Image {
             lease: Some(lease),
-            bytes: reader.sound_bytes(rt, lease)?,
+            bytes,
         })?;
+        watch.see(Work::Reading, done, all);
     }
     Ok(images)
 }
@@ -59,15 +66,21 @@ fn look_at<R: System>(rt: &R, reader: &FolderReader, lease: u32) -> Result<Seen,
 }
 
 /// The segments of a folder, by their leases, be they damaged or not.
-pub(crate) fn seen_images<R: System>(
+pub(crate) fn seen_images<R: System, W: Watch>(
     rt: &R,
     path: &str,
     leases: u32,
+    watch: &mut W,
 ) -> Result<Vec<Seen>, RescueFault> {
     let reader = FolderReader::open(rt, path)?;
-    let mut all = Vec::new(rt.alloc());
+    let all = folder_bytes(rt, path, leases, watch);
+    let mut images = Vec::new(rt.alloc());
+    let mut done = 0u64;
     for lease in &reader.leases(rt)? {
-        all.push(look_at(rt, &reader, allowed(*lease, leases)?)?)?;
+        let seen = look_at(rt, &reader, allowed(*lease, leases)?)?;
+        done = done.saturating_add(seen.image.bytes.len() as u64);
+        images.push(seen)?;
+        watch.see(Work::Reading, done, all);
     }
-    Ok(all)
+    Ok(images)
 }

@@ -8,6 +8,7 @@ use bw_care::RecoverCause;
 use bw_file::{Folder, FolderFault};
 use bw_home::{Found, System};
 use bw_look::{Image, Survey, kept_bytes, pages_at};
+use bw_watch::Watch;
 use std::alloc::{AllocError, Global};
 
 /// A log that was read.
@@ -43,10 +44,10 @@ impl Log {
     }
 
     /// What stands against the whole of it: damage, or what recovery refuses.
-    fn judged(&self, alloc: Global) -> Result<Judged, RescueFault> {
+    fn judged<W: Watch>(&self, alloc: Global, watch: &mut W) -> Result<Judged, RescueFault> {
         match self.first_hurt() {
             Some(fault) => Err(RescueFault::from(fault)),
-            None => judge(alloc, self.images.as_slice()),
+            None => judge(alloc, self.images.as_slice(), watch),
         }
     }
 }
@@ -102,11 +103,12 @@ struct Restored {
 }
 
 /// The log of a sound folder as of a frame. `now` is what recovery says of all of it.
-fn of_sound(
+fn of_sound<W: Watch>(
     alloc: Global,
     images: Vec<Image>,
     now: &Judged,
     frame: u64,
+    watch: &mut W,
 ) -> Result<Restored, RescueFault> {
     let Found { first, last, .. } = now.found;
     if frame < first || frame > last {
@@ -115,25 +117,26 @@ fn of_sound(
     let survey = Survey::of(alloc, images.as_slice())?;
     let pages = pages_at(&survey, frame, now.pages());
     let cut = cut_at(alloc, images, frame)?;
-    let then = with_pages(judge(alloc, cut.as_slice())?, pages)?;
+    let then = with_pages(judge(alloc, cut.as_slice(), watch)?, pages)?;
     Ok(Restored { cut, then })
 }
 
 /// The log as of a frame where there is this fault. It is told unless it stands behind that frame: so
 /// the segments are cut first, and recovery has to find the frame in what is left. How many pages
 /// there were is asked of the frames that can be read.
-fn in_front_of(
+fn in_front_of<W: Watch>(
     alloc: Global,
     log: Log,
     fault: RescueFault,
     frame: u64,
+    watch: &mut W,
 ) -> Result<Restored, RescueFault> {
     let Log { images, hurts } = log;
     let survey = Survey::of(alloc, images.as_slice())?;
     let pages = pages_at(&survey, frame, greatest_page(&survey));
     let cut = cut_at(alloc, images, frame)?;
     with_digests(cut.as_slice(), hurts.as_slice())?;
-    match judge(alloc, cut.as_slice()) {
+    match judge(alloc, cut.as_slice(), watch) {
         Ok(then) if then.found.last == frame => {
             let then = with_pages(then, pages)?;
             Ok(Restored { cut, then })
@@ -148,11 +151,16 @@ fn in_front_of(
 }
 
 /// The log as of a frame.
-fn as_of(alloc: Global, log: Log, frame: u64) -> Result<Restored, RescueFault> {
-    match log.judged(alloc) {
-        Ok(now) => of_sound(alloc, log.images, &now, frame),
+fn as_of<W: Watch>(
+    alloc: Global,
+    log: Log,
+    frame: u64,
+    watch: &mut W,
+) -> Result<Restored, RescueFault> {
+    match log.judged(alloc, watch) {
+        Ok(now) => of_sound(alloc, log.images, &now, frame, watch),
         Err(RescueFault::NoMemory) => Err(RescueFault::NoMemory),
-        Err(fault) => in_front_of(alloc, log, fault, frame),
+        Err(fault) => in_front_of(alloc, log, fault, frame, watch),
     }
 }
 
@@ -197,15 +205,16 @@ fn write_all<R: System>(rt: &R, path: &str, images: &[Image]) -> Result<(), Fold
 /// `NoFrame` where the log has no such frame; `Recovery`, with the page that is missing, where a
 /// segment with its blocks was given up since; `Source` and `Recovery` for what stands against the
 /// log up to the frame.
-pub fn restore<R: System>(
+pub fn restore<R: System, W: Watch>(
     rt: &R,
     from: &str,
     to: &str,
     frame: u64,
     leases: u32,
+    watch: &mut W,
 ) -> Result<Copied, RescueFault> {
-    let log = Log::of(seen_images(rt, from, leases)?)?;
-    let Restored { cut, then } = as_of(rt.alloc(), log, frame)?;
+    let log = Log::of(seen_images(rt, from, leases, watch)?)?;
+    let Restored { cut, then } = as_of(rt.alloc(), log, frame, watch)?;
     write_all(rt, to, cut.as_slice()).map_err(RescueFault::of_target)?;
     Ok(Copied::of(&then))
 }

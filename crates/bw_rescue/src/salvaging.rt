@@ -8,7 +8,9 @@ use bw_care::RecoverCause;
 use bw_codec::Leaf;
 use bw_file::{FolderFault, FolderReader};
 use bw_home::{Options, System};
+use bw_look::frame_in_folder;
 use bw_remains::{Held, Loss, Pages, frame_at, pairs_of, sums_beside};
+use bw_watch::{Watch, Work, folder_bytes};
 use std::alloc::{AllocError, Global};
 use std::collections::BTreeMap;
 
@@ -96,16 +98,32 @@ impl Wreck {
     }
 
     /// Reads all files of a folder.
-    fn of<R: System>(rt: &R, path: &str) -> Result<Wreck, RescueFault> {
+    fn of<R: System, W: Watch>(
+        rt: &R,
+        path: &str,
+        leases: u32,
+        watch: &mut W,
+    ) -> Result<Wreck, RescueFault> {
         let reader = FolderReader::open(rt, path)?;
+        let all = folder_bytes(rt, path, leases, watch);
         let mut wreck = Wreck {
             held: Vec::new(rt.alloc()),
             losses: Vec::new(rt.alloc()),
         };
         for lease in &reader.leases(rt)? {
             wreck.look(rt, &reader, path, *lease)?;
+            watch.see(Work::Reading, wreck.bytes(), all);
         }
         Ok(wreck)
+    }
+
+    /// How many bytes were read.
+    fn bytes(&self) -> u64 {
+        let mut bytes = 0u64;
+        for held in self.held.as_slice() {
+            bytes = bytes.saturating_add(held.bytes.len() as u64);
+        }
+        bytes
     }
 
     /// The most pairs of a page, as the headers tell that can be read; else the program's own.
@@ -115,7 +133,7 @@ impl Wreck {
             most = most.max(held.m().unwrap_or(0));
         }
         if most == 0 {
-            Options::default().m
+            Options::default().pairs_a_page
         } else {
             most
         }
@@ -178,8 +196,14 @@ struct Saved {
 }
 
 /// The pages of a folder, as far as its frames are whole. Refused where there is none.
-fn read_saved<R: System>(rt: &R, path: &str) -> Result<Saved, RescueFault> {
-    let wreck = Wreck::of(rt, path)?;
+fn read_saved<R: System, W: Watch>(
+    rt: &R,
+    path: &str,
+    leases: u32,
+    watch: &mut W,
+) -> Result<Saved, RescueFault> {
+    let wreck = Wreck::of(rt, path, leases, watch)?;
+    watch.see(Work::Recovering, 0, wreck.bytes());
     let m = wreck.m();
     let pages = wreck.pages(rt.alloc())?;
     let mut losses = wreck.losses;
@@ -201,20 +225,30 @@ fn read_saved<R: System>(rt: &R, path: &str) -> Result<Saved, RescueFault> {
 ///
 /// Refused, and nothing is made: `Target` where the new folder is there already; `Source` where the
 /// other one cannot be listed, or is locked for writing; `Recovery`, `Empty`, where no page is left.
-pub fn salvage<R: System>(
+pub fn salvage<R: System, W: Watch>(
     rt: &R,
     from: &str,
     to: &str,
     leases: u32,
+    watch: &mut W,
 ) -> Result<Salvaged, RescueFault> {
     let target = Target::of(rt, to)?;
-    let Saved { leaves, losses, m } = read_saved(rt, from)?;
+    let Saved { leaves, losses, m } = read_saved(rt, from, leases, watch)?;
     let pairs = pairs_of(rt.alloc(), leaves.as_slice())?;
+    let other = Options::default();
     let options = Options {
-        m,
-        ..Options::default()
+        pairs_a_page: m,
+        frame_bytes: frame_in_folder(other.capacity),
+        ..other
     };
-    load(rt, target.partial(), leases, &options, pairs.as_slice())?;
-    let copied = target.end(rt, leases)?;
+    load(
+        rt,
+        target.partial(),
+        leases,
+        &options,
+        pairs.as_slice(),
+        watch,
+    )?;
+    let copied = target.end(rt, leases, watch)?;
     Ok(Salvaged { copied, losses })
 }

@@ -3,11 +3,12 @@
 
 use crate::copying::Copied;
 use crate::fault::{RescueFault, already_there};
-use crate::judged::judge;
+use crate::judged::{bytes_of, judge};
 use crate::reading::sound_images;
 use bw_file::{Folder, FolderFault};
 use bw_home::System;
 use bw_look::Image;
+use bw_watch::{Watch, Work};
 use std::fs;
 use std::io::{self, ErrorKind};
 
@@ -48,12 +49,21 @@ fn rename<R: System>(rt: &R, from: &str, to: &str) -> Result<(), FolderFault> {
 }
 
 /// Writes the segments that have bytes, with a digest for each.
-fn write_images<R: System>(rt: &R, path: &str, images: &[Image]) -> Result<(), FolderFault> {
+fn write_images<R: System, W: Watch>(
+    rt: &R,
+    path: &str,
+    images: &[Image],
+    watch: &mut W,
+) -> Result<(), FolderFault> {
     let folder = Folder::open(rt, path)?;
+    let all = bytes_of(images);
+    let mut done = 0u64;
     for image in images {
         if let Some(lease) = image.lease {
             folder.write(rt, lease, image.bytes.as_slice())?;
         }
+        done = done.saturating_add(image.bytes.len() as u64);
+        watch.see(Work::Writing, done, all);
     }
     Ok(())
 }
@@ -80,19 +90,29 @@ impl Target {
     }
 
     /// Writes these segments.
-    pub(crate) fn write<R: System>(&self, rt: &R, images: &[Image]) -> Result<(), RescueFault> {
-        write_images(rt, self.partial.as_str(), images).map_err(RescueFault::of_partial)
+    pub(crate) fn write<R: System, W: Watch>(
+        &self,
+        rt: &R,
+        images: &[Image],
+        watch: &mut W,
+    ) -> Result<(), RescueFault> {
+        write_images(rt, self.partial.as_str(), images, watch).map_err(RescueFault::of_partial)
     }
 
     /// Reads what was written again, waits until it stands, and gives it its name; answers what it
     /// holds.
-    pub(crate) fn end<R: System>(self, rt: &R, leases: u32) -> Result<Copied, RescueFault> {
-        let images = match sound_images(rt, self.partial.as_str(), leases) {
+    pub(crate) fn end<R: System, W: Watch>(
+        self,
+        rt: &R,
+        leases: u32,
+        watch: &mut W,
+    ) -> Result<Copied, RescueFault> {
+        let images = match sound_images(rt, self.partial.as_str(), leases, watch) {
             Ok(images) => images,
             Err(RescueFault::Source(fault)) => return Err(RescueFault::Partial(fault)),
             Err(fault) => return Err(fault),
         };
-        let copied = Copied::of(&judge(rt.alloc(), images.as_slice())?);
+        let copied = Copied::of(&judge(rt.alloc(), images.as_slice(), watch)?);
         sync_files(rt, self.partial.as_str()).map_err(RescueFault::of_partial)?;
         rename(rt, self.partial.as_str(), self.to.as_str()).map_err(RescueFault::of_target)?;
         Ok(copied)

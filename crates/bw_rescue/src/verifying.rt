@@ -8,6 +8,7 @@ use bw_codec::{HeaderRead, read_header};
 use bw_file::{FolderFault, FolderReader};
 use bw_home::System;
 use bw_look::{Frames, Image, Step};
+use bw_watch::{Watch, Work, folder_bytes};
 use std::alloc::{AllocError, Global};
 use std::fmt::{self, Display, Formatter};
 
@@ -115,8 +116,14 @@ impl Walk {
 }
 
 /// Reads all files of a folder, of which there are so many at most.
-fn walked<R: System>(rt: &R, path: &str, leases: u32) -> Result<Walk, RescueFault> {
+fn walked<R: System, W: Watch>(
+    rt: &R,
+    path: &str,
+    leases: u32,
+    watch: &mut W,
+) -> Result<Walk, RescueFault> {
     let reader = FolderReader::open(rt, path)?;
+    let all = folder_bytes(rt, path, leases, watch);
     let mut walk = Walk {
         images: Vec::new(rt.alloc()),
         hurts: Vec::new(rt.alloc()),
@@ -125,6 +132,7 @@ fn walked<R: System>(rt: &R, path: &str, leases: u32) -> Result<Walk, RescueFaul
     };
     for lease in &reader.leases(rt)? {
         walk.look(rt, &reader, allowed(*lease, leases)?)?;
+        watch.see(Work::Reading, walk.bytes, all);
     }
     Ok(walk)
 }
@@ -134,12 +142,17 @@ fn walked<R: System>(rt: &R, path: &str, leases: u32) -> Result<Walk, RescueFaul
 ///
 /// `Source` where the folder, or a file of it, cannot be read; `Recovery` where each file is whole
 /// and all of them are no store, as where one is missing.
-pub fn verify<R: System>(rt: &R, path: &str, leases: u32) -> Result<Verdict, RescueFault> {
-    let walk = walked(rt, path, leases)?;
+pub fn verify<R: System, W: Watch>(
+    rt: &R,
+    path: &str,
+    leases: u32,
+    watch: &mut W,
+) -> Result<Verdict, RescueFault> {
+    let walk = walked(rt, path, leases, watch)?;
     if !walk.hurts.is_empty() {
         return Ok(Verdict::Hurt(walk.hurts));
     }
-    let found = judge(rt.alloc(), walk.images.as_slice())?.found;
+    let found = judge(rt.alloc(), walk.images.as_slice(), watch)?.found;
     Ok(Verdict::Whole(Verified {
         segments: u64::from(found.live),
         frames: found.last.saturating_sub(found.first).saturating_add(1),

@@ -43,6 +43,8 @@ pub enum Answer {
     Walk(u64),
     /// What was given up with the oldest segment.
     Cleaned(Cleaned),
+    /// The same, and by how many bytes the live segments got shorter.
+    Won(Cleaned, u64),
     Rolled,
     /// The bytes of a segment.
     Dump(Vec<u8>),
@@ -65,7 +67,7 @@ fn write_cleaned<O: Write>(out: &mut Printer<'_, O>, cleaned: &Cleaned) {
     out.named("cleaned segment ", cleaned.segment);
     out.named(" lease ", cleaned.lease);
     out.named(" pages ", cleaned.pages);
-    out.line(" frames ", cleaned.frames);
+    out.named(" frames ", cleaned.frames);
 }
 
 fn write_copied<O: Write>(out: &mut Printer<'_, O>, copied: Copied) {
@@ -103,7 +105,14 @@ fn write_answer<O: Write>(out: &mut Printer<'_, O>, answer: &Answer) {
         Answer::Evicted(false) => out.text(b"kept\n"),
         Answer::Rewritten(frames) => out.line("rewritten frames ", *frames),
         Answer::Walk(frames) => out.line("walk ", *frames),
-        Answer::Cleaned(cleaned) => write_cleaned(out, cleaned),
+        Answer::Cleaned(cleaned) => {
+            write_cleaned(out, cleaned);
+            out.text(b"\n");
+        }
+        Answer::Won(cleaned, bytes) => {
+            write_cleaned(out, cleaned);
+            out.line(" won ", *bytes);
+        }
         Answer::Rolled => out.text(b"rolled\n"),
         Answer::Dump(bytes) => write_dump(out, bytes.as_slice()),
         Answer::Leases(leases) => write_leases(out, leases.as_slice()),

@@ -38,6 +38,21 @@ fn turn(home: &mut Home, limit: u32) -> Result<Answer, Miss>
     Ok(Answer::Took(home.turn(limit)?))
 }
 
+/// How many records a turn of so many groups took, with those that it took before room was made for
+/// it, when it was asked first.
+pub fn turn_on(home: &mut Home, limit: u32, before: &mut u64) -> Result<Answer, Miss>
+    requires { IsReady home.old holding }
+    ensures { IsReady home.new holding }
+{
+    match home.turn(limit) {
+        Ok(count) => Ok(Answer::Took(before.saturating_add(count))),
+        Err(fault) => {
+            *before = before.saturating_add(fault.taken);
+            Err(Miss::from(fault))
+        }
+    }
+}
+
 /// The number of the frame that was appended, if something waited. All that waits in the queues is
 /// taken before: a turn without a limit ends with a round that took none, and nobody puts
 /// meanwhile.
@@ -123,6 +138,22 @@ fn next_at(home: &mut Home, key: &Key) -> Result<Answer, Miss>
     Ok(Answer::Pair(home.next_at(key)?))
 }
 
+/// The last pair at or below this key, as the history leaves it.
+fn prev_at(home: &mut Home, key: &Key) -> Result<Answer, Miss>
+    requires { IsReady home.old holding }
+    ensures { IsReady home.new holding }
+{
+    Ok(Answer::Pair(home.prev_at(key)?))
+}
+
+/// The last pair below this key, as the history leaves it.
+fn prev_below(home: &mut Home, key: &Key) -> Result<Answer, Miss>
+    requires { IsReady home.old holding }
+    ensures { IsReady home.new holding }
+{
+    Ok(Answer::Pair(home.prev_below(key)?))
+}
+
 /// The pairs at or above this key, no more than so many, as the history leaves them.
 fn scan(alloc: Global, home: &mut Home, key: &Key, most: u32) -> Result<Answer, Miss>
     requires { IsReady home.old holding }
@@ -197,10 +228,34 @@ fn forget_behind(home: &mut Home, answer: &Answer)
 {
     if matches!(
         answer,
-        Answer::Frame(_) | Answer::Settled(_) | Answer::Cleaned(_) | Answer::Copied(_)
+        Answer::Frame(_) | Answer::Settled(_) | Answer::Won(..) | Answer::Copied(_)
     ) {
         let _ = home.store.forget();
     }
+}
+
+/// How many bytes the live segments have.
+fn live_bytes(home: &Home) -> u64
+    requires { IsReady home.now holding }
+{
+    let mut bytes = 0u64;
+    for i in 0..home.store.live() {
+        if let Some((_, _, length)) = home.store.live_segment(i) {
+            bytes = bytes.saturating_add(length);
+        }
+    }
+    bytes
+}
+
+/// Gives up the oldest segment, and tells what that won.
+fn clean_served<R: System>(rt: &R, home: &mut Home) -> Result<Answer, Miss>
+    requires { IsReady home.old holding }
+    ensures { IsReady home.new holding }
+{
+    let before = live_bytes(home);
+    let cleaned = home.give_up(rt)?;
+    let won = before.saturating_sub(live_bytes(home));
+    Ok(Answer::Won(cleaned, won))
 }
 
 /// Does what a command of a request asks for.
@@ -208,7 +263,10 @@ fn call_served<R: System>(rt: &R, home: &mut Home, command: Command) -> Result<A
     requires { IsReady home.old holding }
     ensures { IsReady home.new holding }
 {
-    let answer = call(rt, home, command)?;
+    let answer = match command {
+        Command::Clean => clean_served(rt, home)?,
+        command => call(rt, home, command)?,
+    };
     forget_behind(home, &answer);
     Ok(answer)
 }
@@ -231,6 +289,8 @@ pub fn answer<R: System>(rt: &R, home: &mut Home, request: Request) -> Result<An
     match request {
         Request::Do(command) => call_served(rt, home, command),
         Request::Next(key) => next_at(home, &key),
+        Request::Prev(key) => prev_at(home, &key),
+        Request::Below(key) => prev_below(home, &key),
         Request::Scan(key, most) => scan(rt.alloc(), home, &key, most),
         Request::Count => count(home),
         Request::Backup(to) => backup_served(rt, home, &to),

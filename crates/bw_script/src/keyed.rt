@@ -8,8 +8,9 @@ use bw_home::HomeFault;
 use bw_keys::{KeysFault, Loaded, Task, Told, perform};
 use bw_look::Printer;
 use bw_segments::tell_above;
-use bw_words::{LEASES, Miss, Refusal, Stop, System};
-use std::io::{Read, Write};
+use bw_watch::{Progress, Watch};
+use bw_words::{Host, LEASES, Miss, Refusal, Stop};
+use std::io::{IsTerminal, Read, Write};
 
 /// Says how many pairs went in.
 fn write_loaded<O: Write>(output: &mut O, loaded: Loaded) -> Result<(), KeysFault> {
@@ -131,18 +132,37 @@ fn is_above(end: &Result<Told, KeysFault>) -> bool {
     }
 }
 
-/// Does a task over the keys of a folder, and answers the exit status: 0, also where nobody reads
-/// the output any more; 1 where a key has no value; 2 where a word is no key or value; 3 at a line
-/// that is no pair; 4, 5 and 6 as of `run`. The outputs are flushed before it answers.
-pub fn keys<R: System, I: Read, O: Write, E: Write>(
+/// Does a task, and tells on standard error how far it is. Where standard output is shown on a
+/// terminal, no more is told of a listing.
+fn performed<R: Host, I: Read, O: Write, E: Write + IsTerminal>(
     rt: &R,
     dir: &str,
     task: &Task<'_>,
     input: &mut I,
     output: &mut O,
     errors: &mut E,
+    is_shown: bool,
+) -> Result<Told, KeysFault> {
+    let mut watch = Progress::new(rt, Some(dir), errors, is_shown);
+    let end = perform(rt, dir, LEASES, task, input, output, &mut watch);
+    watch.rest();
+    end
+}
+
+/// Does a task over the keys of a folder, and answers the exit status: 0, also where nobody reads
+/// the output any more; 1 where a key has no value; 2 where a word is no key or value; 3 at a line
+/// that is no pair; 4, 5 and 6 as of `run`. The outputs are flushed before it answers.
+pub fn keys<R: Host, I: Read, O: Write, E: Write + IsTerminal>(
+    rt: &R,
+    dir: &str,
+    task: &Task<'_>,
+    input: &mut I,
+    output: &mut O,
+    errors: &mut E,
+    is_shown: bool,
 ) -> u8 {
-    let end = written(perform(rt, dir, LEASES, task, input, output), output);
+    let end = performed(rt, dir, task, input, output, errors, is_shown);
+    let end = written(end, output);
     let status = told(end, dir, errors);
     let is_told = !is_above(&end) || tell_above(rt, dir, errors).is_ok();
     if is_told && errors.flush().is_ok() {

@@ -9,48 +9,65 @@ use bw_segments::{
     compact, copy, look, restore, salvage, scan, tell_above, tell_unheeded, upgrade,
     upgrade_folder, verify,
 };
+use bw_watch::{Progress, Watch};
 use bw_words::{Host, Manner, Met, Mode, Refusal, Stop, is_memory, mode_of, print};
 use bw_writers::threads;
 use clap::Error;
-use std::io::{Read, Write};
+use std::io::{IsTerminal, Read, Write};
 
-/// Does what the command line asks for. What the folder does not heed is told before.
-fn start<R: Host, I: Read, O: Write, E: Write>(
+/// Does what the command line asks for, and tells how far that is.
+fn go<R: Host, I: Read, O: Write, W: Watch>(
     rt: &R,
     mode: &Mode<'_>,
     input: &mut I,
     output: &mut O,
-    errors: &mut E,
+    watch: &mut W,
 ) -> Result<Met, Stop> {
-    if let Some((dir, options)) = mode.in_folder() {
-        tell_unheeded(rt, dir, &options, errors)?;
-    }
     match mode {
-        Mode::Lines(options, manner) => replay(rt, options, *manner, input, output),
-        Mode::Threads(options, pace) => threads(rt, options, input, output, *pace),
-        Mode::Scan(dir) => scan(rt, *dir, input, output),
-        Mode::Look(view, dir) => look(rt, *view, *dir, input, output),
-        Mode::Verify(dir) => verify(rt, *dir, output),
-        Mode::Copy(ends) => copy(rt, *ends, output),
-        Mode::Compact(ends, options) => compact(rt, *ends, options, output),
-        Mode::Salvage(ends) => salvage(rt, *ends, output),
-        Mode::Restore(ends, frame) => restore(rt, *ends, *frame, output),
+        Mode::Lines(options, manner) => replay(rt, options, *manner, input, output, watch),
+        Mode::Threads(options, pace) => threads(rt, options, input, output, *pace, watch),
+        Mode::Scan(dir) => scan(rt, *dir, input, output, watch),
+        Mode::Look(view, dir) => look(rt, *view, *dir, input, output, watch),
+        Mode::Verify(dir) => verify(rt, *dir, output, watch),
+        Mode::Copy(ends) => copy(rt, *ends, output, watch),
+        Mode::Compact(ends, options) => compact(rt, *ends, options, output, watch),
+        Mode::Salvage(ends) => salvage(rt, *ends, output, watch),
+        Mode::Restore(ends, frame) => restore(rt, *ends, *frame, output, watch),
         Mode::Upgrade(None) => upgrade(rt, input, output),
-        Mode::Upgrade(Some(path)) => upgrade_folder(rt, *path, output),
+        Mode::Upgrade(Some(path)) => upgrade_folder(rt, *path, output, watch),
         // `run` does these.
         Mode::Keys(..) => Ok(Met::NOTHING),
     }
 }
 
-/// The same; where a folder has more segments than there are leases, it is told which of them can go.
-fn ended<R: Host, I: Read, O: Write, E: Write>(
+/// The same, by a watch on standard error. What the folder does not heed is told before.
+fn start<R: Host, I: Read, O: Write, E: Write + IsTerminal>(
     rt: &R,
     mode: &Mode<'_>,
     input: &mut I,
     output: &mut O,
     errors: &mut E,
+    is_shown: bool,
 ) -> Result<Met, Stop> {
-    let met = start(rt, mode, input, output, errors)?;
+    if let Some((dir, options)) = mode.in_folder() {
+        tell_unheeded(rt, dir, &options, errors)?;
+    }
+    let mut watch = Progress::new(rt, mode.dir(), errors, is_shown);
+    let end = go(rt, mode, input, output, &mut watch);
+    watch.rest();
+    end
+}
+
+/// The same; where a folder has more segments than there are leases, it is told which of them can go.
+fn ended<R: Host, I: Read, O: Write, E: Write + IsTerminal>(
+    rt: &R,
+    mode: &Mode<'_>,
+    input: &mut I,
+    output: &mut O,
+    errors: &mut E,
+    is_shown: bool,
+) -> Result<Met, Stop> {
+    let met = start(rt, mode, input, output, errors, is_shown)?;
     if met.above {
         if let Some(dir) = mode.source() {
             // What was printed stands before it, wherever the two streams end.
@@ -123,6 +140,10 @@ fn tell_stop<E: Write>(errors: &mut E, folders: Folders<'_>, stop: Stop) -> Resu
 fn advice_of(mode: &Mode<'_>) -> Option<&'static [u8]> {
     match mode {
         Mode::Lines(_, Manner::Requests) => None,
+        Mode::Lines(options, _) if options.most > 0 => Some(
+            b"the log is full, with as many segments as --most-segments adds: a greater number, or \
+                `clean` and `add`, make room\n",
+        ),
         Mode::Lines(options, _) if options.reuse => Some(
             b"the log is full: `clean` gives up its oldest segment, whose room is a spare again\n",
         ),
@@ -195,14 +216,15 @@ fn status_of<O: Write, E: Write>(
 }
 
 /// Does what the words of a mode ask for, that is not one over keys, and answers its exit status.
-fn run_mode<R: Host, I: Read, O: Write, E: Write>(
+fn run_mode<R: Host, I: Read, O: Write, E: Write + IsTerminal>(
     rt: &R,
     mode: &Mode<'_>,
     input: &mut I,
     output: &mut O,
     errors: &mut E,
+    is_shown: bool,
 ) -> u8 {
-    let end = ended(rt, mode, input, output, errors);
+    let end = ended(rt, mode, input, output, errors, is_shown);
     status_of(end, Folders::of(mode), advice_of(mode), output, errors)
 }
 
@@ -218,17 +240,22 @@ fn run_usage<O: Write, E: Write>(error: &Error, output: &mut O, errors: &mut E) 
 /// Runs the program on the words after its name, and answers its exit status: 0; 1 where `get` finds
 /// no value; 2 where the words are no command line; 3 at a fault of the script; 4 where something
 /// was refused, a writer gave up, or a file of the folder is damaged; 5 at once where a growth was
-/// refused; 6 where a read or a write failed. The outputs are flushed before it answers.
-pub fn run<R: Host, I: Read, O: Write, E: Write>(
+/// refused; 6 where a read or a write failed. The outputs are flushed before it answers. Where the
+/// errors go to a terminal, it tells there how far long work is; of a listing only where the output
+/// is not shown on one.
+pub fn run<R: Host, I: Read, O: Write, E: Write + IsTerminal>(
     rt: &R,
     words: &[&str],
     input: &mut I,
     output: &mut O,
     errors: &mut E,
+    is_shown: bool,
 ) -> u8 {
     let status = match mode_of(rt.alloc(), words) {
-        Ok(Mode::Keys(dir, task)) => return keys(rt, dir, &task, input, output, errors),
-        Ok(mode) => run_mode(rt, &mode, input, output, errors),
+        Ok(Mode::Keys(dir, task)) => {
+            return keys(rt, dir, &task, input, output, errors, is_shown);
+        }
+        Ok(mode) => run_mode(rt, &mode, input, output, errors, is_shown),
         Err(error) => run_usage(&error, output, errors),
     };
     let is_printed = output.flush().is_ok();

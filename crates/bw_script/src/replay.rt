@@ -4,13 +4,15 @@
 ghost use Rattle.bw_home.specs.Ready.{IsReady};
 
 use crate::answers::{Answer, tell};
-use crate::calls::{call, durable, put_taking};
+use crate::calls::{call, durable, put_taking, turn_on};
 use crate::tended::{Served, Tending};
 use bw_home::{Added, Home, Legs, with_store_at};
+use bw_look::Printer;
 use bw_pairs::{Lines, READS};
+use bw_watch::{Watch, Work, folder_bytes};
 use bw_words::{
-    Command, Fault, LEASES, LONGEST, Manner, Met, Miss, Options, Refusal, Request, Stop, System,
-    missed, no_input, parse, parse_request, print, print_found, refuse,
+    Command, Fault, LEASES, LONGEST, Manner, Met, Miss, Options, PROTOCOL, Refusal, Request, Stop,
+    System, missed, no_input, parse, parse_request, print, print_found, refuse,
 };
 use std::io::{Read, Write};
 
@@ -48,6 +50,23 @@ fn done_of_room(room: Result<bool, Miss>) -> Result<Done, Miss> {
     }
 }
 
+/// The same behind the line of a script, which a refused growth ends.
+fn done_of_script(room: Result<bool, Miss>) -> Result<Done, Miss> {
+    match room {
+        Err(Miss::Refused(refusal)) if refusal.is_no_memory() => Err(Miss::Refused(refusal)),
+        room => done_of_room(room),
+    }
+}
+
+/// Says that a store is there, which frame is its last, and the version of the protocol.
+fn print_ready<O: Write>(output: &mut O, frame: u64) -> Result<(), Stop> {
+    let mut out = Printer::new(output);
+    out.named("ready frame ", frame);
+    out.line(" protocol ", PROTOCOL);
+    out.end()?;
+    Ok(())
+}
+
 /// Writes out what was printed.
 fn write_out<O: Write>(output: &mut O) -> Result<(), Stop> {
     if output.flush().is_err() {
@@ -74,7 +93,7 @@ fn tell_added<O: Write>(added: Added, output: &mut O) -> Result<Met, Stop> {
 
 /// The lines of an input, over a store.
 #[derive(Drop)]
-struct Script<'a, I, O> {
+struct Script<'a, 'b, I, O, W> {
     manner: Manner,
     /// How many writers the store has.
     writers: usize,
@@ -82,19 +101,22 @@ struct Script<'a, I, O> {
     reuse: bool,
     lines: &'a mut Lines<I>,
     output: &'a mut O,
-    /// How a store that is served is tended.
+    watch: &'b mut W,
+    /// How the store is tended.
     tending: Tending,
     /// What came of the last line; none before the first leg.
     done: Option<Done>,
-    /// Whether the last line, a request, is asked again.
+    /// Whether the last line is asked again.
     is_again: bool,
+    /// How many records that line took, a turn, before it was.
+    taken: u64,
     /// Whether the answer of the last line is a receipt.
     is_receipt: bool,
     /// What was met so far, or what ends it.
     end: Result<Met, Stop>,
 }
 
-impl<I: Read + Drop, O: Write> Script<'_, I, O> {
+impl<I: Read + Drop, O: Write, W: Watch> Script<'_, '_, I, O, W> {
     /// Reads the next line, and says whether there was one. Whoever writes the lines may wait for
     /// an answer before the next one ends: so what was printed is written out before more of the
     /// input is asked for.
@@ -105,12 +127,21 @@ impl<I: Read + Drop, O: Write> Script<'_, I, O> {
         Ok(self.lines.read_line().map_err(no_input)?)
     }
 
-    /// What the next line asks for as a request, or the last one again.
+    /// Whether there is a line: the last one again, or the next one.
+    fn has_line(&mut self) -> Result<bool, Miss> {
+        if self.is_again {
+            self.is_again = false;
+            return Ok(true);
+        }
+        self.taken = 0;
+        self.read_line()
+    }
+
+    /// What the next line asks for as a request.
     fn next_request(&mut self) -> Result<Asked, Miss> {
-        if !self.is_again && !self.read_line()? {
+        if !self.has_line()? {
             return Ok(Asked::Nothing);
         }
-        self.is_again = false;
         match parse_request(self.lines.line()) {
             Ok(request) => Ok(Asked::Request(request)),
             Err(fault) => Ok(Asked::NoRequest(fault)),
@@ -120,7 +151,7 @@ impl<I: Read + Drop, O: Write> Script<'_, I, O> {
     /// The next command. Lines that have none are skipped.
     fn next_command(&mut self) -> Result<Asked, Miss> {
         for _ in 0..u64::MAX {
-            if !self.read_line()? {
+            if !self.has_line()? {
                 break;
             }
             match parse(self.lines.line(), self.writers) {
@@ -151,7 +182,7 @@ impl<I: Read + Drop, O: Write> Script<'_, I, O> {
 
     /// What a command comes to in this manner.
     fn answer_of<R: System>(
-        &self,
+        &mut self,
         rt: &R,
         home: &mut Home,
         command: Command,
@@ -163,6 +194,7 @@ impl<I: Read + Drop, O: Write> Script<'_, I, O> {
             Command::Put(writer, group) if self.manner == Manner::Taking => put_taking(
                 home, writer, group,
             ),
+            Command::Turn(limit) => turn_on(home, limit, &mut self.taken),
             command => call(rt, home, command),
         }
     }
@@ -178,13 +210,18 @@ impl<I: Read + Drop, O: Write> Script<'_, I, O> {
         requires { IsReady home.old holding }
         ensures { IsReady home.new holding }
     {
-        let answer = self.answer_of(rt, home, command)?;
-        if matches!(answer, Answer::Spare) {
-            return Ok(Done::Add);
-        }
+        let answer = match self.answer_of(rt, home, command) {
+            Ok(Answer::Spare) => return Ok(Done::Add),
+            Ok(answer) => self.tending.told(home, answer),
+            Err(miss) => {
+                self.tending.room_for(rt, home, miss)?;
+                self.is_again = true;
+                return Ok(Done::Room);
+            }
+        };
         tell(home, self.output, &answer)?;
         if !matches!(answer, Answer::Cleaned(_)) {
-            return Ok(Done::Answered);
+            return done_of_script(self.tending.look(rt, home));
         }
         home.empty(rt)?;
         if !self.reuse {
@@ -214,7 +251,7 @@ impl<I: Read + Drop, O: Write> Script<'_, I, O> {
             }
         };
         tell(home, self.output, &answer)?;
-        if !matches!(answer, Answer::Cleaned(_)) {
+        if !matches!(answer, Answer::Won(..)) {
             self.write_receipt()?;
             return done_of_room(self.tending.look(rt, home));
         }
@@ -296,8 +333,9 @@ impl<I: Read + Drop, O: Write> Script<'_, I, O> {
     fn begin(&mut self, home: &Home)
         requires { IsReady home.now holding }
     {
+        self.watch.rest();
         let told = match self.manner {
-            Manner::Requests => print(self.output, "ready frame ", durable(home)),
+            Manner::Requests => print_ready(self.output, durable(home)),
             Manner::Script | Manner::Taking => print_found(self.output, home.found()),
         };
         if let Err(stop) = told {
@@ -319,10 +357,23 @@ impl<I: Read + Drop, O: Write> Script<'_, I, O> {
         }
     }
 
+    /// Tells of a segment that was added to make room for a script. A program that is served asks
+    /// `stats` for that.
+    fn tell_further(&mut self, home: &Home)
+        requires { IsReady home.now holding }
+    {
+        let is_added = matches!(home.added(), Some(Added { refused: None, .. }));
+        if self.tending.took_further() && is_added && self.manner != Manner::Requests {
+            let segments = home.store.live().saturating_add(home.store.spares());
+            self.watch.added(segments);
+        }
+    }
+
     /// What stands before the lines of a leg.
     fn begin_leg(&mut self, home: &Home)
         requires { IsReady home.now holding }
     {
+        self.tell_further(home);
         match (self.done, home.added()) {
             (None, _) => self.begin(home),
             (Some(_), Some(added)) => self.tell_spare(added),
@@ -331,7 +382,7 @@ impl<I: Read + Drop, O: Write> Script<'_, I, O> {
     }
 }
 
-impl<R: System, I: Read + Drop, O: Write> Legs<R> for Script<'_, I, O> {
+impl<R: System, I: Read + Drop, O: Write, W: Watch> Legs<R> for Script<'_, '_, I, O, W> {
     type Answer = Result<Met, Stop>;
 
     fn leg(&mut self, rt: &R, home: &mut Home) -> Option<Result<Met, Stop>> {
@@ -348,23 +399,36 @@ impl<R: System, I: Read + Drop, O: Write> Legs<R> for Script<'_, I, O> {
     }
 }
 
+/// How many bytes the folder of a run has, where it has one and somebody is told of it.
+fn held_in<R: System, W: Watch>(rt: &R, options: &Options<'_>, watch: &W) -> u64 {
+    match options.dir {
+        Some(dir) => folder_bytes(rt, dir, LEASES, watch),
+        None => 0,
+    }
+}
+
 // Runs the lines over a store.
-fn run_lines<R: System, I: Read + Drop, O: Write>(
+fn run_lines<R: System, I: Read + Drop, O: Write, W: Watch>(
     rt: &R,
     options: &Options<'_>,
     manner: Manner,
     lines: &mut Lines<I>,
     output: &mut O,
+    watch: &mut W,
 ) -> Result<Met, Stop> {
+    let held = held_in(rt, options, watch);
+    watch.see(Work::Opening, 0, held);
     let mut script = Script {
         manner,
         writers: options.store.writers,
         reuse: options.reuse,
         lines: &mut *lines,
         output: &mut *output,
+        watch: &mut *watch,
         tending: Tending::new(options),
         done: None,
         is_again: false,
+        taken: 0,
         is_receipt: false,
         end: Ok(Met::NOTHING),
     };
@@ -376,13 +440,14 @@ fn run_lines<R: System, I: Read + Drop, O: Write>(
 
 /// Makes a store, or goes on from the one in a folder, and runs the lines of the input over it in
 /// this manner; answers what was met.
-pub fn replay<R: System, I: Read, O: Write>(
+pub fn replay<R: System, I: Read, O: Write, W: Watch>(
     rt: &R,
     options: &Options<'_>,
     manner: Manner,
     input: &mut I,
     output: &mut O,
+    watch: &mut W,
 ) -> Result<Met, Stop> {
     let mut lines = Lines::new(rt.alloc(), input, READS, LONGEST).map_err(no_input)?;
-    run_lines(rt, options, manner, &mut lines, output)
+    run_lines(rt, options, manner, &mut lines, output, watch)
 }

@@ -1,6 +1,7 @@
-//! A store that is served makes room by itself, as `bw_keys` does it: where one spare is left, its
-//! oldest segment is given up if that pays, and else a segment is added. A spare that was made is
-//! added before the next leg, and the request that wants it is asked again then.
+//! A store that is served, or over which a script with `--most-segments` runs, makes room by itself,
+//! as `bw_keys` does it: where one spare is left, its oldest segment is given up if that pays, and
+//! else a segment is added. A spare that was made is added before the next leg, and the line that
+//! wants it is asked again then.
 
 ghost use Rattle.bw_home.specs.Ready.{IsReady};
 
@@ -10,9 +11,11 @@ use bw_core::StoreFault;
 use bw_home::Home;
 use bw_words::{Command, Miss, Options, Refusal, Request, System};
 
-/// How a store that is served is tended.
+/// How a store is tended.
 #[derive(Debug, Clone, Copy)]
 pub struct Tending {
+    /// Whether it is: a script without `--most-segments` has no room made.
+    is_on: bool,
     room: bw_keys::Tending,
 }
 
@@ -44,6 +47,7 @@ impl Tending {
     /// As the options say.
     pub fn new(options: &Options<'_>) -> Tending {
         Tending {
+            is_on: options.most > 0,
             room: bw_keys::Tending::new(options.store.capacity, u32::from(options.most)),
         }
     }
@@ -54,15 +58,23 @@ impl Tending {
         requires { IsReady home.old holding }
         ensures { IsReady home.new holding }
     {
+        if !self.is_on {
+            return Ok(false);
+        }
         Ok(self.room.look(rt, home)?)
     }
 
+    /// Whether a further segment was made since this was asked last, as `bw_keys` says.
+    pub fn took_further(&mut self) -> bool {
+        self.room.took_further()
+    }
+
     /// Makes room for what was refused, if it was for want of a segment and there is a way.
-    fn room_for<R: System>(&mut self, rt: &R, home: &mut Home, miss: Miss) -> Result<(), Miss>
+    pub fn room_for<R: System>(&mut self, rt: &R, home: &mut Home, miss: Miss) -> Result<(), Miss>
         requires { IsReady home.old holding }
         ensures { IsReady home.new holding }
     {
-        if !is_full(&miss) {
+        if !self.is_on || !is_full(&miss) {
             return Err(miss);
         }
         if self.room.has_room(rt, home)? {
@@ -74,7 +86,7 @@ impl Tending {
 
     /// The answer, where a flush finds nothing that a cleaning did not make durable since the last
     /// one: the number of the last frame tells that it is.
-    fn told(&mut self, home: &Home, answer: Answer) -> Answer
+    pub fn told(&mut self, home: &Home, answer: Answer) -> Answer
         requires { IsReady home.now holding }
     {
         match answer {

@@ -26,14 +26,14 @@ fn write_unheeded<E: Write>(
     options: &Options<'_>,
     limits: Limits,
 ) {
-    if options.gives_m && options.store.m != limits.m {
+    if options.gives_m && options.store.pairs_a_page != limits.m {
         out.named("folder ", dir);
-        out.named(": --m ", options.store.m);
+        out.named(": --m ", options.store.pairs_a_page);
         out.line(" is not heeded, since its pages have at most ", limits.m);
     }
-    if options.gives_f && options.store.f != limits.f {
+    if options.gives_f && options.store.frame_bytes != limits.f {
         out.named("folder ", dir);
-        out.named(": --frame ", options.store.f);
+        out.named(": --frame ", options.store.frame_bytes);
         out.line(" is not heeded, since its frames have at most ", limits.f);
     }
 }

@@ -5,6 +5,7 @@ use bw_device::{Desk, MemSegment};
 use bw_file::FolderReader;
 use bw_look::Image;
 use bw_pairs::{Lines, READS};
+use bw_watch::{Watch, Work, folder_bytes};
 use bw_words::{Fault, LEASES, Miss, Refusal, System, are_printable, no_input};
 use hex::FromHexError;
 use std::alloc::Global;
@@ -18,18 +19,27 @@ pub const LEAST: u64 = HEADER_LEN as u64 + MAX_FRAME as u64;
 
 /// The segments of a folder, by their leases. One that no run could open is refused, and so is one
 /// whose bytes do not fit the sums beside it.
-pub fn images_in<R: System>(rt: &R, path: &str) -> Result<Vec<Image>, Miss> {
+pub fn images_in<R: System, W: Watch>(
+    rt: &R,
+    path: &str,
+    watch: &mut W,
+) -> Result<Vec<Image>, Miss> {
     let reader = FolderReader::open(rt, path)?;
+    let all = folder_bytes(rt, path, LEASES, watch);
     let leases = reader.leases(rt)?;
     let mut images = Vec::new(rt.alloc());
+    let mut done = 0u64;
     for lease in &leases {
         if *lease >= LEASES {
             return Err(Miss::Refused(Refusal::NoLease));
         }
+        let bytes = reader.sound_bytes(rt, *lease)?;
+        done = done.saturating_add(bytes.len() as u64);
         images.push(Image {
             lease: Some(*lease),
-            bytes: reader.sound_bytes(rt, *lease)?,
+            bytes,
         })?;
+        watch.see(Work::Reading, done, all);
     }
     Ok(images)
 }
@@ -76,19 +86,29 @@ fn images_of<I: Read>(alloc: Global, lines: &mut Lines<&mut I>) -> Result<Vec<Im
 }
 
 /// The segments that are looked at, or the line that is none, and why.
-pub fn images<R: System, I: Read>(
+pub fn images<R: System, I: Read, W: Watch>(
     rt: &R,
     dir: Option<&str>,
     input: &mut I,
+    watch: &mut W,
 ) -> Result<Vec<Image>, (u64, Miss)> {
     if let Some(path) = dir {
-        return images_in(rt, path).map_err(|miss| (0, miss));
+        return images_in(rt, path, watch).map_err(|miss| (0, miss));
     }
     let mut lines = match Lines::new(rt.alloc(), input, READS, LONGEST) {
         Ok(lines) => lines,
         Err(error) => return Err((0, Miss::from(no_input(error)))),
     };
     images_of(rt.alloc(), &mut lines).map_err(|miss| (lines.number(), miss))
+}
+
+/// How many bytes segments have.
+pub fn bytes_in(images: &[Image]) -> u64 {
+    let mut bytes = 0u64;
+    for image in images {
+        bytes = bytes.saturating_add(image.bytes.len() as u64);
+    }
+    bytes
 }
 
 /// A copy of a segment in memory, with the least lease that is free.

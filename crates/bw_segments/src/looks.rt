@@ -1,12 +1,13 @@
 //! `bwlog print`, `stats` and `picture`: what segments hold, for people. Each reads the segments of a
 //! folder, or lines in hex, and changes none of them.
 
-use crate::images::images;
+use crate::images::{bytes_in, images};
 use crate::judged::{Judged, judge};
 use bw_care::RecoverCause;
 use bw_codec::Leaf;
-use bw_look::{Counts, Image, Printer, Survey, write_counts, write_image, write_picture};
+use bw_look::{Counts, Image, Printer, Scene, Survey, write_counts, write_image, write_picture};
 use bw_page::Leaves;
+use bw_watch::{Watch, Work};
 use bw_words::{Met, Miss, Refusal, Stop, System, View, missed, refuse};
 use std::alloc::{AllocError, Global};
 use std::io::{Read, Write};
@@ -89,33 +90,66 @@ fn count_images<O: Write>(alloc: Global, images: &[Image], output: &mut O) -> Re
     Ok(Met::NOTHING)
 }
 
-/// Draws segments, once recovery has found them to be those of a log.
-fn draw_images<O: Write>(alloc: Global, images: &[Image], output: &mut O) -> Result<Met, Stop> {
-    if let Err(miss) = judge(alloc, images) {
-        return missed(output, 0, miss);
+/// How many pages have no pair, how many have one, and so on, up to the most that a page holds.
+fn fills_of(alloc: Global, survey: &Survey, leaves: &Leaves) -> Result<Vec<u64>, AllocError> {
+    let most = survey.segments().first().map_or(0, |row| row.m);
+    let mut fills: Vec<u64> = Vec::new(alloc);
+    fills.resize(usize::from(most).saturating_add(1), 0)?;
+    for index in 0..leaves.count() {
+        if let Some(leaf) = leaves.page(index.saturating_add(1)) {
+            if let Some(pages) = fills.get_mut(leaf.pairs.as_slice().len()) {
+                *pages = pages.saturating_add(1);
+            }
+        }
     }
+    Ok(fills)
+}
+
+/// Draws segments, once recovery has found them to be those of a log. Each has room for so many bytes.
+fn draw_images<O: Write>(
+    alloc: Global,
+    images: &[Image],
+    room: u64,
+    output: &mut O,
+) -> Result<Met, Stop> {
+    let judged = match judge(alloc, images) {
+        Ok(judged) => judged,
+        Err(miss) => return missed(output, 0, miss),
+    };
     let survey = Survey::of(alloc, images)?;
+    let fills = fills_of(alloc, &survey, &judged.leaves)?;
+    let lengths = lengths_of(alloc, &judged.leaves)?;
+    let scene = Scene {
+        spares: u64::from(judged.found.spares),
+        pages: judged.pages(),
+        pairs: judged.pairs(),
+        fills: fills.as_slice(),
+        lengths: lengths.as_slice(),
+        room,
+    };
     let mut out = Printer::new(output);
-    write_picture(&mut out, &survey);
+    write_picture(&mut out, &survey, &scene);
     out.end()?;
     Ok(Met::NOTHING)
 }
 
 /// Shows segments in this view.
-pub fn look<R: System, I: Read, O: Write>(
+pub fn look<R: System, I: Read, O: Write, W: Watch>(
     rt: &R,
     view: View,
     dir: Option<&str>,
     input: &mut I,
     output: &mut O,
+    watch: &mut W,
 ) -> Result<Met, Stop> {
-    let images = match images(rt, dir, input) {
+    let images = match images(rt, dir, input, watch) {
         Ok(images) => images,
         Err((number, miss)) => return missed(output, number, miss),
     };
+    watch.see(Work::Recovering, 0, bytes_in(images.as_slice()));
     match view {
         View::Print => print_images(rt.alloc(), images.as_slice(), output),
         View::Stats => count_images(rt.alloc(), images.as_slice(), output),
-        View::Picture => draw_images(rt.alloc(), images.as_slice(), output),
+        View::Picture(room) => draw_images(rt.alloc(), images.as_slice(), room, output),
     }
 }

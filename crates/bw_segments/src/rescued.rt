@@ -3,6 +3,7 @@
 use bw_home::Options;
 use bw_look::Printer;
 use bw_rescue::{Copied, Hurt, Loss, RescueFault, Salvaged, Verdict, Verified};
+use bw_watch::Watch;
 use bw_words::{Ends, LEASES, Met, Miss, Stop, System, missed};
 use std::io::Write;
 
@@ -37,30 +38,40 @@ fn tell_copied<O: Write>(
 }
 
 /// Copies a folder as it is.
-pub fn copy<R: System, O: Write>(rt: &R, ends: Ends<'_>, output: &mut O) -> Result<Met, Stop> {
-    let copied = bw_rescue::copy(rt, ends.from, ends.to, LEASES);
+pub fn copy<R: System, O: Write, W: Watch>(
+    rt: &R,
+    ends: Ends<'_>,
+    output: &mut O,
+    watch: &mut W,
+) -> Result<Met, Stop> {
+    let copied = bw_rescue::copy(rt, ends.from, ends.to, LEASES, watch);
+    watch.rest();
     tell_copied(output, "copied frame ", copied)
 }
 
 /// Writes the pairs of a folder into a new store.
-pub fn compact<R: System, O: Write>(
+pub fn compact<R: System, O: Write, W: Watch>(
     rt: &R,
     ends: Ends<'_>,
     options: &Options,
     output: &mut O,
+    watch: &mut W,
 ) -> Result<Met, Stop> {
-    let copied = bw_rescue::compact(rt, ends.from, ends.to, LEASES, options);
+    let copied = bw_rescue::compact(rt, ends.from, ends.to, LEASES, options, watch);
+    watch.rest();
     tell_copied(output, "copied frame ", copied)
 }
 
 /// Makes a folder that holds a store as of an earlier frame.
-pub fn restore<R: System, O: Write>(
+pub fn restore<R: System, O: Write, W: Watch>(
     rt: &R,
     ends: Ends<'_>,
     frame: u64,
     output: &mut O,
+    watch: &mut W,
 ) -> Result<Met, Stop> {
-    let copied = bw_rescue::restore(rt, ends.from, ends.to, frame, LEASES);
+    let copied = bw_rescue::restore(rt, ends.from, ends.to, frame, LEASES, watch);
+    watch.rest();
     tell_copied(output, "restored frame ", copied)
 }
 
@@ -72,8 +83,15 @@ fn write_losses<O: Write>(out: &mut Printer<'_, O>, losses: &[Loss]) {
 }
 
 /// Writes all that a folder still has into a new store, and tells what was lost.
-pub fn salvage<R: System, O: Write>(rt: &R, ends: Ends<'_>, output: &mut O) -> Result<Met, Stop> {
-    let Salvaged { copied, losses } = match bw_rescue::salvage(rt, ends.from, ends.to, LEASES) {
+pub fn salvage<R: System, O: Write, W: Watch>(
+    rt: &R,
+    ends: Ends<'_>,
+    output: &mut O,
+    watch: &mut W,
+) -> Result<Met, Stop> {
+    let salvaged = bw_rescue::salvage(rt, ends.from, ends.to, LEASES, watch);
+    watch.rest();
+    let Salvaged { copied, losses } = match salvaged {
         Ok(salvaged) => salvaged,
         Err(fault) => return missed(output, 0, Miss::from(fault)),
     };
@@ -106,8 +124,15 @@ fn write_verified<O: Write>(out: &mut Printer<'_, O>, verified: Verified) {
 }
 
 /// Verifies a folder.
-pub fn verify<R: System, O: Write>(rt: &R, dir: &str, output: &mut O) -> Result<Met, Stop> {
-    let verdict = match bw_rescue::verify(rt, dir, LEASES) {
+pub fn verify<R: System, O: Write, W: Watch>(
+    rt: &R,
+    dir: &str,
+    output: &mut O,
+    watch: &mut W,
+) -> Result<Met, Stop> {
+    let verified = bw_rescue::verify(rt, dir, LEASES, watch);
+    watch.rest();
+    let verdict = match verified {
         Ok(verdict) => verdict,
         Err(fault) => return missed(output, 0, Miss::from(fault)),
     };

@@ -1,10 +1,11 @@
 //! `bwlog scan`: recovery says what segments hold, of which each is a line in hex, or a file.
 
-use crate::images::{copies_of, images};
+use crate::images::{bytes_in, copies_of, images};
 use crate::judged::{Judged, judge_copies};
 use bw_device::Desk;
 use bw_look::{Image, Printer, write_page};
 use bw_page::Leaves;
+use bw_watch::{Watch, Work};
 use bw_words::{LEASES, Met, Miss, Stop, System, missed, write_found};
 use std::alloc::Global;
 use std::io::{Read, Write};
@@ -25,20 +26,23 @@ fn judge_all(alloc: Global, images: Vec<Image>) -> Result<Judged, Miss> {
 }
 
 /// Prints what recovery says of segments: those of a folder, or lines in hex.
-pub fn scan<R: System, I: Read, O: Write>(
+pub fn scan<R: System, I: Read, O: Write, W: Watch>(
     rt: &R,
     dir: Option<&str>,
     input: &mut I,
     output: &mut O,
+    watch: &mut W,
 ) -> Result<Met, Stop> {
-    let images = match images(rt, dir, input) {
+    let images = match images(rt, dir, input, watch) {
         Ok(images) => images,
         Err((number, miss)) => return missed(output, number, miss),
     };
+    watch.see(Work::Recovering, 0, bytes_in(images.as_slice()));
     let judged = match judge_all(rt.alloc(), images) {
         Ok(judged) => judged,
         Err(miss) => return missed(output, 0, miss),
     };
+    watch.rest();
     let mut out = Printer::new(output);
     write_found(&mut out, judged.found);
     write_pages(&mut out, &judged.leaves);

@@ -8,6 +8,7 @@ use bw_core::Upgraded;
 use bw_device::{Desk, MemSegment};
 use bw_home::{Course, Home, Options, with_segments};
 use bw_look::{Image, Printer, write_page};
+use bw_watch::{Unseen, Watch, Work, folder_bytes};
 use bw_words::{LEASES, Met, Miss, Stop, System, missed, write_dump};
 use std::alloc::Global;
 use std::io::{Read, Write};
@@ -154,7 +155,7 @@ pub fn upgrade<R: System, I: Read, O: Write>(
     input: &mut I,
     output: &mut O,
 ) -> Result<Met, Stop> {
-    let images = match images(rt, None, input) {
+    let images = match images(rt, None, input, &mut Unseen) {
         Ok(images) => images,
         Err((number, miss)) => return missed(output, number, miss),
     };
@@ -167,12 +168,17 @@ pub fn upgrade<R: System, I: Read, O: Write>(
 // ---- a folder
 
 /// Upgrades the store in a folder, where it stands, and says what was done.
-pub fn upgrade_folder<R: System, O: Write>(
+pub fn upgrade_folder<R: System, O: Write, W: Watch>(
     rt: &R,
     path: &str,
     output: &mut O,
+    watch: &mut W,
 ) -> Result<Met, Stop> {
-    let upgraded = match bw_home::upgrade(rt, path, LEASES) {
+    let held = folder_bytes(rt, path, LEASES, watch);
+    watch.see(Work::Upgrading, 0, held);
+    let upgraded = bw_home::upgrade(rt, path, LEASES);
+    watch.rest();
+    let upgraded = match upgraded {
         Ok(upgraded) => upgraded,
         Err(fault) => return missed(output, 0, Miss::from(fault)),
     };

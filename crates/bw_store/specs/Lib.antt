@@ -6,3 +6,5 @@ pub mod Following
 pub mod Reading
 pub mod Showing
 pub mod Renewing
+pub mod Machine
+pub mod Goal

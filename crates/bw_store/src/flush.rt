@@ -4,6 +4,7 @@ ghost use Rattle.std.specs.Prelude.{◌≡◌, OnOk};
 ghost use Rattle.bw_core.specs.Faults.{FlushAnswers};
 ghost use Rattle.bw_store.specs.Following.{Follows, HasBoxes};
 ghost use Rattle.bw_store.specs.Kept.{EachCutStands};
+ghost use Rattle.bw_store.specs.Machine.{MayBeStopped, ShowsAs};
 ghost use Rattle.bw_store.specs.Showing.{FlushShows, IsSettled, flush_refusal};
 
 use crate::store::Store;
@@ -39,6 +40,10 @@ impl Store {
         ensures follows { Follows (kept_by self.old holding) (kept_by self.new holding) }
         ensures boxes { HasBoxes (kept_by self.old holding) (kept_by self.new holding) }
         ensures noted { noted_of self.new ≡ noted_of self.old }
+
+        // As the machine: all that was taken is kept and then shown, and what a stop leaves is found.
+        ensures steps { ShowsAs result (kept_by self.old holding) (kept_by self.new holding) }
+        ensures may_leave { MayBeStopped (kept_by self.new holding) }
     {
         let number = self.core.flush()?;
         self.publish(rt)?;

@@ -6,6 +6,7 @@ ghost use Rattle.bw_log.specs.Reads.{HoldsPage};
 ghost use Rattle.bw_page.specs.Ahead.{IsFirst, IsStretch};
 ghost use Rattle.bw_page.specs.Leaves.{leaf_at, home, plain};
 ghost use Rattle.bw_history.specs.Entries.{records};
+ghost use Rattle.bw_core.specs.Back.{IsLast, IsLastBelow};
 ghost use Rattle.bw_core.specs.Counting.{noted_left};
 ghost use Rattle.bw_making.specs.Tails.{is_made};
 ghost use Rattle.bw_store.specs.Following.{Follows, HasBoxes};
@@ -95,6 +96,52 @@ impl Store {
         ensures noted { noted_of self.new ≡ noted_of self.old }
     {
         self.core.next_at(key)
+    }
+
+    /// The pair with the greatest key at or below this one, as all records of the history leave it,
+    /// flushed or not, in memory or evicted; `None` before the first pair. Pages that are evicted
+    /// are read from the log, and stay evicted.
+    ///
+    /// It costs a search and a look at a page; and, where that page has no such pair, two searches
+    /// and a look for each page before it that has none. Refused as `get` is.
+    pub fn prev_at(&mut self, key: &Key) -> Result<Option<(Key, Value)>, StoreFault>
+        requires { IsSound self.old holding }
+        ensures value { IfOk result (λ pair. IsLast (plain (kept_by self.old holding).start
+            (records (kept_by self.old holding).entries)) key.now pair) }
+        ensures sound { IsSound self.new holding }
+        ensures read { HasRead (kept_by self.old holding) (kept_by self.new holding) }
+        ensures leaves { WalkLeaves (kept_by self.old holding) result
+            (kept_by self.new holding) }
+        ensures memory { ((p : ℕ) → is_evicted p self.old ≡ false)
+            → IfErr result (λ fault. fault ≡ StoreFault.NoMemory) }
+        ensures evicted { (p : ℕ) → is_evicted p self.new ≡ is_evicted p self.old }
+
+        ensures follows { Follows (kept_by self.old holding) (kept_by self.new holding) }
+        ensures boxes { HasBoxes (kept_by self.old holding) (kept_by self.new holding) }
+        ensures noted { noted_of self.new ≡ noted_of self.old }
+    {
+        self.core.prev_at(key)
+    }
+
+    /// The same, but of the keys below this one alone: where a walk back goes on behind the pair
+    /// that it came to.
+    pub fn prev_below(&mut self, key: &Key) -> Result<Option<(Key, Value)>, StoreFault>
+        requires { IsSound self.old holding }
+        ensures value { IfOk result (λ pair. IsLastBelow (plain (kept_by self.old holding).start
+            (records (kept_by self.old holding).entries)) key.now pair) }
+        ensures sound { IsSound self.new holding }
+        ensures read { HasRead (kept_by self.old holding) (kept_by self.new holding) }
+        ensures leaves { WalkLeaves (kept_by self.old holding) result
+            (kept_by self.new holding) }
+        ensures memory { ((p : ℕ) → is_evicted p self.old ≡ false)
+            → IfErr result (λ fault. fault ≡ StoreFault.NoMemory) }
+        ensures evicted { (p : ℕ) → is_evicted p self.new ≡ is_evicted p self.old }
+
+        ensures follows { Follows (kept_by self.old holding) (kept_by self.new holding) }
+        ensures boxes { HasBoxes (kept_by self.old holding) (kept_by self.new holding) }
+        ensures noted { noted_of self.new ≡ noted_of self.old }
+    {
+        self.core.prev_below(key)
     }
 
     /// Puts the pairs at or above a key into `found`, as all records of the history leave them, in

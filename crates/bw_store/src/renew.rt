@@ -6,6 +6,7 @@ ghost use Rattle.bw_care.specs.Upgrading.{old_segments};
 ghost use Rattle.bw_core.specs.Rewriting.{are_pages};
 ghost use Rattle.bw_store.specs.Following.{Continues, Follows, HasBoxes};
 ghost use Rattle.bw_store.specs.Kept.{EachCutStands};
+ghost use Rattle.bw_store.specs.Machine.{MayBeStopped, ShowsAs};
 ghost use Rattle.bw_store.specs.Renewing.{CleanShows, CountsCleaning, CountsUpgrade, HasBoxesAfter, HasFloorAfter, RewriteShows, UpgradeShows};
 
 use crate::store::Store;
@@ -47,6 +48,10 @@ impl Store {
 
         ensures follows { Continues (kept_by self.old holding) (kept_by self.new holding) }
         ensures boxes { HasBoxesAfter 1 (kept_by self.old holding) result (kept_by self.new holding) }
+
+        // As the machine: all that was taken is kept and then shown, and what a stop leaves is found.
+        ensures steps { ShowsAs result (kept_by self.old holding) (kept_by self.new holding) }
+        ensures may_leave { MayBeStopped (kept_by self.new holding) }
     {
         let cleaned = self.core.clean()?;
         self.publish(rt)?;
@@ -89,6 +94,10 @@ impl Store {
         ensures gone { forgotten_of self.new ≡ forgotten_of self.old }
         ensures counts { CountsUpgrade (kept_by self.old holding) (noted_of self.old).tally result
             (kept_by self.new holding) (noted_of self.new).tally }
+
+        // As the machine: all that was taken is kept and then shown, and what a stop leaves is found.
+        ensures steps { ShowsAs result (kept_by self.old holding) (kept_by self.new holding) }
+        ensures may_leave { MayBeStopped (kept_by self.new holding) }
     {
         let upgraded = self.core.upgrade()?;
         self.publish(rt)?;
@@ -127,6 +136,10 @@ impl Store {
         ensures follows { Follows (kept_by self.old holding) (kept_by self.new holding) }
         ensures boxes { HasBoxes (kept_by self.old holding) (kept_by self.new holding) }
         ensures noted { noted_of self.new ≡ noted_of self.old }
+
+        // As the machine: all that was taken is kept and then shown, and what a stop leaves is found.
+        ensures steps { ShowsAs result (kept_by self.old holding) (kept_by self.new holding) }
+        ensures may_leave { MayBeStopped (kept_by self.new holding) }
     {
         let frames = self.core.rewrite(pages)?;
         self.publish(rt)?;

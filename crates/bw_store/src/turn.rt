@@ -2,7 +2,9 @@
 
 ghost use Rattle.std.specs.Prelude.{◌≡◌, ◌≤◌, ◌<◌, IfOk, IfErr, MatchResult};
 ghost use Rattle.bw_history.specs.Lanes.{AreDry};
+ghost use Rattle.bw_history.specs.Machine.{TakesAndStops, TakesMany};
 ghost use Rattle.bw_store.specs.Following.{Turned, TookInTurn, RefusedAfter, groups_since};
+ghost use Rattle.bw_store.specs.Machine.{machine_of, MayBeStopped};
 
 use crate::store::Store;
 use bw_core::TurnFault;
@@ -47,6 +49,14 @@ impl Store {
         ensures tried { IfErr result (λ fault.
             groups_since (kept_by self.old holding) (kept_by self.new holding) < limit) }
         ensures noted { noted_of self.new ≡ noted_of self.old }
+
+        // As the machine: so many groups are taken, and what a stop leaves is found.
+        ensures steps { MatchResult result
+            (λ _. TakesMany (groups_since (kept_by self.old holding) (kept_by self.new holding))
+            (machine_of (kept_by self.old holding)) (machine_of (kept_by self.new holding)))
+            (λ _. TakesAndStops (machine_of (kept_by self.old holding))
+            (machine_of (kept_by self.new holding))) }
+        ensures may_leave { MayBeStopped (kept_by self.new holding) }
     {
         self.core.turn(limit)
     }

@@ -26,3 +26,4 @@ pub use request::{Request, parse_request};
 pub use script::{Command, Fault, LONGEST, are_printable, parse, parse_group};
 pub use stop::{Met, Stop, missed, no_input, refuse};
 pub use system::{Host, System};
+pub use table::PROTOCOL;

@@ -20,8 +20,8 @@ pub enum View {
     Print,
     /// By how much they have of each kind.
     Stats,
-    /// As a picture.
-    Picture,
+    /// As a picture, of segments that have room for so many bytes.
+    Picture(u64),
 }
 
 /// What the command line asks for.
@@ -104,7 +104,7 @@ pub struct Options<'a> {
     pub dir: Option<&'a str>,
     /// Whether a segment that was given up comes back as the last spare.
     pub reuse: bool,
-    /// Up to how many segments a store that is served adds by itself, 2 to 64.
+    /// Up to how many segments a store adds by itself, 2 to 64; 0 where it makes no room by itself.
     pub most: u16,
     /// Whether `m` was given, and is no default.
     pub gives_m: bool,

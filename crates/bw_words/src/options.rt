@@ -4,6 +4,7 @@ use crate::mode::{Ends, Manner, Mode, Options, Pace, View};
 use crate::people::{FORMS as OVER_KEYS, keys_in};
 use crate::table::{ABOUT, COMPACT, FORMS, Form, Kind, Row, VERSION};
 use bw_codec::limits::{MAX_PAIRS, MIN_FRAME, MIN_PAIRS};
+use bw_look::frame_in_folder;
 use clap::error::ErrorKind;
 use clap::{Arg, ArgAction, ArgMatches, Command, Error};
 use std::alloc::{AllocError, Global};
@@ -158,6 +159,14 @@ fn size_of(found: &ArgMatches<'_>) -> Size {
     }
 }
 
+/// The most bytes of a frame where nothing is said of them: in memory the fewest that are allowed.
+fn frame_of(found: &ArgMatches<'_>, capacity: u32) -> u32 {
+    match dir_of(found) {
+        Some(_) => frame_in_folder(u64::from(capacity)),
+        None => MIN_FRAME,
+    }
+}
+
 /// The number that was given to this option, or its default; else this one.
 fn number_in(found: &ArgMatches<'_>, name: &str, none: u32) -> u32 {
     found.get_one(name).unwrap_or(none)
@@ -166,13 +175,14 @@ fn number_in(found: &ArgMatches<'_>, name: &str, none: u32) -> u32 {
 /// What the words behind `replay`, `serve` or `threads` say of a store; a program is one writer.
 fn store_of(found: &ArgMatches<'_>, size: Size) -> bw_home::Options {
     let m: Option<u16> = found.get_one("m");
+    let capacity = number_in(found, "capacity", size.capacity);
     bw_home::Options {
         writers: number_in(found, "writers", 1) as usize,
-        places: number_in(found, "places", 0) as usize,
-        m: m.unwrap_or(size.m),
-        f: number_in(found, "frame", MIN_FRAME),
+        queue_groups: number_in(found, "places", 0) as usize,
+        pairs_a_page: m.unwrap_or(size.m),
+        frame_bytes: number_in(found, "frame", frame_of(found, capacity)),
         segments: number_in(found, "segments", 0),
-        capacity: u64::from(number_in(found, "capacity", size.capacity)),
+        capacity: u64::from(capacity),
     }
 }
 
@@ -224,13 +234,14 @@ fn copy_of<'a>(found: &ArgMatches<'a>) -> Mode<'a> {
     }
     let m: Option<u16> = found.get_one("m");
     let other = bw_home::Options::default();
+    let capacity = number_in(found, "capacity", LARGE.capacity);
     Mode::Compact(
         ends_of(found),
         bw_home::Options {
-            m: m.unwrap_or(other.m),
-            f: number_in(found, "frame", other.f),
+            pairs_a_page: m.unwrap_or(other.pairs_a_page),
+            frame_bytes: number_in(found, "frame", frame_in_folder(u64::from(capacity))),
             segments: number_in(found, "segments", other.segments),
-            capacity: u64::from(number_in(found, "capacity", LARGE.capacity)),
+            capacity: u64::from(capacity),
             ..other
         },
     )
@@ -262,7 +273,9 @@ fn look_in<'a>(matches: &ArgMatches<'a>) -> Mode<'a> {
         return Mode::Look(View::Stats, dir_of(found));
     }
     if let Some(found) = matches.subcommand_matches("picture") {
-        return Mode::Look(View::Picture, dir_of(found));
+        let none = dir_of(found).map_or(0, |_| LARGE.capacity);
+        let room = u64::from(number_in(found, "capacity", none));
+        return Mode::Look(View::Picture(room), dir_of(found));
     }
     match matches.subcommand_matches("scan") {
         Some(found) => Mode::Scan(dir_of(found)),

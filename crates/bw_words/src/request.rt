@@ -17,6 +17,10 @@ pub enum Request {
     Do(Command),
     /// The first pair at or above a key.
     Next(Key),
+    /// The last pair at or below a key.
+    Prev(Key),
+    /// The last pair below a key.
+    Below(Key),
     /// The pairs at or above a key, no more than so many.
     Scan(Key, u32),
     /// How many pairs there are.
@@ -47,7 +51,8 @@ impl Request {
     pub fn takes(&self) -> bool {
         match self {
             Request::Do(command) => !matches!(command, Command::Clean | Command::Add),
-            Request::Next(_) | Request::Scan(_, _) | Request::Backup(_) => true,
+            Request::Next(_) | Request::Prev(_) | Request::Below(_) => true,
+            Request::Scan(_, _) | Request::Backup(_) => true,
             Request::Pages | Request::Count => true,
             _ => false,
         }
@@ -67,6 +72,8 @@ fn path_of(word: &str) -> Result<Value, Fault> {
 fn request_of(name: &str, word: &str) -> Result<Request, Fault> {
     match name {
         "next" => Ok(Request::Next(key_of(word)?)),
+        "prev" => Ok(Request::Prev(key_of(word)?)),
+        "below" => Ok(Request::Below(key_of(word)?)),
         "backup" => Ok(Request::Backup(path_of(word)?)),
         _ => Ok(Request::Do(asked_of(name, word)?)),
     }
@@ -111,7 +118,7 @@ pub fn parse_request(line: &[u8]) -> Result<Request, Fault> {
             let group = group_of(ops_of(name, &mut words)?)?;
             Ok(Request::Do(Command::Put(0, group)))
         }
-        "get" | "next" | "page" | "evict" | "rewrite" | "walk" | "backup" => {
+        "get" | "next" | "prev" | "below" | "page" | "evict" | "rewrite" | "walk" | "backup" => {
             request_of(name, single(words.next(), words.next())?)
         }
         "scan" => scan_of(&mut words),

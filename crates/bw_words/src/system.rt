@@ -2,8 +2,9 @@
 
 pub use bw_home::System;
 use std::thread::Threads;
+use std::time::Clock;
 
-/// One by which a call may start threads, too.
-pub trait Host: System + Threads {}
+/// One by which a call may start threads, too, and which tells the time.
+pub trait Host: System + Threads + Clock {}
 
-impl<R: System + Threads> Host for R {}
+impl<R: System + Threads + Clock> Host for R {}

@@ -63,7 +63,8 @@ const M: Row = Row {
 const FRAME: Row = Row {
     name: "frame",
     kind: Kind::Open(MIN_FRAME as i64, MAX_FRAME as i64),
-    help: "the most bytes that a frame has [default: 65536]",
+    help: "the most bytes that a frame has [default: 65536, in a folder 262144, or as many as a \
+        segment has room for]",
 };
 
 const SEGMENTS: Row = Row {
@@ -78,10 +79,24 @@ const CAPACITY: Row = Row {
     help: "how many bytes a segment has room for [default: 262168, in a folder 16777216]",
 };
 
+const ROOM_DRAWN: Row = Row {
+    help: "how many bytes a segment is drawn with, the longest at least [default: of a folder \
+        16777216]",
+    ..CAPACITY
+};
+
 const MOST_SEGMENTS: Row = Row {
     name: "most-segments",
     kind: Kind::Number(2, 64, "64"),
     help: "up to how many segments are added where one spare is left and a cleaning does not pay",
+};
+
+/// The same of what is the specification's, word for word, where it is not given.
+const ROOM: Row = Row {
+    kind: Kind::Open(2, 64),
+    help: "makes room where one spare is left: the oldest segment is given up where that pays, and \
+        else one is added, up to so many [default: no room is made]",
+    ..MOST_SEGMENTS
 };
 
 const STORE_DIR: Row = Row {
@@ -203,8 +218,8 @@ const FORGET: Row = Row {
 };
 
 /// The store of a script.
-const REPLAY: [Row; 9] = [
-    WRITERS, PLACES, M, FRAME, SEGMENTS, CAPACITY, STORE_DIR, TAKE, REUSE,
+const REPLAY: [Row; 10] = [
+    WRITERS, PLACES, M, FRAME, SEGMENTS, CAPACITY, STORE_DIR, TAKE, REUSE, ROOM,
 ];
 
 /// The store of a program, which is one writer.
@@ -239,7 +254,8 @@ const COPY: [Row; 7] = [
         ..M
     },
     Row {
-        help: "of --compact: the most bytes that a frame has [default: 65536]",
+        help: "of --compact: the most bytes that a frame has [default: 262144, or as many as a \
+            segment has room for]",
         ..FRAME
     },
     Row {
@@ -254,7 +270,7 @@ const COPY: [Row; 7] = [
 ];
 
 /// The store of several writers, then how it is tended, and how often a group is tried.
-const THREADS: [Row; 14] = [
+const THREADS: [Row; 15] = [
     Row {
         kind: Kind::Number(1, 64, "2"),
         ..WRITERS
@@ -275,6 +291,12 @@ const THREADS: [Row; 14] = [
     READERS,
     FORGET,
     REUSE_BETWEEN,
+    Row {
+        help: "runs the scripts in parts that a segment has room for, and makes room between two of \
+            them where one spare is left: the oldest segment is given up where that pays, and else \
+            one is added, up to so many [default: no room is made]",
+        ..ROOM
+    },
 ];
 
 /// A mode of the program: its name, what it does, its options in the order of the help, and a line of
@@ -327,7 +349,7 @@ pub const FORMS: [Form; 12] = [
     Form {
         name: "picture",
         about: "Draws segments as an SVG",
-        options: &[LOOK_DIR],
+        options: &[LOOK_DIR, ROOM_DRAWN],
         example: "Example: bwlog picture --dir store > store.svg",
     },
     Form {
@@ -369,3 +391,7 @@ pub const ABOUT: &str =
 
 /// The program's version, and that of the format of its segments.
 pub const VERSION: &str = "0.1.0, format 2";
+
+/// The version of the protocol of `serve`. It goes up where a request or an answer that stands
+/// changes; a further request, or a further word behind an answer, is no change.
+pub const PROTOCOL: u32 = 1;

@@ -4,6 +4,7 @@
 ghost use Rattle.std.specs.Prelude.{◌≡◌, vec_len, IfOk};
 ghost use Rattle.bw_home.specs.Sharing.{IsShared};
 
+use crate::room::{Made, has_room, is_due};
 use crate::runs::{Run, drive_tended};
 use bw_codec::limits::HEADER_LEN;
 use bw_codec::{Leaf, Record};
@@ -193,7 +194,7 @@ impl Legs {
         }
         Ok(Legs {
             rest,
-            most: if options.reuse {
+            most: if options.reuse || options.most > 0 {
                 Some(options.store.capacity.saturating_sub(HEADER_LEN as u64))
             } else {
                 None
@@ -384,14 +385,6 @@ fn held_by(home: &SharedHome) -> Held
     }
 }
 
-/// Whether the room of the oldest segment is to come back: so many segments are live as the pace
-/// tells, and it pays.
-fn is_due(home: &SharedHome, pace: Pace) -> bool
-    requires { IsShared home.now holding }
-{
-    pace.clean_at != 0 && home.store.live() >= pace.clean_at && home.store.pays()
-}
-
 // Lets go of what readers have of the history where the pace wants it.
 fn forget_by(home: &mut SharedHome, pace: Pace)
     requires { IsShared home.old holding }
@@ -428,34 +421,58 @@ impl Legs {
         Ok(())
     }
 
-    /// Runs legs up to where the oldest segment was given up and a new one stands in its place,
-    /// which is a spare from the next one on; `false` at the end of all scripts.
+    // Makes a spare where the options want one: in place of the oldest segment, or a further one.
+    fn make_room<R: Host>(
+        &self,
+        rt: &R,
+        home: &mut SharedHome,
+        options: &Options<'_>,
+        pace: Pace,
+    ) -> Result<Option<Made>, Miss>
+        requires { IsShared home.old holding }
+        ensures { IsShared home.new holding }
+    {
+        if options.reuse && is_due(home, pace) {
+            let _ = home.clean(rt)?;
+            forget_by(home, pace);
+            return Ok(Some(Made::Again));
+        }
+        if self.is_done() {
+            return Ok(None);
+        }
+        has_room(rt, home, options)
+    }
+
+    /// Runs legs up to where a spare was made, in place of the oldest segment or as a further one:
+    /// it is one from the next leg on. `None` at the end of all scripts.
     pub fn go_on<R: Host>(
         &mut self,
         rt: &R,
         home: &mut SharedHome,
         options: &Options<'_>,
         pace: Pace,
-    ) -> Result<bool, Miss>
+    ) -> Result<Option<Made>, Miss>
         requires { IsShared home.old holding }
         ensures { IsShared home.new holding }
     {
         // Nothing is given up within a leg where its room is to come back.
         let within = Pace {
-            clean_at: if options.reuse { 0 } else { pace.clean_at },
+            clean_at: if self.most.is_some() {
+                0
+            } else {
+                pace.clean_at
+            },
             ..pace
         };
         'legs: for _ in 0..u64::MAX {
-            if options.reuse && is_due(home, pace) {
-                let _ = home.clean(rt)?;
-                forget_by(home, pace);
-                return Ok(true);
+            if let Some(made) = self.make_room(rt, home, options, pace)? {
+                return Ok(Some(made));
             }
             if self.is_done() {
                 break;
             }
             self.go(rt, home, within)?;
         }
-        Ok(false)
+        Ok(None)
     }
 }

@@ -4,6 +4,7 @@
 
 mod legs;
 mod readers;
+mod room;
 mod runs;
 mod writers;
 

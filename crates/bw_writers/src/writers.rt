@@ -5,12 +5,14 @@ ghost use Rattle.bw_home.specs.Sharing.{IsShared};
 
 use crate::legs::{Legs, empty_scripts, lengths_of, put_behind};
 use crate::readers::{Courses, Readers, Seen};
+use crate::room::Made;
 use crate::runs::pairs_of;
 use bw_codec::{Key, Value};
 use bw_home::{SharedHome, SharedLegs, with_readers};
 use bw_look::Printer;
 use bw_pairs::{Lines, READS};
 use bw_ring::Group;
+use bw_watch::Watch;
 use bw_words::{
     Host, LEASES, LONGEST, Met, Miss, Options, Pace, Stop, missed, no_input, parse_group,
     print_found, write_pairs,
@@ -131,6 +133,9 @@ struct Writers<'a, O> {
     pace: Pace,
     output: &'a mut O,
     legs: Legs,
+    /// How many segments there were with the first that was added by itself, and with the last: 0
+    /// before the first.
+    added: (u32, u32),
     /// How many records each script has.
     lengths: Vec<u64>,
     /// The keys that the readers look up, before the first leg.
@@ -149,6 +154,12 @@ impl<O: Write> Writers<'_, O> {
         };
         print_found(self.output, home.found())?;
         self.readers.start(rt, home, self.pace.readers, courses)
+    }
+
+    /// A segment was added by itself: so many there are.
+    fn count_added(&mut self, segments: u32) {
+        let (first, _) = self.added;
+        self.added = (if first == 0 { segments } else { first }, segments);
     }
 
     /// Tells what a run left in the store and beside it, and answers whether a writer gave up, or a
@@ -176,28 +187,44 @@ impl<O: Write> Writers<'_, O> {
 impl<R: Host, O: Write> SharedLegs<R> for Writers<'_, O> {
     type Answer = Result<Met, Stop>;
 
-    // Runs legs up to where the room of a segment comes back. A spare that cannot be added in place
-    // of a segment that was given up is none.
+    // Runs legs up to where a spare was made. One that cannot be added is none.
     fn leg(&mut self, rt: &R, home: &mut SharedHome) -> Option<Result<Met, Stop>> {
         if let Err(miss) = self.begin(rt, home) {
             return Some(missed(self.output, 0, miss));
         }
         match self.legs.go_on(rt, home, self.options, self.pace) {
-            Ok(true) => None,
-            Ok(false) => Some(self.tell_run(rt, home)),
+            Ok(Some(Made::Again)) => None,
+            Ok(Some(Made::Further)) => {
+                // The spare that was made is added behind this leg.
+                let segments = home.store.live().saturating_add(home.store.spares());
+                self.count_added(segments.saturating_add(1));
+                None
+            }
+            Ok(None) => Some(self.tell_run(rt, home)),
             Err(miss) => Some(missed(self.output, 0, miss)),
+        }
+    }
+}
+
+/// Tells of the segments that were added by themselves, from so many on.
+fn tell_added<W: Watch>(watch: &mut W, added: (u32, u32)) {
+    let (first, last) = added;
+    for segments in first..last.saturating_add(1) {
+        if segments > 0 {
+            watch.added(segments);
         }
     }
 }
 
 /// Reads the writers' scripts, makes a store, or goes on from the one in a folder, and runs all
 /// writers over it; answers whether something was refused, or a writer gave up.
-pub fn threads<R: Host, I: Read, O: Write>(
+pub fn threads<R: Host, I: Read, O: Write, W: Watch>(
     rt: &R,
     options: &Options<'_>,
     input: &mut I,
     output: &mut O,
     pace: Pace,
+    watch: &mut W,
 ) -> Result<Met, Stop> {
     let scripts = read_scripts(rt.alloc(), input, options.store.writers)?;
     let lengths = lengths_of(rt.alloc(), scripts.as_slice())?;
@@ -211,6 +238,7 @@ pub fn threads<R: Host, I: Read, O: Write>(
         pace,
         output: &mut *output,
         legs: Legs::new(rt.alloc(), options, scripts)?,
+        added: (0, 0),
         lengths,
         courses: Some(courses),
         readers: Readers::none(rt.alloc())?,
@@ -218,7 +246,9 @@ pub fn threads<R: Host, I: Read, O: Write>(
     let places = pace.readers.max(1) as usize;
     let store = &options.store;
     // Where a refusal ended the run, the store has shut its readers out, and they come to their end.
-    let met = match with_readers(rt, options.dir, LEASES, places, store, &mut writers) {
+    let end = with_readers(rt, options.dir, LEASES, places, store, &mut writers);
+    tell_added(watch, writers.added);
+    let met = match end {
         Ok(end) => end?,
         Err(fault) => missed(writers.output, 0, Miss::from(fault))?,
     };

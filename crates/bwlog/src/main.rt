@@ -4,7 +4,7 @@
 use bw_script::run;
 use bw_words::{Host, Refusal};
 use std::alloc::Global;
-use std::io::{self, BufWriter, ErrorKind};
+use std::io::{self, BufWriter, ErrorKind, IsTerminal};
 use std::process::ExitCode;
 
 /// The words after the program's name.
@@ -25,6 +25,7 @@ fn start<R: Host>(host: &HostRuntime, rt: &R) -> io::Result<u8> {
     for word in &words {
         texts.push(word.as_str())?;
     }
+    let is_shown = host.stdout().is_terminal();
     let mut output = BufWriter::new(alloc, host.stdout())?;
     let status = run(
         rt,
@@ -32,6 +33,7 @@ fn start<R: Host>(host: &HostRuntime, rt: &R) -> io::Result<u8> {
         &mut host.stdin(),
         &mut output,
         &mut host.stderr(),
+        is_shown,
     );
     Ok(status)
 }

@@ -4,10 +4,12 @@
 mod again;
 mod hindered;
 mod in_memory;
+mod mapped;
 mod memory;
 mod parts;
 mod refused;
 mod shared;
+mod walked;
 
 use bw_codec::{Key, Record, Value};
 use bw_home::{Course, Home, Options, System, with_store};

@@ -221,6 +221,28 @@ impl Subject {
         }
     }
 
+    pub fn prev_at(&mut self, key: &Key) -> Result<Option<(Key, Value)>, StoreFault>
+        requires { IsSound self.old holding }
+        ensures sound { IsSound self.new holding }
+        ensures rings { rings_by self.new holding ≡ rings_by self.old holding }
+    {
+        match self {
+            Subject::Bare(core) => core.prev_at(key),
+            Subject::Shown(store) => store.prev_at(key),
+        }
+    }
+
+    pub fn prev_below(&mut self, key: &Key) -> Result<Option<(Key, Value)>, StoreFault>
+        requires { IsSound self.old holding }
+        ensures sound { IsSound self.new holding }
+        ensures rings { rings_by self.new holding ≡ rings_by self.old holding }
+    {
+        match self {
+            Subject::Bare(core) => core.prev_below(key),
+            Subject::Shown(store) => store.prev_below(key),
+        }
+    }
+
     pub fn count(&mut self) -> Result<u64, StoreFault>
         requires { IsSound self.old holding }
         ensures sound { IsSound self.new holding }

@@ -11,6 +11,7 @@ mod evicting;
 mod forgetting;
 mod grouping;
 mod large;
+mod lives;
 mod opening;
 mod putting;
 mod readers;

@@ -87,6 +87,8 @@ static int check_bursts(void) {
     HOLDS(store_walk_next(&s, &found, "p\xff", 2) == 1 && found.key_len == 2);
     HOLDS(store_walk_next(&s, &found, "p\xff", 2) == 1 && found.key_len == 3);
     HOLDS(store_walk_next(&s, &found, "p\xff", 2) == 0);
+    HOLDS(store_prev(&s, "p\xffy", 3, &found) == 1 && found.key_len == 2);
+    HOLDS(store_below(&s, "q", 1, &found) == 1 && found.key_len == 3 && !memcmp(found.key, "p\xffz", 3));
     long long count = 0;
     for (store_walk(&found, "", 0); store_walk_next(&s, &found, "", 0) == 1;) count++;
     HOLDS(store_count(&s) == count);
@@ -111,9 +113,17 @@ int main(int words, char **word) {
     HOLDS(store_get(&s, "lost", 4, pairs) == 0 && store_get(&s, "g1", 2, pairs) == 1);
     HOLDS(store_close(&s) == 0);
 
+    /* A program of another protocol, or of none, is none; one that says more behind its version is. */
+    if (words < 7) return 2;
+    HOLDS(store_open(&s, word[3], word[2]) == -1);
+    HOLDS(!strcmp(s.line, "no protocol 1: ready frame 0 protocol 2"));
+    HOLDS(store_open(&s, word[5], word[2]) == -1);
+    HOLDS(!strcmp(s.line, "no protocol 1: ready frame 0"));
+    HOLDS(store_open(&s, word[4], word[2]) == 0 && store_abandon(&s) == 0);
+
     /* An answer that does not fit is no answer: the client is closed, and loses no step. */
-    if (words > 3) {
-        HOLDS(store_open(&s, word[3], word[2]) == 0);
+    {
+        HOLDS(store_open(&s, word[6], word[2]) == 0);
         HOLDS(store_get(&s, "k", 1, pairs) == -1 && !strcmp(s.line, "an answer that is no line"));
         HOLDS(store_get(&s, "k", 1, pairs) == -1 && s.in == -1);
     }

@@ -54,6 +54,10 @@ with bwlog.Store(PROGRAM, FOLDER) as store:
     assert list(store.walk(b"p\xff")) == [(key, key) for key in (b"p\xff", b"p\xff\x00", b"p\xffz")]
     assert [pair[0] for pair in store.walk(key_of(3)[:127])] == keys[:256]
     assert list(store.walk(b"nothing")) == []
+    # The walk back is the walk, turned round; a key itself, and what is below it.
+    assert list(store.walk_back()) == list(store.walk())[::-1]
+    assert store.prev(b"p\xff\x01") == (b"p\xff\x00", b"p\xff\x00") and store.prev(b"q") == (b"q", b"q")
+    assert store.below(b"q") == (b"p\xffz", b"p\xffz") and store.below(next(store.walk())[0]) is None
     # Of so many pairs in one answer a walk is the same, also where the last answer is full, and just so many are counted.
     assert list(store.walk()) == list(store.walk(most=3)) == list(store.walk(most=COUNT + 8)) and store.count() == COUNT + 8
     assert store.scan(b"g", 2) == [(b"g1", b"one"), (b"g2", b"two")] and store.scan(b"\xff") == []
@@ -75,4 +79,9 @@ except ValueError as error:
 with bwlog.Store(PROGRAM, FOLDER) as store:
     assert store.get(b"lost") is None and store.get(b"g1") == b"one"
     assert store.add().startswith("added ")
+
+# A program of another protocol, or of none, is none; one that says more behind its version is one.
+for program, line in ((sys.argv[3], "ready frame 0 protocol 2"), (sys.argv[5], "ready frame 0")):
+    assert raised(bwlog.Ended, bwlog.Store, program, FOLDER) == "no protocol 1: " + line
+bwlog.Store(sys.argv[4], FOLDER).abandon()
 print("kept to")

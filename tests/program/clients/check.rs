@@ -66,6 +66,10 @@ fn main() -> Result<()> {
     assert_eq!(walked, [b"p\xff".to_vec(), b"p\xff\x00".to_vec(), b"p\xffz".to_vec()]);
     assert!(store.walk(&keys[3][..127])? == pairs[..256]);
     assert_eq!(store.walk(b"nothing")?, []);
+    assert_eq!(store.prev(b"p\xff\x01")?, Some(pair(b"p\xff\x00", b"p\xff\x00")));
+    assert_eq!(store.below(b"q")?, Some(pair(b"p\xffz", b"p\xffz")));
+    let least = store.next(&[0])?.unwrap().0;
+    assert_eq!(store.below(&least)?, None);
     assert_eq!(store.count()?, store.walk(b"")?.len() as u64);
     assert_eq!(store.scan(b"g", 2)?, [pair(b"g1", b"one"), pair(b"g2", b"two")]);
     assert_eq!(told(store.scan(b"g", 0)), "fault bad number");
@@ -83,6 +87,12 @@ fn main() -> Result<()> {
     assert_eq!(store.get(b"lost")?, None);
     assert_eq!(store.get(b"g1")?, Some(b"one".to_vec()));
     assert_eq!(store.close()?, 0);
+
+    // A program of another protocol, or of none, is none; one that says more behind its version is
+    // one.
+    assert_eq!(told(Store::open(&words[3], &words[2])), "no protocol 1: ready frame 0 protocol 2");
+    assert_eq!(told(Store::open(&words[5], &words[2])), "no protocol 1: ready frame 0");
+    drop(Store::open(&words[4], &words[2])?);
     println!("kept to");
     Ok(())
 }

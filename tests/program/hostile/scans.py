@@ -6,7 +6,7 @@ from hostile.program import Otherwise
 from hostile.reader import Base, Delta, Split, told, word
 from hostile.segments import Parts, block_bytes, linked
 
-# A scan of 1 MB takes less than half a second of a processor (measured, docs/TESTING.md), and is to take less than two.
+# A scan of 1 MB takes less than half a second of a processor (measured, docs/MEASURED.md), and is to take less than two.
 SECONDS = 2
 
 

@@ -1,4 +1,4 @@
-"""Hostile scripts: the fault at which a script ends, as README tells it."""
+"""Hostile scripts: the fault at which a script ends, as docs/USING.md tells it."""
 
 import re
 

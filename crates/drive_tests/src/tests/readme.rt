@@ -1,4 +1,4 @@
-//! The example of README: writers in threads beside the store's.
+//! Writers in threads beside the store's, as docs/USING.md tells it.
 
 ghost use Rattle.std.specs.Prelude.{◌≡◌, map};
 ghost use Rattle.bw_ring.specs.Ends.{ring_of_feed};

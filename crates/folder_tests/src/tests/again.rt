@@ -13,9 +13,9 @@ use std::test::Fail;
 
 pub(super) const SMALL: Options = Options {
     writers: 1,
-    places: 8,
-    m: 4,
-    f: MIN_FRAME,
+    queue_groups: 8,
+    pairs_a_page: 4,
+    frame_bytes: MIN_FRAME,
     segments: 4,
     capacity: 65_560,
 };

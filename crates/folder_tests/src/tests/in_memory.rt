@@ -116,3 +116,37 @@ fn a_full_queue_is_taken_from_before_a_put(rt: HostRuntime) -> Result<(), Fail> 
     assert!(&rt; went);
     Ok(())
 }
+
+// Whether this is the pair of this key; with no key, whether there is none.
+fn is_of(pair: Option<(Key, Value)>, key: &[u8]) -> bool {
+    match pair {
+        Some((at, _)) => at.as_slice() == key,
+        None => key.len() == 0,
+    }
+}
+
+/// Puts two records, and walks back over them.
+#[derive(Drop)]
+struct PutAndWalkBack;
+
+impl<R: System> Course<R> for PutAndWalkBack {
+    type Answer = Result<bool, Fail>;
+
+    fn run(self, _rt: &R, home: &mut Home) -> Result<bool, Fail> {
+        home.put(Record::Put(Key::new(b"k")?, Value::new(b"v")?))?;
+        home.put(Record::Put(Key::new(b"m")?, Value::new(b"w")?))?;
+        home.settle()?;
+        let last = is_of(home.prev_at(&Key::new(b"z")?)?, b"m");
+        let at = is_of(home.prev_at(&Key::new(b"m")?)?, b"m");
+        let below = is_of(home.prev_below(&Key::new(b"m")?)?, b"k");
+        let none = is_of(home.prev_below(&Key::new(b"k")?)?, b"");
+        Ok(last && at && below && none)
+    }
+}
+
+#[test]
+fn a_walk_back_goes_from_key_to_key(rt: HostRuntime) -> Result<(), Fail> {
+    let went = with_store_in_memory(&rt, &SMALL, PutAndWalkBack)??;
+    assert!(&rt; went);
+    Ok(())
+}

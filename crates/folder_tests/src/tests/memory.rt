@@ -15,9 +15,9 @@ const MOST: u32 = 2_000;
 
 const SMALL: Options = Options {
     writers: 1,
-    places: 2,
-    m: 4,
-    f: MIN_FRAME,
+    queue_groups: 2,
+    pairs_a_page: 4,
+    frame_bytes: MIN_FRAME,
     segments: 2,
     capacity: 65_560,
 };

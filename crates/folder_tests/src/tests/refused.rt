@@ -105,9 +105,9 @@ fn what_holds_no_store_is_refused_and_stays(rt: HostRuntime) -> Result<(), Fail>
 /// The options of a store that nobody can open: `BadConfig`.
 const NO_WRITER: Options = Options {
     writers: 0,
-    places: 64,
-    m: 32,
-    f: MIN_FRAME,
+    queue_groups: 64,
+    pairs_a_page: 32,
+    frame_bytes: MIN_FRAME,
     segments: 2,
     capacity: 65_560,
 };

@@ -1,4 +1,4 @@
-//! The example of README.md, to the letter.
+//! A buffer that is filled, appended and read back, as docs/USING.md tells it.
 
 use bw_buffer::Buffer;
 use bw_codec::{Block, Key, Leaf, Low, Ops, Pairs, Place, Record, Value};

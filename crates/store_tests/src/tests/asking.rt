@@ -4,7 +4,7 @@ ghost use Rattle.std.specs.Prelude.{◌≡◌};
 ghost use Rattle.store_tests.specs.Views.{rings_by, IsSound};
 
 use crate::subject::Subject;
-use bw_codec::{Key, Leaf, Record};
+use bw_codec::{Key, Leaf, Record, Value};
 use bw_store::{PackedEntry, StoreFault};
 use std::alloc::Global;
 use test_vectors::{behind, behind_leaf, is_at_end, spells};
@@ -82,6 +82,39 @@ pub(super) fn has(store: &mut Subject, key: &[u8], text: &[u8]) -> bool
     match store.get(&key) {
         Ok(Some(value)) => value.as_slice() == text,
         Ok(None) => text.len() == 0,
+        Err(_) => false,
+    }
+}
+
+// Whether a walk back answers this pair; with no key, whether it answers none.
+fn is_pair(found: Result<Option<(Key, Value)>, StoreFault>, at: &[u8], text: &[u8]) -> bool {
+    match found {
+        Ok(Some((key, value))) => key.as_slice() == at && value.as_slice() == text,
+        Ok(None) => at.len() == 0,
+        Err(_) => false,
+    }
+}
+
+/// Whether this is the last pair at or below a key; with no key, whether there is none.
+pub(super) fn is_last(store: &mut Subject, key: &[u8], at: &[u8], text: &[u8]) -> bool
+    requires { IsSound store.old holding }
+    ensures sound { IsSound store.new holding }
+    ensures rings { rings_by store.new holding ≡ rings_by store.old holding }
+{
+    match Key::new(key) {
+        Ok(key) => is_pair(store.prev_at(&key), at, text),
+        Err(_) => false,
+    }
+}
+
+/// Whether this is the last pair below a key; with no key, whether there is none.
+pub(super) fn is_last_below(store: &mut Subject, key: &[u8], at: &[u8], text: &[u8]) -> bool
+    requires { IsSound store.old holding }
+    ensures sound { IsSound store.new holding }
+    ensures rings { rings_by store.new holding ≡ rings_by store.old holding }
+{
+    match Key::new(key) {
+        Ok(key) => is_pair(store.prev_below(&key), at, text),
         Err(_) => false,
     }
 }

@@ -1,10 +1,10 @@
 //! Pages leave memory and are read from their segments: the tables.
 
-use super::putting::{FOUR, TWO};
+use super::putting::{BESIDE_ZERO, FOUR, TWO};
 use super::steps::Step;
 use super::steps::Step::{
-    Clean, Del, Each, Evict, Flush, Frame, Get, Page, Pages, Put, Segments, Settle, Stands, Stops,
-    Taken, Turn, Unread, Walk,
+    Below, Clean, Del, Each, Evict, Flush, Frame, Get, Last, Page, Pages, Put, Segments, Settle,
+    Stands, Stops, Taken, Turn, Unread, Walk,
 };
 use super::walking::{Stand, Tables, all_go};
 use bw_store::StoreFault;
@@ -107,9 +107,56 @@ const OPENED_AGAIN: &[Step] = &[
     Walk(1, Some(2)),
 ];
 
+/// A walk back goes over pages in memory and over evicted ones, from a low and from between keys,
+/// and over a page whose pairs are all gone. It brings no page back.
+const BACKWARDS: &[Step] = &[
+    Each(0, FOUR),
+    Turn(9, 4),
+    Taken(b"e", b"5"),
+    Last(b"z", b"e", b"5"),
+    Last(b"c", b"c", b"3"),
+    Below(b"c", b"b", b"2"),
+    Last(b"bz", b"b", b"2"),
+    Below(b"a", b"", b""),
+    Last(b"A", b"", b""),
+    Flush(Some(1)),
+    Evict(1, Ok(true)),
+    Evict(2, Ok(true)),
+    Last(b"z", b"e", b"5"),
+    Last(b"c", b"c", b"3"),
+    Below(b"c", b"b", b"2"),
+    Below(b"a", b"", b""),
+    Del(0, b"c"),
+    Del(0, b"d"),
+    Del(0, b"e"),
+    Turn(9, 3),
+    Last(b"z", b"b", b"2"),
+    Evict(2, Ok(true)),
+    Last(b"d", b"b", b"2"),
+    Below(b"c", b"b", b"2"),
+    Evict(1, Ok(false)),
+    Evict(2, Ok(false)),
+];
+
+/// The second page begins with a key that ends with a byte 0, and the first one has its front.
+const ZERO: &[Step] = &[
+    Each(0, BESIDE_ZERO),
+    Turn(9, 5),
+    Page(2, "2 a\0: a\0=3 b=4 c=5"),
+    Last(b"a\0\0", b"a\0", b"3"),
+    Below(b"a\0", b"a", b"2"),
+    Below(b"a", b"A", b"1"),
+    Del(0, b"a\0"),
+    Turn(9, 1),
+    Last(b"a\0", b"a", b"2"),
+];
+
 const TABLES: &[Tables] = &[
     (Stand::Fuse(0, (2, 2), (0, 0)), &[READ_AGAIN, TURNED_AGAIN]),
-    (Stand::Boxes(4, 8), &[UNFLUSHED, CUT, CLEANED]),
+    (
+        Stand::Boxes(4, 8),
+        &[UNFLUSHED, CUT, CLEANED, BACKWARDS, ZERO],
+    ),
     (Stand::Bytes(&[FIRST]), &[OPENED_AGAIN]),
 ];
 

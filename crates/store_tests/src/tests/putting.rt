@@ -97,6 +97,15 @@ pub(super) const NEXT: &[Op] = &[
     Set(b"h", b"8"),
 ];
 
+/// Five records; the third one's key is the second one's with a byte 0 behind it.
+pub(super) const BESIDE_ZERO: &[Op] = &[
+    Set(b"A", b"1"),
+    Set(b"a", b"2"),
+    Set(b"a\0", b"3"),
+    Set(b"b", b"4"),
+    Set(b"c", b"5"),
+];
+
 /// The last of these cuts the page.
 pub(super) const FIVE: &[Op] = &[
     Set(b"a", b"1"),

@@ -4,7 +4,7 @@ ghost use Rattle.std.specs.Prelude.{◌≡◌, ◌<◌, length, map};
 ghost use Rattle.bw_ring.specs.Ends.{ring_of_feed};
 ghost use Rattle.store_tests.specs.Views.{rings_beside, rings_by, AreItsFeeds, IsSound, IsSoundBeside};
 
-use super::asking::{are_bytes, has, is_history, is_page, is_unread};
+use super::asking::{are_bytes, has, is_history, is_last, is_last_below, is_page, is_unread};
 use super::opening::Held;
 use super::putting::{Op, are_each_put, are_put, are_same, is_grouped, is_put, record};
 use super::reading::reads;
@@ -68,6 +68,10 @@ pub(super) enum Step {
     Evict(u32, Result<bool, StoreFault>),
     /// The value of a key; no text where it has none.
     Get(&'static [u8], &'static [u8]),
+    /// The last pair at or below a key: its key and its value; no key where there is none.
+    Last(&'static [u8], &'static [u8], &'static [u8]),
+    /// The same below it.
+    Below(&'static [u8], &'static [u8], &'static [u8]),
     /// All pages together have the first so many puts of two writers, and so has each key.
     Reads(u32),
     /// The number, lease and length of a live segment, from 0.
@@ -100,10 +104,10 @@ pub(super) enum Step {
 }
 
 use Step::{
-    Add, Bytes, Clean, Count, Counts, Cuts, Del, Each, Evict, Flush, Forget, Frame, Frames, Full,
-    FullGroup, Get, Group, History, Live, Lives, Needed, NotUpgraded, Page, Pages, Pays, Put, Puts,
-    Reads, Receipt, Refused, Rewrite, Roll, Same, Segments, Settle, Stands, Stops, Taken, Turn,
-    Uncleaned, Unread, Unsettled, Upgrade, Walk,
+    Add, Below, Bytes, Clean, Count, Counts, Cuts, Del, Each, Evict, Flush, Forget, Frame, Frames,
+    Full, FullGroup, Get, Group, History, Last, Live, Lives, Needed, NotUpgraded, Page, Pages,
+    Pays, Put, Puts, Reads, Receipt, Refused, Rewrite, Roll, Same, Segments, Settle, Stands, Stops,
+    Taken, Turn, Uncleaned, Unread, Unsettled, Upgrade, Walk,
 };
 
 fn are_cuts(cuts: &[u64], told: &[u64]) -> bool {
@@ -224,6 +228,8 @@ fn answers(alloc: Global, store: &mut Subject, step: &Step) -> bool
         Unread(page, fault) => is_unread(store, *page, *fault),
         Evict(page, told) => store.evict(*page) == *told,
         Get(key, value) => has(store, *key, *value),
+        Last(key, at, value) => is_last(store, *key, *at, *value),
+        Below(key, at, value) => is_last_below(store, *key, *at, *value),
         Reads(many) => reads(store, *many),
         Live(at, number, lease, length) => {
             store.live_segment(*at) == Some((*number, *lease, *length))

@@ -7,10 +7,10 @@ use Rattle.bw_drive.proofs.driver.finish.Goals as goal
 
 pub returns-in-Ok-clause-runs : goal.returns-in-Ok-clause-runs
 returns-in-Ok-clause-runs g c = λ first ran.
-    subst (Runs c.args.plan.clean_at first) (sym c.tell.ensures.same) (runs_kept _ first _ _ ran c.settle.ensures.follows c.settle.ensures.boxes)
+    subst (Runs c.args.plan.clean_at first) (sym c.tell.ensures.same) (runs_kept _ first _ _ ran c.settle.ensures.sequel.follows c.settle.ensures.sequel.boxes)
 
 pub returns-in-Err-settle-clause-runs : goal.returns-in-Err-settle-clause-runs
-returns-in-Err-settle-clause-runs g c = λ first ran. runs_kept _ first _ _ ran c.settle.ensures.follows c.settle.ensures.boxes
+returns-in-Err-settle-clause-runs g c = λ first ran. runs_kept _ first _ _ ran c.settle.ensures.sequel.follows c.settle.ensures.sequel.boxes
 
 pub returns-in-Err-settle-clause-refused : goal.returns-in-Err-settle-clause-refused
 returns-in-Err-settle-clause-refused g c =
@@ -18,12 +18,12 @@ returns-in-Err-settle-clause-refused g c =
 
 pub returns-in-Ok-clause-settled : goal.returns-in-Ok-clause-settled
 returns-in-Ok-clause-settled g c =
-    let e = c.in-Ok.ensures in
+    let e = c.in-Ok.ensures.goal.base in
     subst (λ (s : Kept). HasSettled s c.settle.new.feeds.items c.in-Ok.entries) (sym c.tell.ensures.same) (record {
       exactly = e.exactly;
       writers = e.writers;
-      settled = record { stands = e.pages; whole = e.whole; cut = e.last_cut };
+      settled = record { stands = e.stand; whole = e.whole; cut = e.last_cut };
       shares = e.shares;
       answer = e.answer;
-      published = e.published;
+      published = c.in-Ok.ensures.goal.published;
     })

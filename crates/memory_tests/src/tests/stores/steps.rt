@@ -10,7 +10,7 @@ use super::picture::{
     Picture, is_cleaned, is_flushed, is_out, is_seen, is_taken, is_unchanged, shown,
 };
 use super::telling::is_history;
-use bw_codec::Key;
+use bw_codec::{Key, Value};
 use bw_device::Desk;
 use bw_ring::{Feed, Group as Records};
 use bw_store::{Cleaned, Reader, Store, StoreFault};
@@ -174,7 +174,15 @@ fn cleaned(segment: u64, lease: u32, pages: usize, frames: u64) -> Cleaned {
     }
 }
 
-/// Whether a key has a value, by itself and as the first from it on.
+// Whether a walk told this pair.
+fn is_pair(told: Option<&(Key, Value)>, key: &Key, value: &[u8]) -> bool {
+    match told {
+        Some((at, there)) => at.as_slice() == key.as_slice() && there.as_slice() == value,
+        None => false,
+    }
+}
+
+/// Whether a key has a value, by itself, as the first from it on and as the last up to it.
 fn has(alloc: Global, store: &mut Store, key: &[u8], value: &[u8]) -> Result<bool, StoreFault>
     requires { IsSound store.old holding }
     ensures sound { IsSound store.new holding }
@@ -188,11 +196,10 @@ fn has(alloc: Global, store: &mut Store, key: &[u8], value: &[u8]) -> Result<boo
     };
     let mut first = Vec::new(alloc);
     store.scan(&key, 1, &mut first)?;
-    let is_first = match first.as_slice().first() {
-        Some((at, there)) => at.as_slice() == key.as_slice() && there.as_slice() == value,
-        None => false,
-    };
-    Ok(found.as_slice() == value && is_first)
+    let last = store.prev_at(&key)?;
+    let is_first = is_pair(first.as_slice().first(), &key, value);
+    let is_last = is_pair(last.as_ref(), &key, value);
+    Ok(found.as_slice() == value && is_first && is_last)
 }
 
 /// A reader that is made sees this.

@@ -12,6 +12,7 @@ use Rattle.bw_core.specs.Noted.{Noted}
 use Rattle.bw_core.specs.Views.{kept_by}
 use Rattle.bw_core.proofs.CountsMore.{step_counts}
 use Rattle.bw_core.proofs.FollowMore.{continue_then, follows_as}
+use Rattle.bw_core.proofs.Machines.{clean_keeps, may_leave}
 use Rattle.bw_core.proofs.Refusing.{never_unready}
 use Rattle.bw_core.proofs.store.Core.clean.Goals as goal
 
@@ -93,3 +94,21 @@ returns-clause-counts g c =
     let tally = ap (λ (n : Noted). n.tally) c.make_ready.ensures.noted in
     step_counts (λ _. 1) MoveLeaves _ s new c.move_pages.result _ _ c.in_ok-make_ready.ensures.emptied c.move_pages.ensures.leaves
     (c.move_pages.ensures.counts ∙ ap (λ (t : Tally). counted_gone 1 t s (is_ok c.move_pages.result) new) tally)
+
+pub returns-then-live-lt2-clause-steps : goal.returns-then-live-lt2-clause-steps
+returns-then-live-lt2-clause-steps g c = inr (inl refl)
+
+pub returns-then-live-lt2-clause-may_leave : goal.returns-then-live-lt2-clause-may_leave
+returns-then-live-lt2-clause-may_leave g c = may_leave _ c.requires.sound
+
+pub returns-in_err-make_ready-clause-steps : goal.returns-in_err-make_ready-clause-steps
+returns-in_err-make_ready-clause-steps g c = clean_keeps _ _ _ c.requires.sound (returns-in_err-make_ready-clause-leaves g c)
+
+pub returns-in_err-make_ready-clause-may_leave : goal.returns-in_err-make_ready-clause-may_leave
+returns-in_err-make_ready-clause-may_leave g c = may_leave _ c.make_ready.ensures.sound
+
+pub returns-clause-steps : goal.returns-clause-steps
+returns-clause-steps g c = clean_keeps _ _ _ c.requires.sound (returns-clause-leaves g c)
+
+pub returns-clause-may_leave : goal.returns-clause-may_leave
+returns-clause-may_leave g c = may_leave _ c.move_pages.ensures.sound

@@ -13,7 +13,7 @@ returns-then-known-gone-clause-follows g c = (follows_as _ _ refl).follows
 
 pub forget-requires-clause-within : goal.forget-requires-clause-within
 forget-requires-clause-within g c =
-    let within = end_within (kept_by c.args.self.now (λ z. (goal.Segment-dyn g z).holding z.1)) c.durable_end-last.result c.requires c.durable_end-last.ensures in
+    let within = end_within (kept_by c.args.self.now (λ z. (goal.Segment-dyn g z).holding z.1)) c.durable_end-last.result c.requires c.durable_end-last.ensures.value in
     let least = c.min-known.ensures in
     omega arith
 

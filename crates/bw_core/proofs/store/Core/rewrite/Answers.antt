@@ -8,12 +8,13 @@ use Rattle.bw_core.specs.Faults.{FlushAnswers, refusal_by}
 use Rattle.bw_log.specs.Contents.{roster}
 use Rattle.bw_log.specs.Reads.{IsPage}
 use Rattle.bw_core.specs.Following.{Follows}
-use Rattle.bw_core.specs.Kept.{Kept}
+use Rattle.bw_core.specs.Kept.{IsSound, Kept}
 use Rattle.bw_core.specs.Emptied.{Emptied}
 use Rattle.bw_core.specs.Rewriting.{are_pages, RewriteMoves}
 use Rattle.bw_core.specs.Views.{kept_by}
 use Rattle.bw_core.proofs.CleanedMore.{goes_on}
 use Rattle.bw_core.proofs.FollowMore.{follow_then, follows_as, follows_left}
+use Rattle.bw_core.proofs.Machines.{flush_stops, may_leave, rewrite_keeps}
 use Rattle.bw_core.proofs.Refusing.{never_page}
 use Rattle.bw_core.proofs.SettledMore.{settled_by}
 use Rattle.bw_core.proofs.RewrittenMore.{all_there, same_count, rewrite_stays, never_no_page}
@@ -92,3 +93,33 @@ returns-clause-no_page g c =
     let are : are_pages (length old.filed.leaves) c.args.pages.now ≡ true =
     ap (λ (n : ℕ). are_pages n c.args.pages.now) (sym c.count.ensures.value) ∙ sym c.are_pages.ensures ∙ c.if-not-are_pages.false in
     (λ e. absurd (never_no_page _ _ c.args.pages.now c.rewrite_pages.result c.rewrite_pages.ensures.leaves e), λ none. absurd (true≢false (sym are ∙ none)))
+
+pub returns-then-not-are_pages-clause-steps : goal.returns-then-not-are_pages-clause-steps
+returns-then-not-are_pages-clause-steps g c = inr (inl refl)
+
+pub returns-then-not-are_pages-clause-may_leave : goal.returns-then-not-are_pages-clause-may_leave
+returns-then-not-are_pages-clause-may_leave g c = may_leave _ c.requires.sound
+
+pub returns-in_err-flush_making-clause-steps : goal.returns-in_err-flush_making-clause-steps
+returns-in_err-flush_making-clause-steps g c =
+    let p = err_from_is_err_and c.from_residual.result c.from_residual.ensures.1 in
+    rw p.1 (inr (flush_stops true _ _ _ c.requires.sound c.in_err-flush_making.ensures.answers c.in_err-flush_making.ensures.leaves))
+
+pub returns-in_err-flush_making-clause-may_leave : goal.returns-in_err-flush_making-clause-may_leave
+returns-in_err-flush_making-clause-may_leave g c = may_leave _ c.flush_making.ensures.sound
+
+pub returns-in_err-reserve_cuts-clause-steps : goal.returns-in_err-reserve_cuts-clause-steps
+returns-in_err-reserve_cuts-clause-steps g c =
+    rewrite_keeps (kept_by c.args.self.now (λ z. (goal.Segment-dyn g z).holding z.1)) (kept_by c.reserve_cuts.new.self (λ z. (goal.Segment-dyn g z).holding z.1)) c.args.pages.now c.from_residual-in_err-reserve_cuts.result c.requires.sound
+    (returns-in_err-reserve_cuts-clause-leaves g c)
+
+pub returns-in_err-reserve_cuts-clause-may_leave : goal.returns-in_err-reserve_cuts-clause-may_leave
+returns-in_err-reserve_cuts-clause-may_leave g c =
+    may_leave _ (subst IsSound (sym c.reserve_cuts.ensures.same) c.flush_making.ensures.sound)
+
+pub returns-clause-steps : goal.returns-clause-steps
+returns-clause-steps g c =
+    rewrite_keeps (kept_by c.args.self.now (λ z. (goal.Segment-dyn g z).holding z.1)) (kept_by c.rewrite_pages.new.self (λ z. (goal.Segment-dyn g z).holding z.1)) c.args.pages.now c.rewrite_pages.result c.requires.sound (returns-clause-leaves g c)
+
+pub returns-clause-may_leave : goal.returns-clause-may_leave
+returns-clause-may_leave g c = may_leave _ c.rewrite_pages.ensures.sound

@@ -1,6 +1,7 @@
 use Rattle.std.proofs.Common.{refl, ◌∙◌, arith}
 use Rattle.std.proofs.lemmas.Result.{err_from_is_err_and}
 use Rattle.bw_core.proofs.FollowMore.{no_groups, refused_turned}
+use Rattle.bw_core.proofs.Machines.{may_leave, refused_stops, turn_takes}
 use Rattle.bw_core.proofs.store.Core.turn.Goals as goal
 
 pub rounds-init : goal.rounds-init
@@ -57,3 +58,23 @@ pub returns-in_err-more-clause-tried : goal.returns-in_err-more-clause-tried
 returns-in_err-more-clause-tried g c =
     let p = err_from_is_err_and c.from_residual.result c.from_residual.ensures.1 in
     rw p.1 (c.in_err-more.ensures.turned _ c.rounds.invariant.turned).1
+
+pub returns-then-more-taken-clause-steps : goal.returns-then-more-taken-clause-steps
+returns-then-more-taken-clause-steps g c = turn_takes _ _ _ c.requires.sound (c.in_ok-more.ensures.turned _ c.rounds.invariant.turned).0
+
+pub returns-then-more-taken-clause-may_leave : goal.returns-then-more-taken-clause-may_leave
+returns-then-more-taken-clause-may_leave g c = may_leave _ c.round_more.ensures.sound
+
+pub returns-clause-steps : goal.returns-clause-steps
+returns-clause-steps g c = turn_takes _ _ _ c.requires.sound c.rounds.invariant.turned.0
+
+pub returns-clause-may_leave : goal.returns-clause-may_leave
+returns-clause-may_leave g c = may_leave _ c.rounds.invariant.sound
+
+pub returns-in_err-more-clause-steps : goal.returns-in_err-more-clause-steps
+returns-in_err-more-clause-steps g c =
+    let p = err_from_is_err_and c.from_residual.result c.from_residual.ensures.1 in
+    rw p.1 (refused_stops _ _ _ _ _ _ c.requires.sound (c.in_err-more.ensures.turned _ c.rounds.invariant.turned).0)
+
+pub returns-in_err-more-clause-may_leave : goal.returns-in_err-more-clause-may_leave
+returns-in_err-more-clause-may_leave g c = may_leave _ c.round_more.ensures.sound

@@ -13,36 +13,36 @@ durable_end-end-requires g c = c.requires.sound.base
 
 pub entries-fresh-requires-clause-order : goal.entries-fresh-requires-clause-order
 entries-fresh-requires-clause-order g c =
-    let low = known_within (kept_by c.args.self.now (λ z. (goal.Segment-dyn g z).holding z.1)) c.durable_end-end.result c.requires.sound c.durable_end-end.ensures in
+    let low = known_within (kept_by c.args.self.now (λ z. (goal.Segment-dyn g z).holding z.1)) c.durable_end-end.result c.requires.sound c.durable_end-end.ensures.value in
     let known = c.entered-known.ensures in
     omega arith
 
 pub entries-fresh-requires-clause-within : goal.entries-fresh-requires-clause-within
 entries-fresh-requires-clause-within g c =
-    end_within (kept_by c.args.self.now (λ z. (goal.Segment-dyn g z).holding z.1)) c.durable_end-end.result c.requires.sound c.durable_end-end.ensures
+    end_within (kept_by c.args.self.now (λ z. (goal.Segment-dyn g z).holding z.1)) c.durable_end-end.result c.requires.sound c.durable_end-end.ensures.value
 
 pub publish_up_to-went-requires : goal.publish_up_to-went-requires
 publish_up_to-went-requires g c =
     fresh_count (kept_by c.args.self.now (λ z. (goal.Segment-dyn g z).holding z.1)) c.durable_end-end.result c.entered-known.result c.entries-fresh.result.now
-    c.requires.sound c.durable_end-end.ensures c.entered-known.ensures c.entries-fresh.ensures
+    c.requires.sound c.durable_end-end.ensures.value c.entered-known.ensures c.entries-fresh.ensures
 
 pub returns-clause-sound : goal.returns-clause-sound
 returns-clause-sound g c =
     let s = kept_by c.args.self.now (λ z. (goal.Segment-dyn g z).holding z.1) in
-    let all = fresh_is s c.durable_end-end.result c.entered-known.result c.entries-fresh.result.now c.requires.sound c.durable_end-end.ensures
+    let all = fresh_is s c.durable_end-end.result c.entered-known.result c.entries-fresh.result.now c.requires.sound c.durable_end-end.ensures.value
     c.entered-known.ensures c.entries-fresh.ensures in
     publish_sound s c.publish_up_to-went.new.self c.durable_end-end.result s.entries c.requires.sound
-    c.durable_end-end.ensures refl c.publish_up_to-went.ensures.same
+    c.durable_end-end.ensures.value refl c.publish_up_to-went.ensures.same
     (subst (IsPrefix (entries_of c.publish_up_to-went.new.self.entered)) all c.publish_up_to-went.ensures.begins)
     (subst (EntersWhole s.versions.entered c.publish_up_to-went.new.self.entered) all c.publish_up_to-went.ensures.whole)
 
 pub returns-clause-leaves : goal.returns-clause-leaves
 returns-clause-leaves g c =
     let s = kept_by c.args.self.now (λ z. (goal.Segment-dyn g z).holding z.1) in
-    let all = fresh_is s c.durable_end-end.result c.entered-known.result c.entries-fresh.result.now c.requires.sound c.durable_end-end.ensures
+    let all = fresh_is s c.durable_end-end.result c.entered-known.result c.entries-fresh.result.now c.requires.sound c.durable_end-end.ensures.value
     c.entered-known.ensures c.entries-fresh.ensures in
     publish_leaves s c.publish_up_to-went.new.self c.publish_up_to-went.result c.durable_end-end.result
-    s.entries c.requires.sound c.durable_end-end.ensures refl c.publish_up_to-went.ensures.same
+    s.entries c.requires.sound c.durable_end-end.ensures.value refl c.publish_up_to-went.ensures.same
     (subst (λ (es : List Entry). OnOk c.publish_up_to-went.result (posted_of c.publish_up_to-went.new.self.published
     ≡ Some (record { start = s.versions.start; entries = es }))) all c.publish_up_to-went.ensures.published)
     c.publish_up_to-went.ensures.grows c.publish_up_to-went.ensures.unchanged

@@ -1,0 +1,2 @@
+mod NextKey
+mod Prefixes

@@ -1,0 +1,92 @@
+-- The machine that a store is: what was taken, how much of it a stop leaves, and how much of it readers see. Pages, frames
+-- and segments are how a store does it; this is what it does.
+
+use Rattle.std.specs.Prelude.{ℕ, zero, suc, ◌≡◌, ◌≤◌, ◌⊎◌, ◌++◌, true, List, length, take}
+use Rattle.bw_history.specs.declared.entry.Entry.{Entry}
+use Rattle.bw_history.specs.History.{ends_in, is_grouped}
+
+pub record Machine : Type 0 where
+  -- all that was taken, in the order in which it was taken
+  pub entries : List Entry
+  -- how many of them are durable: every stop leaves them
+  pub durable : ℕ
+  -- how many of them a stop may leave: more than are durable only where an append failed, of which all may have been written
+  pub written : ℕ
+  -- how many of them readers see
+  pub shown : ℕ
+
+-- ---- steps
+
+-- one writer's records, all of one group
+abbrev pub IsGroup : List Entry → Type 0
+IsGroup group = (is_grouped group ≡ true) × (ends_in group ≡ 1)
+
+-- a group is taken: it goes behind all that was taken before
+abbrev pub takes : List Entry → Machine → Machine
+takes group m = record m { entries = m.entries ++ group }
+
+-- all that was taken is kept
+abbrev pub keeps : Machine → Machine
+keeps m = record m { durable = length m.entries; written = length m.entries }
+
+-- it was to be kept, and the append failed
+abbrev pub breaks : Machine → Machine
+breaks m = record m { written = length m.entries }
+
+-- readers see what is durable
+abbrev pub shows : Machine → Machine
+shows m = record m { shown = m.durable }
+
+abbrev pub Step : Machine → Machine → Type 0
+Step old new =
+    ((group : List Entry) × IsGroup group × (new ≡ takes group old))
+    ⊎ ((new ≡ keeps old) ⊎ ((new ≡ breaks old) ⊎ (new ≡ shows old)))
+
+abbrev pub Steps : ℕ → Machine → Machine → Type 0
+Steps zero old new = new ≡ old
+Steps (suc n) old new = (middle : Machine) × Steps n old middle × Step middle new
+
+-- ---- stops
+
+-- the entries that a stop leaves
+abbrev pub MayLeave : Machine → List Entry → Type 0
+MayLeave m left = (left ≡ take m.durable m.entries) ⊎ (left ≡ take m.written m.entries)
+
+-- a stop, and a store that goes on from what it left
+abbrev pub Crash : Machine → Machine → Type 0
+Crash old new =
+    MayLeave old new.entries × (new.durable ≡ length new.entries) × (new.written ≡ length new.entries) × (new.shown ≡ length new.entries)
+
+-- ---- what holds between steps
+
+pub record IsMachine (m : Machine) : Type 0 where
+  -- no group is there in part, and no stop leaves one in part
+  pub whole : is_grouped m.entries ≡ true
+  pub kept : is_grouped (take m.durable m.entries) ≡ true
+  pub left : is_grouped (take m.written m.entries) ≡ true
+  pub shown : m.shown ≤ m.durable
+  pub durable : m.durable ≤ m.written
+  pub written : m.written ≤ length m.entries
+
+-- ---- steps of calls
+
+-- a group is taken; before it, what was taken may be kept
+abbrev pub TakesOne : Machine → Machine → Type 0
+TakesOne old new = (group : List Entry) × IsGroup group × ((new ≡ takes group old) ⊎ (new ≡ takes group (keeps old)))
+
+-- so many groups are, one after the other
+abbrev pub TakesMany : ℕ → Machine → Machine → Type 0
+TakesMany zero old new = new ≡ old
+TakesMany (suc n) old new = (middle : Machine) × TakesMany n old middle × TakesOne middle new
+
+-- nothing is done, or an append failed
+abbrev pub Stops : Machine → Machine → Type 0
+Stops old new = (new ≡ old) ⊎ (new ≡ breaks old)
+
+-- groups are taken, and then all that was taken is kept
+abbrev pub TakesAndKeeps : Machine → Machine → Type 0
+TakesAndKeeps old new = (n : ℕ) × (middle : Machine) × TakesMany n old middle × (new ≡ keeps middle)
+
+-- groups are taken, and then the next step was refused: what was taken may have been kept before
+abbrev pub TakesAndStops : Machine → Machine → Type 0
+TakesAndStops old new = (n : ℕ) × (middle : Machine) × TakesMany n old middle × ((new ≡ keeps middle) ⊎ Stops middle new)

@@ -1,0 +1,15 @@
+//! What somebody who waits for work is told of it.
+//!
+//! Work that goes on says to a `Watch` how far it is. `Progress` tells that on a terminal, by one line
+//! that is written over, once the whole has taken a second; where there is no terminal it tells
+//! nothing of it. `Unseen` tells nothing at all. No function has a clause: nothing hangs on what is
+//! told.
+#![tactic(auto)]
+
+mod amount;
+mod progress;
+mod watch;
+
+pub use amount::{Amount, Unit};
+pub use progress::{Progress, folder_bytes, input_bytes};
+pub use watch::{Unseen, Watch, Work};
