@@ -1,4 +1,4 @@
-use Rattle.std.proofs.Common.{ℕ, zero, suc, List, [], ◌∷◌, ◌≡◌, ◌<◌, length, get_or, refl, ◌∙◌, append-nil, arith, sym}
+use Rattle.std.proofs.Common.{ℕ, zero, suc, List, [], ◌∷◌, ◌≡◌, ◌<◌, length, get_or, refl, ◌∙◌, arith}
 use Rattle.bw_buffer.specs.Rows.{front_of}
 use Rattle.bw_buffer.specs.declared.rows.Piece.{Piece}
 use Rattle.bw_buffer.proofs.ReadBack.{front_short, piece_inside, piece_behind, piece_next, pieces_all}

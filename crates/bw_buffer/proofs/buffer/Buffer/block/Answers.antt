@@ -1,7 +1,6 @@
 use Rattle.std.proofs.Common.{◌++◌, List, ℕ, length, ap, sym, ◌∙◌, arith}
 use Rattle.std.specs.List.{slice_get}
 use Rattle.bw_buffer.specs.Filling.{Filling}
-use Rattle.bw_buffer.specs.Laid.{parts_of}
 use Rattle.bw_buffer.specs.Rows.{bytes_at, front_of, parts}
 use Rattle.bw_buffer.specs.declared.rows.Piece.{Piece}
 use Rattle.bw_buffer.proofs.Holding.{counted}
