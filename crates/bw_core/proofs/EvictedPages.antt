@@ -110,11 +110,11 @@ module _ (s : Kept) (h : IsSound s) (p : ℕ) (from : 1 ≤ p) (within : p ≤ l
       ap (value_on k) (evicted_page below.0 below.1) ∙ tells.value
       ∙ ap (λ (w : Option Leaf). told_by (records_word k (ops_at p s.making.blocks)) (value_on k w)) (sym below.1)
 
-  -- the same by what its tail says
-  pub told_value : (k : Bytes) (tail : List Record) (word : Word) → tail ≡ ops_at p s.making.blocks → word ≡ records_word k tail
+  -- the same by what these records say
+  pub told_value : (k : Bytes) (word : Word) → word ≡ records_word k (ops_at p s.making.blocks)
       → told_by word (value_on k (content p (blocks_of (logs.counted s.log)))) ≡ value_on k (leaf_at p s.filed.leaves)
-  told_value k tail word is said =
-      ap (λ (w : Word). told_by w (value_on k (content p (blocks_of (logs.counted s.log))))) (said ∙ ap (records_word k) is)
+  told_value k word said =
+      ap (λ (w : Word). told_by w (value_on k (content p (blocks_of (logs.counted s.log))))) said
       ∙ sym (evicted_value k)
 
 -- ---- where a page is

@@ -165,8 +165,6 @@ impl Core {
     // A store of these ends over what was recovered.
     fn again(alloc: Global, ends: Ends, recovered: Recovered) -> (Core, Vec<Feed>)
         requires sound { IsSoundLog recovered.log holding }
-        requires tails { map tail_of ends.tails.items
-            ≡ tails_for (length recovered.leaves.leaves) ends.making.blocks }
         requires here { recovered.leaves.evicted ≡ [] }
         requires gone { ends.intake.history.gone ≡ 0 }
         ensures store { kept_by result.0 holding
