@@ -1,11 +1,9 @@
 -- Row after row of a group is noted.
 
-use Rattle.std.proofs.Common.{◌≡◌, ℕ, Bool, map, length-set, length-append, zero, suc, ◌+◌, ◌-◌, ◌<◌, ◌≤◌, Option, Some, None, List, [], ◌∷◌, ◌++◌}
-use Rattle.std.proofs.Common.{length, set, take, drop, get_or, refl, sym, ap, ◌∙◌, subst, arith}
-use Rattle.std.specs.Prelude.{is_some, IfSome}
-use Rattle.std.specs.List.{AllByRecursion as All, fold, slice_index_or}
-use Rattle.std.proofs.lemmas.List.{take_more, drop_more, length-map}
-use Rattle.bw_record.specs.declared.record.Record.{Record}
+use Rattle.std.proofs.Common.{◌≡◌, ℕ, zero, suc, ◌+◌, ◌<◌, ◌≤◌, List, [], ◌∷◌}
+use Rattle.std.proofs.Common.{length, drop, get_or, refl, sym, ap, ◌∙◌, subst, arith}
+use Rattle.std.specs.List.{fold}
+use Rattle.std.proofs.lemmas.List.{drop_more}
 use Rattle.bw_codec.specs.declared.block.Place.{Place}
 use Rattle.bw_making.specs.declared.draft.Row.{Row}
 use Rattle.bw_making.specs.Drafting.{AreIn, count_by, set_row}
