@@ -11,3 +11,4 @@ pub mod Sealing
 pub mod Passes
 pub mod Several
 pub mod Closing
+pub mod ReadBack

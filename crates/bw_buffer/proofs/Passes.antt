@@ -70,7 +70,7 @@ drop_nothing : (n : ℕ) → drop n nothing ≡ nothing
 drop_nothing zero = refl
 drop_nothing (suc n) = refl
 
-drop_sum : (bytes : List ℕ) (a b : ℕ) → drop b (drop a bytes) ≡ drop (a + b) bytes
+pub drop_sum : (bytes : List ℕ) (a b : ℕ) → drop b (drop a bytes) ≡ drop (a + b) bytes
 drop_sum bytes zero b = ap (λ (n : ℕ). drop n bytes) (omega arith)
 drop_sum [] (suc a) b = drop_nothing b ∙ sym (drop_nothing (suc a + b))
 drop_sum (x ∷ xs) (suc a) b = drop_sum xs a b ∙ ap (λ (n : ℕ). drop n (x ∷ xs)) (let e : suc (a + b) ≡ suc a + b = omega arith in e)

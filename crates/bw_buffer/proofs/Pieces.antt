@@ -149,7 +149,7 @@ rows_mark i zero (x ∷ xs) ps (c ∷ cs) row b h r e =
     (let one : x ≡ row = cc in let two : c ≡ b = cc in ap (λ (y : Row). y.mark) (sym one) ∙ row_mark x (bytes_at i ps) c h.0 ∙ ap mark_of two)
 rows_mark i (suc k) (x ∷ xs) ps (c ∷ cs) row b h r e = rows_mark (suc i) k xs ps cs row b h.1 r e
 
-row_spelled : (row : Row) (bytes : List ℕ) (b : Block) → IsRow row bytes b → front_of row ++ bytes ≡ block_bytes b
+pub row_spelled : (row : Row) (bytes : List ℕ) (b : Block) → IsRow row bytes b → front_of row ++ bytes ≡ block_bytes b
 row_spelled row bytes (Delta page back ops) h =
     rw (h.0, h.1, h.2, h.4)
     (ap (λ (l : List ℕ). 1 ∷ l)

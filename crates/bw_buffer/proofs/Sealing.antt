@@ -16,7 +16,7 @@ use Rattle.bw_buffer.specs.declared.buffer.Buffer.TheInside.{Inside}
 use Rattle.bw_buffer.proofs.Pieces.{rows_spelled, rows_count}
 use Rattle.bw_buffer.proofs.Holding.{few_blocks}
 
-row_measured : (row : Row) (bytes : List ℕ) (b : Block) → IsBlock 32 b → IsRow row bytes b → (row.len ≡ length bytes) × IsFewBy row.mark row.ops
+pub row_measured : (row : Row) (bytes : List ℕ) (b : Block) → IsBlock 32 b → IsRow row bytes b → (row.len ≡ length bytes) × IsFewBy row.mark row.ops
 row_measured row bytes (Delta page back ops) law h = (
   h.3,
   subst (λ (m : Mark). IsFewBy m row.ops) (sym h.0)

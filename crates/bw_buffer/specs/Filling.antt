@@ -42,3 +42,7 @@ IsLawfulFrame b = (m : ℕ) → 1 ≤ length b.blocks → AllByRecursion (IsBloc
 -- bytes are those of a lawful Base of this page
 abbrev pub SpellsBase : ℕ → List ℕ → Type 0
 SpellsBase page bytes = (leaf : Leaf) × (leaf.page ≡ page) × IsBlock 32 (Base leaf) × (bytes ≡ block_bytes (Base leaf))
+
+-- bytes are those of a lawful block
+abbrev pub SpellsBlock : List ℕ → Type 0
+SpellsBlock bytes = (block : Block) × IsBlock 32 block × (bytes ≡ block_bytes block)

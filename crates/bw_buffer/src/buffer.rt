@@ -15,6 +15,7 @@ ghost use Rattle.bw_buffer.specs.Counting.{grown, records_with};
 ghost use Rattle.bw_buffer.specs.Marks.{mark_of, is_closed_by};
 ghost use Rattle.bw_buffer.specs.Rows.{IsUntouched};
 
+use crate::back::{block_from, spelled};
 use crate::fault::PutError;
 use crate::index::{Index, forget, forget_all, look, note};
 use crate::layout::{copy_in, lay_out};
@@ -487,6 +488,23 @@ impl Buffer {
         ensures { IfSome (slice_get self.now.blocks i) (λ block. result ≡ mark_of block) }
     {
         self.rows[i as usize].mark
+    }
+
+    /// A copy of the block of this index, from 0, sealed or not: it is read back out of its bytes. A
+    /// refused growth is the only error. Time is linear in the bytes of the block, and in how often
+    /// blocks were put into the frame: each piece of it is looked at.
+    pub fn block(&self, alloc: Global, i: u32) -> Result<Block, AllocError>
+        requires { i < length self.now.blocks }
+        ensures { IfOk result (λ block. slice_get self.now.blocks i ≡ Some block) }
+    {
+        let bytes = spelled(
+            alloc,
+            i,
+            &self.rows[i as usize],
+            self.pieces.as_slice(),
+            self.arena.as_slice(),
+        )?;
+        block_from(alloc, bytes.as_slice())
     }
 
     /// The frame's bytes, once it is sealed. Nothing is copied.

@@ -36,8 +36,8 @@ fn push_gap(len: u32, bytes: &mut Vec<u8>)
     }
 }
 
-// Appends what stands before a block's pieces.
-fn push_front(row: &Row, bytes: &mut Vec<u8>)
+/// Appends what stands before a block's pieces.
+pub(crate) fn push_front(row: &Row, bytes: &mut Vec<u8>)
     requires room { HasRoom bytes.old (length (front_of row.now)) }
     requires few { IsFewBy row.now.mark row.now.ops }
     ensures { Adds bytes.old bytes.new (front_of row.now) }

@@ -14,6 +14,7 @@
 //! stays true to the end.
 #![tactic(auto)]
 
+mod back;
 mod buffer;
 mod fault;
 mod index;

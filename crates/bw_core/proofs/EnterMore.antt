@@ -27,18 +27,18 @@ use Rattle.bw_making.specs.declared.draft.Row.{Row}
 use Rattle.bw_making.specs.declared.draft.Draft.{Draft}
 use Rattle.bw_making.specs.Adding.{Drawn, back_in, blocks_in, blocks_all, drawn_by, here_for, result_of}
 use Rattle.bw_core.specs.Drafting.{IsDraft, drawn_behind}
-use Rattle.bw_making.specs.Drafting.{AreIn, rows_all, set_row, tails_all}
+use Rattle.bw_making.specs.Drafting.{AreIn, rows_all, set_row}
 use Rattle.bw_core.specs.Fitting.{Fits, drawn_of, group_blocks}
 use Rattle.bw_history.specs.History.{entered}
 use Rattle.bw_core.specs.Kept.{Kept, Filed, IsSound}
-use Rattle.bw_making.specs.Tails.{tails_for, is_made}
+use Rattle.bw_making.specs.Tails.{is_made}
 use Rattle.bw_core.specs.Faults.{fault_of_apply}
 use Rattle.bw_core.specs.Taken.{taken_all}
 use Rattle.bw_core.specs.declared.fault.StoreFault.{StoreFault}
 use Rattle.bw_core.specs.Taking.{GroupLeaves, IsUnplanned, IsWanting, MakesRoom, Works}
 use Rattle.bw_core.proofs.Planned.{entered_or_not}
 use Rattle.bw_core.proofs.Drafts.{items_marked, leaves_all, made_all}
-use Rattle.bw_core.proofs.GroupMore.{Lawful, rows_in, rows_set, rows_tails, rows_evicted, length_rows, rows_from, fresh_fits, spent_pages, taken_is}
+use Rattle.bw_core.proofs.GroupMore.{Lawful, rows_in, rows_set, rows_evicted, length_rows, fresh_fits, spent_pages, taken_is}
 use Rattle.bw_core.proofs.GroupMore.{taken_all_sound}
 
 -- the records of a sound store are lawful where there is a number for each page that they make
@@ -72,9 +72,6 @@ module _ (s : Kept) (group : List Record) (d : Draft) (h : IsSound s) (ops : All
       subst (λ (k : ℕ). AreIn k rows) (sym count)
       (subst (AreIn (length s.filed.leaves)) (sym (same ∙ is.rows)) (rows_in s.filed.m (drawn_of s) group lawful_now))
 
-  pub rows_begin : (rows : List Row) → rows ≡ d.rows.items → All (λ row. 1 ≤ row.page) rows
-  rows_begin rows same = rows_from (length s.filed.leaves) rows (rows_inside (length s.filed.leaves) rows refl same)
-
   pub rows_many : (rows : List Row) → rows ≡ d.rows.items → length rows ≡ length group
   rows_many rows same = ap length (same ∙ is.rows) ∙ length_rows s.filed.m (drawn_of s) group
 
@@ -103,21 +100,6 @@ module _ (s : Kept) (group : List Record) (d : Draft) (h : IsSound s) (ops : All
 
   leaves_is : (leaves : List Leaf) → leaves ≡ pages s.filed.m s.filed.leaves group → leaves ≡ (drawn_behind s group).leaves
   leaves_is leaves e = e ∙ sym (leaves_all s.filed.m (drawn_of s) group)
-
-  -- the tails
-  pub tails_now : (told was : List (Option (List Record))) (rows : List Row) (records : List Record) (making : Filling) (blocks : List Block)
-      (leaves : List Leaf)
-      → rows ≡ d.rows.items → records ≡ group → was ≡ tails_for (length s.filed.leaves) s.making.blocks → told ≡ tails_all rows records was
-      → making ≡ with_all s.making blocks → blocks ≡ d.blocks.items → leaves ≡ pages s.filed.m s.filed.leaves group
-      → told ≡ tails_for (length leaves) making.blocks
-  tails_now told was rows records making blocks leaves same_rows same_records before noted made same after =
-      noted
-      ∙ ap (λ (l : List Row). tails_all l records was) (same_rows ∙ is.rows)
-      ∙ ap (λ (l : List Record). tails_all (rows_all s.filed.m (drawn_of s) group) l was) same_records
-      ∙ ap (tails_all (rows_all s.filed.m (drawn_of s) group) group) before
-      ∙ rows_tails s.filed.m (drawn_of s) group lawful_now
-      ∙ ap (λ (ls : List Leaf). tails_for (length ls) (drawn_behind s group).frame.blocks) (sym (leaves_is leaves after))
-      ∙ ap (tails_for (length leaves)) (sym (making_blocks making blocks made same))
 
   -- a page that is evicted is not made
   pub evicted_now : (evicted : List ℕ) (q : ℕ) (making : Filling) (blocks : List Block)

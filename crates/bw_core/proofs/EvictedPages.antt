@@ -1,11 +1,11 @@
--- A page that the frame in the making neither makes nor cuts is in the log, and its tail leads from there to it.
+-- A page that the frame in the making neither makes nor cuts is in the log, and the records of that frame lead from there to it.
 
 use Rattle.std.proofs.Common.{Ok, ◌≡◌, ℕ, zero, suc, ◌+◌, ◌<◌, ◌≤◌, inl, inr, Bool, true, false, Option, Some, None, Result, Err, List, [], ◌∷◌, ◌++◌}
 use Rattle.std.proofs.Common.{length, refl, sym, ap, ◌∙◌, subst, arith, append-nil, if◌then◌else◌}
 use Rattle.std.specs.Prelude.{◌==◌, ◌||◌, ◌&&◌, nat_le, nat_lt, not, is_some, is_none, IsTrue, IsErrOf, IfOk}
 use Rattle.std.specs.List.{AllByRecursion as All, fold, list_any, slice_get}
-use Rattle.std.proofs.lemmas.Bool.{ne_eqb, eqb-true, leb-true, leb-false}
-use Rattle.std.proofs.lemmas.Grind.{flat_map-append}
+use Rattle.std.proofs.lemmas.Bool.{ne_eqb, eq-eqb, eqb-true, leb-true, leb-false}
+use Rattle.std.proofs.lemmas.Grind.{fold-append}
 use Rattle.std.proofs.lemmas.List.Folds.{list_any-append}
 use Rattle.bw_record.specs.Keys.{ascends}
 use Rattle.bw_record.specs.Lawful.{IsOp}
@@ -35,6 +35,7 @@ use Rattle.bw_buffer.specs.Joining.{added}
 use Rattle.bw_log.specs.Contents as logs
 use Rattle.bw_log.specs.declared.fault.LogFault.{LogFault}
 use Rattle.bw_log.specs.declared.fault.LogFault.TheVariants as log
+use Rattle.bw_log.specs.Places.{placed, all_placed, later, last_place, place_of}
 use Rattle.bw_log.specs.Reads.{IsPage, StopsAt}
 use Rattle.bw_log.proofs.Walks.{content_push}
 use Rattle.bw_core.specs.declared.fault.StoreFault.{StoreFault}
@@ -45,7 +46,7 @@ use Rattle.bw_core.specs.Kept.{Kept, IsSound}
 use Rattle.bw_core.specs.Faults.{fault_of}
 use Rattle.bw_core.specs.Reading.{leaves_now, ReadLeaves, with_log}
 use Rattle.bw_making.specs.Share.{ops_at}
-use Rattle.bw_making.specs.Tails.{Tailed, tail_of, tail_for, makes, is_made, tails_for, tails_after}
+use Rattle.bw_making.specs.Tails.{makes, is_made}
 use Rattle.bw_leaf.specs.Words.{told_by, records_word, value_on}
 use Rattle.bw_leaf.specs.declared.words.Word.{Word}
 use Rattle.bw_leaf.proofs.Wording.{records_tell}
@@ -54,7 +55,7 @@ use Rattle.bw_log.proofs.Walked.{page_set}
 use Rattle.bw_making.proofs.Joins.{none_touches, added_made}
 use Rattle.bw_core.proofs.Stepping.{length-applied}
 use Rattle.bw_making.proofs.TailSteps.{over_tail, never_made}
-use Rattle.bw_making.proofs.TailLists.{tails_delta, tails_split}
+use Rattle.bw_core.proofs.Placing.{placed_push}
 
 -- ---- a page in the log
 
@@ -109,11 +110,11 @@ module _ (s : Kept) (h : IsSound s) (p : ℕ) (from : 1 ≤ p) (within : p ≤ l
       ap (value_on k) (evicted_page below.0 below.1) ∙ tells.value
       ∙ ap (λ (w : Option Leaf). told_by (records_word k (ops_at p s.making.blocks)) (value_on k w)) (sym below.1)
 
-  -- the same by what its tail says
-  pub told_value : (k : Bytes) (tail : List Record) (word : Word) → tail ≡ ops_at p s.making.blocks → word ≡ records_word k tail
+  -- the same by what these records say
+  pub told_value : (k : Bytes) (word : Word) → word ≡ records_word k (ops_at p s.making.blocks)
       → told_by word (value_on k (content p (blocks_of (logs.counted s.log)))) ≡ value_on k (leaf_at p s.filed.leaves)
-  told_value k tail word is said =
-      ap (λ (w : Word). told_by w (value_on k (content p (blocks_of (logs.counted s.log))))) (said ∙ ap (records_word k) is)
+  told_value k word said =
+      ap (λ (w : Word). told_by w (value_on k (content p (blocks_of (logs.counted s.log))))) said
       ∙ sym (evicted_value k)
 
 -- ---- where a page is
@@ -138,32 +139,12 @@ none_evicted f p o is none from to =
     (let gone = here_or_evicted f p false (sym (ap (λ (x : Option Leaf). is_some x) (is ∙ none))) from to in
     elim (is_evicted_page p f) as (λ b. false ≡ not b → b ≡ true) [ true ↦ λ e. refl | false ↦ λ e. absurd cc ] gone)
 
--- a page without a tail is one that the frame in the making makes or cuts
-made_as : (tail : Option Tailed) (blocks : List Block) (p : ℕ) → tail_of tail ≡ tail_for blocks p → is_none tail ≡ is_made p blocks
-made_as tail blocks p e =
-    elim (is_made p blocks) as (λ b. tail_of tail ≡ (if b then None else Some (ops_at p blocks)) → is_none tail ≡ b) [
-      | true ↦ λ none. no_tail tail none
-      | false ↦ λ some. a_tail tail (ops_at p blocks) some
-    ] e
-  where
-    no_tail : (t : Option Tailed) → tail_of t ≡ None → is_none t ≡ true
-    no_tail None e = refl
-    no_tail (Some t) e = absurd cc
-
-    a_tail : (t : Option Tailed) (rs : List Record) → tail_of t ≡ Some rs → is_none t ≡ false
-    a_tail None rs e = absurd cc
-    a_tail (Some t) rs e = refl
-
 pub kept_apart : (evicted made : Bool) → made ≡ true → false ≡ (not evicted && not made)
 kept_apart true made is = refl
 kept_apart false made is = (rw is refl)
 
 pub was_evicted : {A : Type 0} (b : Bool) → b ≡ true → b ≡ false → A
 was_evicted b sure not = absurd cc
-
-pub none_made : (tail : Option Tailed) (blocks : List Block) (p : ℕ) (none : Bool) → is_some tail ≡ not none → tail_of tail ≡ tail_for blocks p
-    → is_made p blocks ≡ none
-none_made tail blocks p none is e = sym (made_as tail blocks p e) ∙ ap not is ∙ elim none as (λ b. not (not b) ≡ b) [ true ↦ refl | false ↦ refl ]
 
 -- a page more is evicted
 pub evicted_more : (old new : Shown) (page : ℕ) (blocks : List Block)
@@ -252,47 +233,43 @@ pub evicted_refused : (s : Kept) → IsSound s → (p : ℕ) → 1 ≤ p → p �
 evicted_refused s h p from within apart A reads new fault stops none =
     read_refused A reads s new fault stops (λ e. none e (on_log s h p from within apart))
 
--- ---- the pages that the frame in the making touches
+-- ---- a page whose newest block stands elsewhere
 
-zero_untouched : (m : ℕ) (blocks : List Block) → All (IsBlock m) blocks → list_any (touches 0) blocks ≡ false
-zero_untouched m [] h = refl
-zero_untouched m (Delta page back ops ∷ bs) h =
-    (let low = h.0.changes.0 in rw (ne_eqb page 0 (λ e. absurd (omega arith))) (zero_untouched m bs h.1))
-zero_untouched m (Base leaf ∷ bs) h =
-    (let low = h.0.page.0 in rw (ne_eqb leaf.page 0 (λ e. absurd (omega arith))) (zero_untouched m bs h.1))
-zero_untouched m (Split page back upper ∷ bs) h =
-    (let low = h.0.cuts.0 in
-    let high = h.0.makes.page.0 in
-    rw (ne_eqb page 0 (λ e. absurd (omega arith)), ne_eqb upper.page 0 (λ e. absurd (omega arith))) (zero_untouched m bs h.1))
+-- the last place of blocks behind one that stands in this frame is in this frame
+place_stays : (p number i : ℕ) (was place : Place) (bs : List Block) → fold (later (touches p)) (Some was) (placed number i bs) ≡ Some place
+    → was.frame ≡ number → place.frame ≡ number
+place_stays p number i was place [] e at = (let same : was ≡ place = cc in ap (λ (x : Place). x.frame) (sym same) ∙ at)
+place_stays p number i was place (b ∷ bs) e at =
+    elim (touches p b) as (λ t. fold (later (touches p)) (if t then Some (record { frame = number; index = i }) else Some was) (placed number (i + 1) bs)
+    ≡ Some place → place.frame ≡ number) [
+      | true ↦ λ f. place_stays p number (i + 1) (record { frame = number; index = i }) place bs f refl
+      | false ↦ λ f. place_stays p number (i + 1) was place bs f at
+    ] e
 
-all_behind : (P : Block → Type 0) (xs ys : List Block) → All P (xs ++ ys) → All P ys
-all_behind P [] ys h = h
-all_behind P (x ∷ xs) ys h = all_behind P xs ys h.1
+place_inside : (p number i : ℕ) (was : Option Place) (place : Place) (bs : List Block) → fold (later (touches p)) was (placed number i bs) ≡ Some place
+    → list_any (touches p) bs ≡ true → place.frame ≡ number
+place_inside p number i was place [] e t = absurd cc
+place_inside p number i was place (b ∷ bs) e t =
+    elim (touches p b) as (λ x. fold (later (touches p)) (if x then Some (record { frame = number; index = i }) else was) (placed number (i + 1) bs)
+    ≡ Some place → (x || list_any (touches p) bs) ≡ true → place.frame ≡ number) [
+      | true ↦ λ f any. place_stays p number (i + 1) (record { frame = number; index = i }) place bs f refl
+      | false ↦ λ f any. place_inside p number (i + 1) was place bs f any
+    ] e t
 
-beyond_untouched : (s : Kept) → IsSound s → (p : ℕ) → length s.filed.leaves < p → list_any (touches p) s.making.blocks ≡ false
-beyond_untouched s h p beyond =
-    none_touches p s.making.blocks
-    (all_behind (λ b. touches p b ≡ false) (blocks_of (logs.counted s.log)) s.making.blocks
-    (subst (All (λ b. touches p b ≡ false))
-    (flat_map-append (λ (f : Frame). f.blocks) (logs.counted s.log) (frame_of s.making ∷ [])
-    ∙ ap (λ (bs : List Block). blocks_of (logs.counted s.log) ++ bs) (append-nil s.making.blocks))
-    (h.grown.stands.all p (omega arith))))
-
-pub touched_within : (s : Kept) → IsSound s → (p : ℕ) → list_any (touches p) s.making.blocks ≡ true → (1 ≤ p) × (p ≤ length s.filed.leaves)
-touched_within s h p touched = (
-  elim (nat_le 1 p) as (λ b. nat_le 1 p ≡ b → 1 ≤ p) [
-    | true ↦ λ e. leb-true _ _ e
-    | false ↦ λ e. (
-        let low = leb-false _ _ e in
-        let none : 0 ≡ p = omega arith in
-        let no = subst (λ (q : ℕ). list_any (touches q) s.making.blocks ≡ false) none (zero_untouched s.filed.m s.making.blocks h.grown.lawful) in
-        absurd cc)
-  ] refl,
-  elim (nat_le p (length s.filed.leaves)) as (λ b. nat_le p (length s.filed.leaves) ≡ b → p ≤ length s.filed.leaves) [
-    | true ↦ λ e. leb-true _ _ e
-    | false ↦ λ e. (let no = beyond_untouched s h p (leb-false _ _ e) in absurd cc)
-  ] refl,
-)
+-- the frame in the making has no block of it
+pub stands_elsewhere : (s : Kept) → IsSound s → (p : ℕ) (place : Place) (frame : ℕ) → 1 ≤ p → slice_get s.newest (p - 1) ≡ Some place
+    → frame ≡ s.making.frame → (place.frame == frame) ≡ false → list_any (touches p) s.making.blocks ≡ false
+stands_elsewhere s h p place frame from at is apart =
+    let last : fold (later (touches p)) (place_of p (logs.counted s.log)) (placed s.making.frame 0 s.making.blocks) ≡ Some place =
+    sym (ap (last_place (touches p)) (placed_push (logs.counted s.log) (frame_of s.making))
+    ∙ fold-append (later (touches p)) None (all_placed (logs.counted s.log)) (placed s.making.frame 0 s.making.blocks))
+    ∙ sym (h.grown.each p from) ∙ at in
+    elim (list_any (touches p) s.making.blocks) as (λ b. list_any (touches p) s.making.blocks ≡ b → b ≡ false) [
+      | true ↦ λ e. (
+          let same = place_inside p s.making.frame 0 (place_of p (logs.counted s.log)) place s.making.blocks last e ∙ sym is in
+          let yes = eq-eqb place.frame frame same in absurd cc)
+      | false ↦ λ e. refl
+    ] refl
 
 -- ---- a record more
 
@@ -300,28 +277,6 @@ pub page_within : (s : Kept) → IsSound s → (item : Record) (page : ℕ) → 
 page_within s h item page is = (let range = home_within s.filed.m (key_of item) s.filed.leaves h.grown.stands.lawful in (omega arith, omega arith))
 
 module _ (m : ℕ) (leaves : List Leaf) (back here : Place) (r : Record) (made : List Block) where
-  pub tails_entered : 1 ≤ m → AreLeaves m leaves → IsOp r → 1 ≤ directed_at leaves r → directed_at leaves r ≤ length leaves → (cuts : Bool)
-      → cuts ≡ nat_lt 1 (length (blocks_for m leaves back here r))
-      → tails_for (length (applied m leaves r)) (added made (blocks_for m leaves back here r))
-      ≡ tails_after (directed_at leaves r) r cuts (tails_for (length leaves) made)
-  tails_entered one lawful op from to cuts is =
-      let p = directed_at leaves r in
-      let upper = upper_of m (length leaves + 1) (result_of leaves r) in
-      elim (nat_le (length (result_of leaves r).pairs) m) as (λ b.
-      length (applied m leaves r) ≡ (if b then length leaves else length leaves + 1)
-      → cuts ≡ nat_lt 1 (length (if b then Delta p back (r ∷ []) ∷ [] else Delta p back (r ∷ []) ∷ Split p here upper ∷ []))
-      → tails_for (length (applied m leaves r)) (added made (if b then Delta p back (r ∷ []) ∷ [] else Delta p back (r ∷ []) ∷ Split p here upper ∷ []))
-      ≡ tails_after p r cuts (tails_for (length leaves) made)) [
-        | true ↦ λ count not.
-            ap (λ n. tails_for n (added made (Delta p back (r ∷ []) ∷ []))) count
-            ∙ tails_delta (length leaves) p made back r from to
-            ∙ ap (λ (b : Bool). tails_after p r b (tails_for (length leaves) made)) (sym not)
-        | false ↦ λ count sure.
-            ap (λ n. tails_for n (added made (Delta p back (r ∷ []) ∷ Split p here upper ∷ []))) count
-            ∙ tails_split (length leaves) p made back here r upper from to refl
-            ∙ ap (λ (b : Bool). tails_after p r b (tails_for (length leaves) made)) (sym sure)
-      ] (length-applied m leaves r one lawful op) is
-
   apart_from : (evicted : List ℕ) (p q : ℕ) → is_among q evicted ≡ true → is_among p evicted ≡ false → (p == q) ≡ false
   apart_from evicted p q there not = ne_eqb p q (λ e. (let same = ap (λ (i : ℕ). is_among i evicted) e in absurd cc))
 

@@ -1,4 +1,4 @@
--- A group is entered whole: what it leaves in the tails, the places, the blocks and the history.
+-- A group is entered whole: what it leaves in the places, the blocks and the history.
 
 use Rattle.std.proofs.Common.{◌≡◌, ℕ, suc, ◌+◌, ◌-◌, ◌*◌, ◌<◌, ◌≤◌, Bool, true, false, Option, Some, None, List, [], ◌∷◌, ◌++◌}
 use Rattle.std.proofs.Common.{length, map, set, take, refl, sym, ap, ◌∙◌, subst, arith, if◌then◌else◌, append-nil, append_assoc}
@@ -27,14 +27,14 @@ use Rattle.bw_history.specs.declared.entry.Entry.{Entry}
 use Rattle.bw_making.specs.declared.draft.Row.{Row}
 use Rattle.bw_making.specs.Adding.{Drawn, back_in, blocks_in, blocks_all, blocks_for, drawn_by, here_for, last_for, nowhere, result_of, upper_if}
 use Rattle.bw_core.specs.Drafting.{drawn_behind}
-use Rattle.bw_making.specs.Drafting.{AreIn, count_by, row_by, row_for, rows_all, set_row, tails_all}
+use Rattle.bw_making.specs.Drafting.{AreIn, count_by, row_by, row_for, rows_all, set_row}
 use Rattle.bw_core.specs.Fitting.{Fits, back_for, drawn_of, group_blocks, here_at}
 use Rattle.bw_history.specs.History.{entered}
 use Rattle.bw_core.specs.Kept.{Kept, IsSound}
-use Rattle.bw_making.specs.Tails.{HasRoomsAt, Tailed, tails_after, tails_for, is_made}
+use Rattle.bw_making.specs.Tails.{is_made}
 use Rattle.bw_core.specs.Taken.{alone, taken, taken_all}
 use Rattle.bw_core.specs.Taking.{HasAllPages}
-use Rattle.bw_core.proofs.EvictedPages.{tails_entered, evicted_entered}
+use Rattle.bw_core.proofs.EvictedPages.{evicted_entered}
 use Rattle.bw_core.proofs.Drafted.{some_at, none_at}
 use Rattle.bw_core.proofs.Drafts.{items, made_all, part_shorter}
 use Rattle.bw_log.specs.Contents as logs
@@ -108,37 +108,6 @@ rows_in m d (r ∷ rs) l =
       (omega arith, omega arith),
       subst (λ (n : ℕ). AreIn n (rows_all m (drawn_by m d r) rs)) (sym count) (rows_in m (drawn_by m d r) rs (lawful_next m d r rs l)),
     )
-
-cuts_are : (m : ℕ) (leaves : List Leaf) (back here : Place) (r : Record)
-    → is_some (upper_if m (length leaves + 1) (result_of leaves r)) ≡ nat_lt 1 (length (blocks_for m leaves back here r))
-cuts_are m leaves back here r =
-    elim (nat_le (length (result_of leaves r).pairs) m) as (λ b. is_some (upper_as b) ≡ nat_lt 1 (length
-    (if b then Delta (directed_at leaves r) back (r ∷ []) ∷ [] else Delta (directed_at leaves r) back (r ∷ []) ∷ Split (directed_at leaves r)
-    here (upper_of m (length leaves + 1) (result_of leaves r)) ∷ []))) [ true ↦ refl | false ↦ refl ]
-  where
-    upper_as : Bool → Option Leaf
-    upper_as b = if b then None else Some (upper_of m (length leaves + 1) (result_of leaves r))
-
--- the tails behind a group are those of the frame with all its blocks
-pub rows_tails : (m : ℕ) (d : Drawn) (rs : List Record) → Lawful m d rs
-    → tails_all (rows_all m d rs) rs (tails_for (length d.leaves) d.frame.blocks)
-    ≡ tails_for (length (fold (drawn_by m) d rs).leaves) (fold (drawn_by m) d rs).frame.blocks
-rows_tails m d [] l = refl
-rows_tails m d (r ∷ rs) l =
-    let p0 = directed_at d.leaves r in
-    let range = home_within m (key_of r) d.leaves l.leaves in
-    let upper = upper_if m (length d.leaves + 1) (result_of d.leaves r) in
-    let row = row_for m d r in
-    let page : row.page ≡ p0 = row_page p0 (here_for d.frame p0) (last_for d.frame p0) (grown (open_records p0 d.frame.blocks) 1) upper in
-    let made : is_some row.made ≡ nat_lt 1 (length (blocks_in m d r)) =
-    row_made p0 (here_for d.frame p0) (last_for d.frame p0) (grown (open_records p0 d.frame.blocks) 1) upper
-    ∙ cuts_are m d.leaves (back_in d r) (here_for d.frame p0) r in
-    let was = tails_for (length d.leaves) d.frame.blocks in
-    let step : tails_after row.page r (is_some row.made) was ≡ tails_for (length (applied m d.leaves r)) (added d.frame.blocks (blocks_in m d r)) =
-    ap (λ (p : ℕ). tails_after p r (is_some row.made) was) page
-    ∙ sym (tails_entered m d.leaves (back_in d r) (here_for d.frame p0) r d.frame.blocks l.some l.leaves l.ops.0 range.0 range.1 (is_some row.made) made) in
-    ap (tails_all (rows_all m (drawn_by m d r) rs) rs) step
-    ∙ rows_tails m (drawn_by m d r) rs (lawful_next m d r rs l)
 
 -- a page that is evicted is not made by it
 pub rows_evicted : (m : ℕ) (d : Drawn) (rs : List Record) (evicted : List ℕ) (q : ℕ) → Lawful m d rs
@@ -238,19 +207,6 @@ fresh_fits s w k (r ∷ rs) h next ops room inside small few =
     (sym (fold-append joined s.making.blocks (blocks_in s.filed.m (drawn_of s) r) (blocks_all s.filed.m (drawn_by s.filed.m (drawn_of s) r) rs))) rest
 
 -- ---- requirements of the growths
-
-pub fewer_rooms : (rows : List Row) (tails : List (Option Tailed)) (n : ℕ) → n ≤ 4 → All (λ row. HasRoomsAt 4 tails (row.page - 1)) rows
-    → All (λ row. HasRoomsAt n tails (row.page - 1)) rows
-fewer_rooms [] tails n le h = tt
-fewer_rooms (row ∷ rows) tails n le h = (of_tail (slice_index_or tails (row.page - 1) None) h.0, fewer_rooms rows tails n le h.1)
-  where
-    of_tail : (o : Option Tailed) → IfSome o (λ t. 4 ≤ t.room) → IfSome o (λ t. n ≤ t.room)
-    of_tail None k = tt
-    of_tail (Some t) k = omega arith
-
-pub rows_from : (n : ℕ) (rows : List Row) → AreIn n rows → All (λ row. 1 ≤ row.page) rows
-rows_from n [] h = tt
-rows_from n (row ∷ rows) h = (h.0.0, rows_from (count_by row.made n) rows h.1)
 
 -- ---- why it is refused
 

@@ -58,7 +58,7 @@ placed_more n i (x ∷ xs) ys =
     let p : Place = record { frame = n; index = i } in
     ap (λ (l : List (Place × Block)). (p, x) ∷ l) (placed_more n (i + 1) xs ys ∙ ap (λ k. placed n (i + 1) xs ++ placed n k ys) (omega arith))
 
-placed_push : (fs : List Frame) (f : Frame) → all_placed (fs ++ f ∷ []) ≡ all_placed fs ++ placed f.number 0 f.blocks
+pub placed_push : (fs : List Frame) (f : Frame) → all_placed (fs ++ f ∷ []) ≡ all_placed fs ++ placed f.number 0 f.blocks
 placed_push fs f =
     flat_map-append (λ (x : Frame). placed x.number 0 x.blocks) fs (f ∷ [])
     ∙ ap (λ (l : List (Place × Block)). all_placed fs ++ l) (append-nil (placed f.number 0 f.blocks))

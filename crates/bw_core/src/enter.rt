@@ -25,7 +25,7 @@ use crate::fault::StoreFault;
 use crate::store::Core;
 use bw_buffer::Buffer;
 use bw_codec::{Block, Place, Record};
-use bw_making::{apply_entry, note, reserve_for, share_of};
+use bw_making::apply_entry;
 
 impl Core {
     ghost use Rattle.bw_core.specs.Views.{kept_by, noted_of, IsSound};
@@ -70,10 +70,7 @@ impl Core {
         let entry = self.intake.packed_alone(lane, &item, page)?;
         self.intake.reserve()?;
         self.newest.reserve(1)?;
-        reserve_for(&mut self.tails, page)?;
-        let share = share_of(&entry, &item)?;
         let _ = apply_entry(&mut self.leaves, page, &item, &entry)?;
-        note(&mut self.tails, page, share, blocks.len() > 1);
         file(&mut self.making, &mut self.newest, page, blocks);
         self.intake.enter_alone(lane, &item, entry);
         Ok(())

@@ -1,6 +1,8 @@
 //! Pages leave memory, and what it takes to bring them back.
 
-ghost use Rattle.std.specs.Prelude.{ℕ, ◌≡◌, ◌==◌, ◌↔◌, ◌&&◌, not, true, None, Some, if◌then◌else◌, IfOk, IfErr, IsErrOf, MatchOption, MatchResult};
+ghost use Rattle.std.specs.Prelude.{ℕ, ◌≡◌, ◌≤◌, ◌==◌, ◌↔◌, ◌&&◌, not, true, false, None, Some, length, if◌then◌else◌, IfOk, IfErr, IsErrOf, MatchOption, MatchResult};
+ghost use Rattle.std.specs.List.{list_any};
+ghost use Rattle.bw_codec.specs.Touch.{touches};
 ghost use Rattle.bw_page.specs.Leaves.{leaf_at};
 ghost use Rattle.bw_log.specs.Contents.{counted};
 ghost use Rattle.bw_log.specs.Places.{walk_of};
@@ -10,6 +12,7 @@ ghost use Rattle.bw_making.specs.Tails.{is_made};
 
 use crate::fault::StoreFault;
 use crate::store::Core;
+use bw_making::makes;
 
 impl Core {
     ghost use Rattle.bw_core.specs.Views.{kept_by, is_evicted, noted_of, IsSound};
@@ -36,7 +39,8 @@ impl Core {
     /// log, and the records that no frame has yet are kept. It does not leave where it is evicted,
     /// nor where the frame in the making makes it or cuts it.
     ///
-    /// Refused `NoPage`, where the number is 0 or above the number of pages. No memory is taken.
+    /// Refused `NoPage`, where the number is 0 or above the number of pages. No memory is taken. It
+    /// costs a look at each block of the frame in the making, where that has one of the page.
     pub fn evict(&mut self, page: u32) -> Result<bool, StoreFault>
         requires { IsSound self.old holding }
         ensures left { IfOk result (λ left. left
@@ -59,12 +63,31 @@ impl Core {
         if !self.leaves.is_here(page) {
             return Ok(false);
         }
-        let _ = self.tails.as_slice().len();
-        if self.tails[page as usize - 1].is_none() {
+        if self.is_made(page) {
             return Ok(false);
         }
         self.leaves.evict_page(page);
         self.tally = self.tally.with_eviction();
         Ok(true)
+    }
+
+    // Whether the frame in the making makes a page or cuts it.
+    fn is_made(&self, page: u32) -> bool
+        requires sound { IsSound self.now holding }
+        requires inside { (1 ≤ page) × (page ≤ length self.now.leaves.leaves) }
+        ensures { result ≡ is_made page self.now.making.blocks }
+    {
+        self.is_making(page) && makes(&self.making, page)
+    }
+
+    /// Whether the newest block of a page stands in the frame in the making. Where it does not, that
+    /// frame has no block of the page, and need not be looked through.
+    pub(crate) fn is_making(&self, page: u32) -> bool
+        requires sound { IsSound self.now holding }
+        requires inside { (1 ≤ page) × (page ≤ length self.now.leaves.leaves) }
+        ensures { result ≡ false → list_any (touches page) self.now.making.blocks ≡ false }
+    {
+        let _ = self.newest.as_slice().len();
+        self.newest[page as usize - 1].frame == self.making.frame()
     }
 }

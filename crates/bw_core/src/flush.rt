@@ -26,7 +26,6 @@ use crate::append::append_to;
 use crate::fault::StoreFault;
 use crate::store::Core;
 use bw_buffer::Buffer;
-use bw_making::rest;
 
 impl Core {
     ghost use Rattle.bw_core.specs.Views.{kept_by, noted_of, IsSound};
@@ -132,7 +131,6 @@ impl Core {
         match append_to(&mut self.log, &self.making, takes_last) {
             Ok(()) => {
                 self.durable += 1;
-                rest(&mut self.tails, &self.making, &self.newest);
                 begin_next(&mut self.making);
                 Ok(())
             }

@@ -30,9 +30,7 @@ use crate::fault::StoreFault;
 use crate::store::Core;
 use bw_codec::Record;
 use bw_history::PackedEntry;
-use bw_making::{
-    Draft, apply_entries, copy_of, file_all, guessed, note_all, reserve_all, shares_of, steps_in,
-};
+use bw_making::{Draft, apply_entries, copy_of, file_all, guessed, steps_in};
 use bw_page::Step;
 use bw_ring::Group;
 use std::alloc::AllocError;
@@ -205,10 +203,7 @@ impl Core {
         let _ = self.leaves.count();
         self.intake.reserve()?;
         self.newest.reserve(group.len())?;
-        reserve_all(&mut self.tails, rows)?;
-        let shares = shares_of(*entries.allocator(), entries.as_slice())?;
         apply_entries(&mut self.leaves, group.as_slice(), entries.as_slice())?;
-        note_all(&mut self.tails, rows, shares);
         file_all(
             &mut self.making,
             &mut self.newest,

@@ -7,7 +7,6 @@ ghost use Rattle.bw_codec.specs.declared.block.Block.TheVariants.{Base};
 ghost use Rattle.bw_buffer.specs.Filling.{size_of, with_all};
 ghost use Rattle.bw_leaf.specs.Changed.{empty_leaf};
 ghost use Rattle.bw_ring.specs.Ends.{ring_of_feed, ring_of_lane};
-ghost use Rattle.bw_making.specs.Tails.{tail_of, tails_for};
 ghost use Rattle.bw_core.specs.Opened.{opened, one_empty, started, first_place, first_making, AreFresh, AreTaken, IsConfig, IsOpenFault};
 ghost use Rattle.bw_core.specs.Counting.{noted_from};
 
@@ -21,7 +20,6 @@ use bw_codec::{Block, Place};
 use bw_device::{Segment, are_spares};
 use bw_history::Intake;
 use bw_log::Log;
-use bw_making::Tail;
 use bw_page::{Leaves, empty_page};
 use bw_ring::Feed;
 use std::alloc::{AllocError, Global};
@@ -36,7 +34,6 @@ pub(crate) struct Ends {
     pub(crate) feeds: Vec<Feed>,
     pub(crate) intake: Intake,
     pub(crate) newest: Vec<Place>,
-    pub(crate) tails: Vec<Option<Tail>>,
     pub(crate) making: Buffer,
 }
 
@@ -112,7 +109,6 @@ fn parts_of(alloc: Global, config: &Config) -> Result<(Leaves, Ends), StoreFault
     ensures leaves { IfOk result (λ p.
         p.0 ≡ one_empty config.now.m) }
     ensures newest { IfOk result (λ p. p.1.newest.items ≡ first_place ∷ []) }
-    ensures tails { IfOk result (λ p. map tail_of p.1.tails.items ≡ None ∷ []) }
     ensures making { IfOk result (λ p. p.1.making ≡ first_making config.now.f) }
     ensures memory { IfErr result (λ fault. fault ≡ StoreFault.NoMemory) }
 {
@@ -120,14 +116,11 @@ fn parts_of(alloc: Global, config: &Config) -> Result<(Leaves, Ends), StoreFault
     let leaves = Leaves::one_empty(alloc, config.m)?;
     let mut newest = Vec::with_capacity(alloc, 1)?;
     newest.push_reserved(Place { frame: 1, index: 0 });
-    let mut tails = Vec::with_capacity(alloc, 1)?;
-    tails.push_reserved(None);
     let making = first_frame(alloc, config.f)?;
     let ends = Ends {
         feeds,
         intake,
         newest,
-        tails,
         making,
     };
     Ok((leaves, ends))
@@ -196,8 +189,6 @@ impl Core {
         log: Log,
         origin: Origin,
     ) -> (Core, Vec<Feed>)
-        requires tails { map tail_of ends.tails.items
-            ≡ tails_for (length leaves.leaves) ends.making.blocks }
         requires here { leaves.evicted ≡ [] }
         requires gone { ends.intake.history.gone ≡ 0 }
         ensures store { kept_by result.0 holding
@@ -211,7 +202,6 @@ impl Core {
             feeds,
             intake,
             newest,
-            tails,
             making,
         } = ends;
         let tally = Tally::from(leaves.count(), origin.bytes);
@@ -225,7 +215,6 @@ impl Core {
             durable: 0,
             leaves,
             newest,
-            tails,
             making,
             log,
             start,

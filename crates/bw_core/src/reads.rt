@@ -13,7 +13,7 @@ ghost use Rattle.std.specs.FinMap as finite;
 ghost use Rattle.bw_log.specs.Reads.{HoldsPage};
 ghost use Rattle.bw_page.specs.Leaves.{leaf_at, home, plain};
 ghost use Rattle.bw_page.specs.Shown.{is_evicted_page, IsHere};
-ghost use Rattle.bw_leaf.specs.Words.{value_on};
+ghost use Rattle.bw_leaf.specs.Words.{records_word, value_on};
 ghost use Rattle.bw_history.specs.Entries.{records};
 ghost use Rattle.bw_core.specs.Following.{Follows, HasBoxes};
 ghost use Rattle.bw_core.specs.Reading.{leaves_now, HasRead, ReadLeaves, PageLeaves};
@@ -21,9 +21,10 @@ ghost use Rattle.bw_making.specs.Share.{ops_at};
 
 use crate::fault::StoreFault;
 use crate::store::Core;
-use bw_codec::{Key, Leaf, Value};
-use bw_making::Tail;
-use bw_page::Word;
+use bw_codec::{Key, Leaf, Record, Value};
+use bw_making::tail_of;
+use bw_page::{Word, change_all, word_in_records};
+use std::alloc::AllocError;
 
 impl Core {
     ghost use Rattle.bw_core.specs.Views.{away_in, kept_by, is_evicted, noted_of, IsSound};
@@ -107,12 +108,13 @@ impl Core {
             (kept_by self.old holding) result (kept_by self.new holding) }
         ensures noted { noted_of self.new ≡ noted_of self.old }
     {
+        let tail = self.tail(page)?;
         let below = match self.log.read_page(page) {
             Ok(below) => below,
             Err(fault) => return Err(StoreFault::from(fault)),
         };
         self.looks.read_one();
-        Ok(self.tail(page).content(&below)?)
+        Ok(change_all(below, tail.as_slice())?)
     }
 
     /// The value of a key on a page that is evicted: what the newest record of the frame in the
@@ -134,7 +136,7 @@ impl Core {
             (kept_by self.old holding) result (kept_by self.new holding) }
         ensures noted { noted_of self.new ≡ noted_of self.old }
     {
-        match self.tail(page).word(key) {
+        match self.word(page, key)? {
             Word::Silent => {}
             Word::Gone => return Ok(None),
             Word::Holds(value) => return Ok(Some(value)),
@@ -148,17 +150,29 @@ impl Core {
         }
     }
 
-    // What the frame in the making has of a page that is evicted: such a page has a tail.
-    fn tail(&self, page: u32) -> &Tail
+    // What the newest record that the frame in the making has of a page says of a key.
+    fn word(&self, page: u32, key: &Key) -> Result<Word, AllocError>
+        requires sound { IsSound self.now holding }
         requires inside { (1 ≤ page) × (page ≤ length self.now.leaves.leaves) }
-        requires evicted { is_evicted_page page self.now.leaves ≡ true }
-        ensures { result.now.records ≡ ops_at page self.now.making.blocks }
+        ensures { IfOk result (λ word. word
+            ≡ records_word key.now (ops_at page self.now.making.blocks)) }
     {
-        let _ = self.tails.as_slice().len();
-        match &self.tails[page as usize - 1] {
-            Some(tail) => tail,
-            None => unreachable!(),
+        let tail = self.tail(page)?;
+        Ok(word_in_records(tail.as_slice(), key))
+    }
+
+    // The records that the frame in the making has of a page, in order. Where the frame has no block
+    // of the page, it is not looked through, and no memory is taken.
+    fn tail(&self, page: u32) -> Result<Vec<Record>, AllocError>
+        requires sound { IsSound self.now holding }
+        requires inside { (1 ≤ page) × (page ≤ length self.now.leaves.leaves) }
+        ensures { IfOk result (λ records. records.items ≡ ops_at page self.now.making.blocks) }
+    {
+        let alloc = *self.newest.allocator();
+        if !self.is_making(page) {
+            return Ok(Vec::new(alloc));
         }
+        tail_of(alloc, &self.making, page)
     }
 
     /// Brings back the page that a record of this key changes, if it is evicted, and tells which it

@@ -5,7 +5,6 @@ ghost use Rattle.bw_log.specs.Contents.{counted};
 ghost use Rattle.bw_log.specs.Places.{place_of};
 ghost use Rattle.bw_ring.specs.Ends.{ring_of_feed, ring_of_lane};
 ghost use Rattle.bw_care.specs.Views.{seen, IsSound as IsSoundLog};
-ghost use Rattle.bw_making.specs.Tails.{tail_of, tails_for};
 ghost use Rattle.bw_core.specs.Opened.{AreEnds, AreFresh, AreUnused, IsConfig};
 ghost use Rattle.bw_care.specs.Tallies.{bytes_of, up};
 ghost use Rattle.bw_core.specs.Counting.{noted_from};
@@ -21,7 +20,6 @@ use bw_buffer::Buffer;
 use bw_care::{Recovered, live_bytes};
 use bw_codec::Place;
 use bw_log::Log;
-use bw_making::tails_on;
 use bw_ring::Feed;
 use std::alloc::{AllocError, Global};
 use std::fmt::{self, Debug, Formatter};
@@ -94,7 +92,6 @@ fn ends_of(alloc: Global, config: &Config, log: &Log, pages: usize) -> Result<En
     ensures history { IfOk result (λ e. e.intake.history.items ≡ []) }
     ensures gone { IfOk result (λ e. e.intake.history.gone ≡ 0) }
     ensures count { IfOk result (λ e. length e.newest.items ≡ pages) }
-    ensures tails { IfOk result (λ e. map tail_of e.tails.items ≡ tails_for pages []) }
     ensures each { IfOk result (λ e. (p : ℕ) → 1 ≤ p → p ≤ pages
         → slice_get e.newest.items (p - 1) ≡ place_of p (counted (seen log.now holding))) }
     ensures limit { IfOk result (λ e. e.making.limit ≡ config.now.f) }
@@ -107,13 +104,11 @@ fn ends_of(alloc: Global, config: &Config, log: &Log, pages: usize) -> Result<En
     let (feeds, intake) = intake_of(alloc, config)?;
     let mut newest = blank_places(alloc, pages)?;
     renew(&mut newest, log);
-    let tails = tails_on(alloc, &newest)?;
     let making = next_buffer(alloc, log.next_frame(), config.f)?;
     Ok(Ends {
         feeds,
         intake,
         newest,
-        tails,
         making,
     })
 }
@@ -170,8 +165,6 @@ impl Core {
     // A store of these ends over what was recovered.
     fn again(alloc: Global, ends: Ends, recovered: Recovered) -> (Core, Vec<Feed>)
         requires sound { IsSoundLog recovered.log holding }
-        requires tails { map tail_of ends.tails.items
-            ≡ tails_for (length recovered.leaves.leaves) ends.making.blocks }
         requires here { recovered.leaves.evicted ≡ [] }
         requires gone { ends.intake.history.gone ≡ 0 }
         ensures store { kept_by result.0 holding

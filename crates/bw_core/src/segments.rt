@@ -129,7 +129,6 @@ impl Core {
             durable: _,
             leaves: _leaves,
             newest: _newest,
-            tails: _tails,
             making: _making,
             log,
             start: _start,

@@ -1,9 +1,9 @@
 //! The store itself.
 
-ghost use Rattle.std.specs.Prelude.{ℕ, ◌≡◌, ◌≤◌, true, false, length, map};
+ghost use Rattle.std.specs.Prelude.{ℕ, ◌≡◌, ◌≤◌, true, false, length};
 ghost use Rattle.bw_page.specs.Shown.{is_evicted_page};
 ghost use Rattle.bw_history.specs.History.{are_whole, cut};
-ghost use Rattle.bw_making.specs.Tails.{tail_of, tails_for, is_made};
+ghost use Rattle.bw_making.specs.Tails.{is_made};
 
 use crate::edge::Edge;
 use bw_buffer::Buffer;
@@ -11,7 +11,6 @@ use bw_care::{Looks, Tally};
 use bw_codec::Place;
 use bw_history::Intake;
 use bw_log::Log;
-use bw_making::Tail;
 use bw_page::Leaves;
 use std::snapshot::Snapshot;
 
@@ -32,8 +31,6 @@ pub struct Core {
     pub(crate) leaves: Leaves,
     /// The last block of each page, from page 1 on.
     pub(crate) newest: Vec<Place>,
-    /// What the frame in the making does to each page; `None` where it makes or cuts the page.
-    pub(crate) tails: Vec<Option<Tail>>,
     /// The frame in the making.
     pub(crate) making: Buffer,
     pub(crate) log: Log,
@@ -42,10 +39,9 @@ pub struct Core {
     /// What is counted.
     pub(crate) tally: Tally,
     pub(crate) looks: Looks,
-    ghost tailed: { map tail_of tails.items ≡ tails_for (length leaves.leaves) making.blocks },
     // No cut stands inside a group.
     ghost whole: { are_whole cuts.items intake.history.items ≡ true },
-    // A page that is evicted is in the log, but for its tail.
+    // A page that is evicted is in the log, but for the records that the frame in the making has of it.
     ghost logged: { (p : ℕ) → is_evicted_page p leaves ≡ true → is_made p making.blocks ≡ false },
     // What was forgotten is durable.
     ghost forgotten: { intake.history.gone ≤ cut cuts.items durable },

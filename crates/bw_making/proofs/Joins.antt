@@ -1,6 +1,6 @@
 -- What each question of the store answers for blocks of which Deltas joined.
 
-use Rattle.std.proofs.Common.{◌≡◌, ℕ, suc, ◌+◌, ◌^◌, ◌<◌, ◌≤◌, Bool, true, false, Option, Some, None, List, [], ◌∷◌, ◌++◌, length}
+use Rattle.std.proofs.Common.{◌≡◌, ℕ, suc, ◌+◌, ◌^◌, ◌<◌, ◌≤◌, true, false, Option, Some, None, List, [], ◌∷◌, ◌++◌, length}
 use Rattle.std.proofs.Common.{refl, sym, ap, ◌∙◌, subst, append-nil, arith, if◌then◌else◌, length-append}
 use Rattle.std.specs.Prelude.{◌==◌, ◌||◌, unwrap_or}
 use Rattle.std.specs.List.{AllByRecursion as All, fold, list_any}
@@ -27,7 +27,7 @@ use Rattle.bw_buffer.proofs.Sizes.{pushed_size, joined_size}
 use Rattle.bw_log.proofs.Walks.{content_push}
 use Rattle.bw_making.specs.Adding.{with_blocks}
 use Rattle.bw_making.specs.Share.{ops_of, ops_at, cut_of, cuts_in, base_of, bases_in}
-use Rattle.bw_making.specs.Tails.{makes, is_made, tail_for}
+use Rattle.bw_making.specs.Tails.{makes, is_made}
 
 pub all-append : {X : Type 0} (P : X → Type 0) (xs ys : List X) → All P xs → All P ys → All P (xs ++ ys)
 all-append P [] ys h k = k
@@ -132,11 +132,6 @@ added_bases blocks more =
 
 pub added_made : (p : ℕ) (blocks more : List Block) → is_made p (added blocks more) ≡ is_made p (blocks ++ more)
 added_made p blocks more = added_any (makes p) (λ q one back old new. refl) blocks more
-
-pub added_tail : (p : ℕ) (blocks more : List Block) → tail_for (added blocks more) p ≡ tail_for (blocks ++ more) p
-added_tail p blocks more =
-    ap (λ (b : Bool). if b then None else Some (ops_at p (added blocks more))) (added_made p blocks more)
-    ∙ ap (λ (rs : List Record). if is_made p (blocks ++ more) then None else Some rs) (added_ops p blocks more ∙ sym (flat_map-append (ops_of p) blocks more))
 
 -- ---- behind a Base, which nothing joins
 

@@ -1,7 +1,7 @@
--- A group that is planned record by record: what each record does to places and tails, and what a look
--- at these rows tells.
+-- A group that is planned record by record: what each record does to places, and what a look at these
+-- rows tells.
 
-use Rattle.std.specs.Prelude.{ℕ, ◌+◌, ◌-◌, ◌≡◌, ◌≤◌, ◌==◌, ◌||◌, Bool, false, if◌then◌else◌, Option, Some, None, is_some, unwrap_or, List, [], ◌∷◌, ◌++◌, length, slice_get, slice_set}
+use Rattle.std.specs.Prelude.{ℕ, ◌+◌, ◌-◌, ◌≡◌, ◌≤◌, ◌==◌, ◌||◌, Bool, false, if◌then◌else◌, Option, Some, None, unwrap_or, List, [], ◌∷◌, ◌++◌, length, slice_get, slice_set}
 use Rattle.std.specs.List.{fold}
 use Rattle.bw_record.specs.declared.record.Record.{Record}
 use Rattle.bw_record.specs.declared.leaf.Leaf.{Leaf}
@@ -14,7 +14,6 @@ use Rattle.bw_buffer.specs.Joining.{joins, open_records, takes}
 use Rattle.bw_making.specs.declared.draft.Row.{Row}
 use Rattle.bw_making.specs.declared.draft.Draft.{Draft}
 use Rattle.bw_making.specs.Adding.{Drawn, count_after, here_for, last_for, result_of, upper_if, planned, nowhere, drawn_by}
-use Rattle.bw_making.specs.Tails.{tails_after}
 
 -- ---- what each record of a group does to the places
 
@@ -47,12 +46,6 @@ count_by (Some made) n = n + 1
 abbrev pub AreIn : ℕ → List Row → Type 0
 AreIn n [] = Unit {0}
 AreIn n (row ∷ rows) = ((1 ≤ row.page) × (row.page ≤ n)) × AreIn (count_by row.made n) rows
-
--- the tails behind it
-abbrev pub tails_all : List Row → List Record → List (Option (List Record)) → List (Option (List Record))
-tails_all [] rs tails = tails
-tails_all (row ∷ rows) [] tails = tails
-tails_all (row ∷ rows) (r ∷ rs) tails = tails_all rows rs (tails_after row.page r (is_some row.made) tails)
 
 -- ---- what a look at the rows tells
 

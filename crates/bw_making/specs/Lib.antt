@@ -4,5 +4,3 @@ pub mod Adding
 pub mod Planning
 pub mod Tails
 pub mod Drafting
--- How values stand in memory.
-pub mod Tailing

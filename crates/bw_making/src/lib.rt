@@ -1,5 +1,5 @@
 //! The frame in the making, and what it does to pages: the blocks of a record or of a group, where the
-//! last block of each page stands, and the records of each page that no frame in the log has.
+//! last block of each page stands, and what it has of a page.
 //!
 //! Nothing here knows the log, the rings or the history: what is planned is told by leaves, places and
 //! a buffer. `specs/Adding.antt` has what a record adds, `specs/Drafting.antt` what a group does record
@@ -15,5 +15,5 @@ mod tails;
 pub use blocks::{Blocks, blocks_of, place_for};
 pub use draft::{Draft, Row};
 pub use filing::file_all;
-pub use sharing::{apply_entries, apply_entry, copy_of, guessed, share_of, shares_of, steps_in};
-pub use tails::{Tail, note, note_all, reserve_all, reserve_for, rest, tails_on};
+pub use sharing::{apply_entries, apply_entry, copy_of, guessed, steps_in};
+pub use tails::{makes, tail_of};

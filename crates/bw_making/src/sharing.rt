@@ -8,18 +8,10 @@ ghost use Rattle.bw_page.specs.Leaves.{directed_at, HasPages};
 ghost use Rattle.bw_page.specs.Shown.{IsHere, IsSpent, after_record, run};
 
 use crate::draft::Row;
-use bw_codec::{Leaf, Packed, Record};
+use bw_codec::{Leaf, Record};
 use bw_history::PackedEntry;
 use bw_page::{Applied, ApplyError, Leaves, Step};
 use std::alloc::{AllocError, Global};
-
-/// The record of an entry, which shares its bytes.
-pub fn share_of(entry: &PackedEntry, _item: &Record) -> Result<Packed, AllocError>
-    requires { entry.now.item ≡ _item.now }
-    ensures { IfOk result (λ packed. packed ≡ _item.now) }
-{
-    entry.item().copy()
-}
 
 /// Applies the record of an entry to its page, which is known: the page shares the record's bytes.
 pub fn apply_entry(
@@ -38,17 +30,6 @@ pub fn apply_entry(
     ensures unchanged { OnErr result (leaves.new ≡ leaves.old) }
 {
     leaves.apply_on(page, entry.item())
-}
-
-/// The records of these entries, which share their bytes.
-pub fn shares_of(alloc: Global, entries: &[PackedEntry]) -> Result<Vec<Packed>, AllocError>
-    ensures { IfOk result (λ shares. shares.items ≡ records_of entries.now) }
-{
-    let mut shares = Vec::with_capacity(alloc, entries.len())?;
-    for entry in entries {
-        shares.push(entry.item().copy()?)?;
-    }
-    Ok(shares)
 }
 
 /// What each of these records does, one after the other: they stand in entries.

@@ -1,12 +1,8 @@
 use Rattle.std.proofs.Common.{ℕ, List, [], length, ap, refl, sym, ◌∙◌, arith}
-use Rattle.std.specs.List.{list_any}
-use Rattle.bw_codec.specs.Touch.{touches}
 use Rattle.bw_codec.specs.declared.block.Block.{Block}
 use Rattle.bw_buffer.specs.Filling.{Filling}
-use Rattle.bw_making.specs.Tails.{tails_for, is_made}
+use Rattle.bw_making.specs.Tails.{is_made}
 use Rattle.bw_core.specs.Views.{kept_by}
-use Rattle.bw_making.proofs.TailLists.{as_many}
-use Rattle.bw_core.proofs.EvictedPages.{touched_within}
 use Rattle.bw_history.specs.History.{are_whole}
 use Rattle.bw_history.proofs.Grouped.{whole_cut}
 use Rattle.bw_core.proofs.Forgetting.{gone_flushed, gone_stopped}
@@ -17,32 +13,11 @@ use Rattle.bw_core.proofs.store.Core.append_making.Goals as goal
 pub append_to-requires-clause-follows : goal.append_to-requires-clause-follows
 append_to-requires-clause-follows g c = may_follow_at c.requires.sound c.requires.next c.requires.some c.requires.fits c.seal.new.self c.seal.ensures
 
-pub rest-requires-clause-count : goal.rest-requires-clause-count
-rest-requires-clause-count g c =
-    (let many = as_many _ _ c.args.self.now.making.blocks c.args.self.now.tailed in let count = c.requires.sound.grown.count in omega arith)
-
-pub rest-requires-clause-pages : goal.rest-requires-clause-pages
-rest-requires-clause-pages g c = λ p touched. (
-    let s = kept_by c.args.self.now (λ z. (goal.Segment-dyn g z).holding z.1) in
-    let many = as_many _ _ c.args.self.now.making.blocks c.args.self.now.tailed in
-    let same = ap (λ (b : Filling). list_any (touches p) b.blocks) c.seal.ensures in
-    let range = touched_within s c.requires.sound p (sym same ∙ touched) in
-    (range.0, omega arith))
-
-pub rest-requires-clause-tails : goal.rest-requires-clause-tails
-rest-requires-clause-tails g c =
-    c.args.self.now.tailed
-    ∙ ap (λ (n : ℕ). tails_for n c.args.self.now.making.blocks) (sym (as_many _ _ c.args.self.now.making.blocks c.args.self.now.tailed))
-    ∙ ap (λ (b : Filling). tails_for (length c.args.self.now.tails.items) b.blocks) (sym c.seal.ensures)
-
 pub invariant_of-self : goal.invariant_of-self
 invariant_of-self g c = record {
   whole = ap (λ (cs : List ℕ). are_whole cs c.args.self.now.intake.history.items) c.push_reserved.ensures.items
       ∙ whole_cut c.args.self.now.cuts.items c.args.self.now.intake.history.items _ c.args.self.now.whole c.args.self.now.intake.grouped
       c.len-end.ensures;
-  tailed = c.rest.ensures
-      ∙ ap (λ (n : ℕ). tails_for n []) (as_many _ _ c.args.self.now.making.blocks c.args.self.now.tailed)
-      ∙ ap (tails_for (length c.args.self.now.leaves.leaves)) (sym c.begin_next.ensures.empty);
   logged = λ p evicted. ap (λ (bs : List Block). is_made p bs) c.begin_next.ensures.empty;
   forgotten = gone_flushed (kept_by c.args.self.now (λ z. (goal.Segment-dyn g z).holding z.1)) _ _ _ _ c.requires.sound
       (all_appended (kept_by c.args.self.now (λ z. (goal.Segment-dyn g z).holding z.1)) c.requires.sound c.requires.works)
@@ -58,7 +33,6 @@ invariant_of-self-in-Err-1 g c =
       whole = ap (λ (cs : List ℕ). are_whole cs c.args.self.now.intake.history.items) c.push_reserved.ensures.items
           ∙ whole_cut c.args.self.now.cuts.items c.args.self.now.intake.history.items _ c.args.self.now.whole c.args.self.now.intake.grouped
           c.len-end.ensures;
-      tailed = c.args.self.now.tailed ∙ ap (λ (b : Filling). tails_for (length c.args.self.now.leaves.leaves) b.blocks) (sym c.seal.ensures);
       logged = λ p evicted. ap (λ (b : Filling). is_made p b.blocks) c.seal.ensures ∙ c.args.self.now.logged p evicted;
       forgotten = gone_stopped s _ _ _ (omega arith) c.push_reserved.ensures.items c.args.self.now.forgotten;
       began = c.args.self.now.began;

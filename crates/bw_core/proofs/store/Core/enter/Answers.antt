@@ -9,10 +9,9 @@ use Rattle.bw_page.specs.Shown.{Shown}
 use Rattle.bw_buffer.specs.Joining.{added}
 use Rattle.bw_making.specs.Adding.{here_for, blocks_for}
 use Rattle.bw_record.specs.declared.record.Record.{Record}
-use Rattle.bw_making.specs.Tails.{tail_of, tails_for, tails_after, is_made}
+use Rattle.bw_making.specs.Tails.{is_made}
 use Rattle.bw_core.specs.Views.{kept_by}
-use Rattle.bw_core.proofs.EvictedPages.{page_within, tails_entered, evicted_entered}
-use Rattle.bw_making.proofs.TailLists.{as_many}
+use Rattle.bw_core.proofs.EvictedPages.{evicted_entered}
 use Rattle.bw_page.specs.Shown.{IsSpent}
 use Rattle.bw_core.specs.Kept.{filed_of}
 use Rattle.bw_core.specs.Kept as kept
@@ -34,42 +33,17 @@ apply_entry-requires-clause-here g c = c.requires.here
 pub apply_entry-requires-clause-page : goal.apply_entry-requires-clause-page
 apply_entry-requires-clause-page g c = c.requires.page
 
-pub reserve_for-requires : goal.reserve_for-requires
-reserve_for-requires g c =
-    let range = page_within (kept_by c.args.self.now (λ z. (goal.Segment-dyn g z).holding z.1)) c.requires.sound c.args.item c.args.page c.requires.page in
-    let many = as_many _ _ c.args.self.now.making.blocks c.args.self.now.tailed in
-    (omega arith, omega arith)
-
-pub note-requires-clause-inside : goal.note-requires-clause-inside
-note-requires-clause-inside g c =
-    let range = page_within (kept_by c.args.self.now (λ z. (goal.Segment-dyn g z).holding z.1)) c.requires.sound c.args.item c.args.page c.requires.page in
-    let many = as_many _ _ c.args.self.now.making.blocks (c.reserve_for.ensures.same ∙ c.args.self.now.tailed) in
-    (omega arith, omega arith)
-
 pub invariant_of-self-2 : goal.invariant_of-self-2
 invariant_of-self-2 g c =
     let was = c.args.self.now in
     let f = was.leaves in
     let here = here_for (frame_of was.making) c.args.page in
-    let range = page_within (kept_by was (λ z. (goal.Segment-dyn g z).holding z.1)) c.requires.sound c.args.item c.args.page c.requires.page in
-    let limit = c.count.ensures.limit in
-    let at = c.requires.page in
     let made : c.file.new.making.blocks ≡ added was.making.blocks (blocks_for f.m f.leaves c.args.back here c.args.item) =
     ap (λ (b : Filling). b.blocks) c.file.ensures.making ∙ ap (added was.making.blocks) c.requires.blocks in
-    let leaves = ap (λ (x : Shown). x.leaves) c.in_ok-apply_entry.ensures.ok in
     record {
       whole = whole_entered was.cuts.items was.intake.history.items c.enter_alone.new.self.history.items c.args.lane (c.args.item ∷ [])
           c.requires.sound.ordered was.whole
           (c.enter_alone.ensures.grows ∙ ap (λ (es : List Entry). es ++ entries_of c.args.lane (marked (c.args.item ∷ []))) c.reserve.ensures.history);
-      tailed = c.note.ensures.value
-          ∙ ap (λ (r : Record). tails_after c.args.page r (nat_lt 1 (length c.args.blocks.now)) (map tail_of c.reserve_for.new.tails.items))
-          c.in_ok-share.ensures
-          ∙ ap (tails_after c.args.page c.args.item (nat_lt 1 (length c.args.blocks.now))) (c.reserve_for.ensures.same ∙ was.tailed)
-          ∙ ap (λ (p : ℕ). tails_after p c.args.item (nat_lt 1 (length c.args.blocks.now)) (tails_for (length f.leaves) was.making.blocks)) at
-          ∙ sym (tails_entered f.m f.leaves c.args.back here c.args.item was.making.blocks (omega arith) c.count.ensures.lawful c.key.ensures.lawful
-          (omega arith) (omega arith) (nat_lt 1 (length c.args.blocks.now)) (ap (λ (bs : List Block). nat_lt 1 (length bs)) c.requires.blocks))
-          ∙ ap (tails_for (length (applied f.m f.leaves c.args.item))) (sym made)
-          ∙ ap (λ (ls : List Leaf). tails_for (length ls) c.file.new.making.blocks) (sym leaves);
       logged = λ q evicted.
           ap (is_made q) made
           ∙ evicted_entered f.m f.leaves c.args.back here c.args.item was.making.blocks f.evicted q

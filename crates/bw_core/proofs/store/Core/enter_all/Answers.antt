@@ -8,22 +8,14 @@ use Rattle.bw_page.specs.declared.fault.ApplyError.{ApplyError}
 use Rattle.bw_ring.specs.Ends.{ring_of_lane}
 use Rattle.bw_ring.specs.Marks.{marked}
 use Rattle.bw_history.specs.declared.entry.Entry.{Entry}
-use Rattle.bw_history.specs.Entries.{records}
 use Rattle.bw_history.specs.History.{entered}
 use Rattle.bw_core.specs.Kept.{filed_of}
 use Rattle.bw_core.specs.Kept as kept
 use Rattle.bw_core.specs.Views.{kept_by}
-use Rattle.bw_core.proofs.EnterMore.{all_sound, evicted_now, blocks_some, entered_all, filed_with, rows_begin, rows_inside, rows_many, tails_now, wanting_of}
-use Rattle.bw_core.proofs.GroupMore.{fewer_rooms}
+use Rattle.bw_core.proofs.EnterMore.{all_sound, evicted_now, blocks_some, entered_all, filed_with, rows_inside, rows_many, wanting_of}
 use Rattle.bw_history.proofs.Grouped.{whole_entered}
 use Rattle.bw_core.proofs.MayEnter.{lane_inside}
-use Rattle.bw_making.proofs.TailLists.{as_many}
 use Rattle.bw_core.proofs.store.Core.enter_all.Goals as goal
-
-pub reserve_all-requires : goal.reserve_all-requires
-reserve_all-requires g c =
-    let s = kept_by c.args.self.now (λ z. (goal.Segment-dyn g z).holding z.1) in
-    rows_begin s c.args.group c.args.draft.now c.requires.sound c.requires.lawful c.requires.draft _ c.as_slice-rows.ensures.value
 
 pub returns-in_err-apply_entries-clause-refused : goal.returns-in_err-apply_entries-clause-refused
 returns-in_err-apply_entries-clause-refused g c =
@@ -31,21 +23,6 @@ returns-in_err-apply_entries-clause-refused g c =
     let p = err_from_is_err_and c.from_residual-in_err-apply_entries.result c.from_residual-in_err-apply_entries.ensures.1 in
     rw (p.1, p.2) (wanting_of s c.args.self.now.leaves c.args.group c.in_err-apply_entries.field-0.0 refl refl
     (λ e. rw (sym c.as_slice-2.ensures.value) (c.in_err-apply_entries.ensures.only_spent (ap (λ (x : ApplyError). Err x) e))))
-
-pub note_all-requires : goal.note_all-requires
-note_all-requires g c =
-    let s = kept_by c.args.self.now (λ z. (goal.Segment-dyn g z).holding z.1) in
-    let many = rows_many s c.args.group c.args.draft.now c.requires.sound c.requires.lawful c.requires.draft _ c.as_slice-rows.ensures.value in
-    let few = c.as_slice-2.ensures.few in
-    let most = few.1 in
-    let room = c.in_ok-reserve_all.ensures.room in
-    record {
-      inside = rows_inside s c.args.group c.args.draft.now c.requires.sound c.requires.lawful c.requires.draft _ _
-          (as_many _ _ c.args.self.now.making.blocks (c.reserve_all.ensures.same ∙ c.args.self.now.tailed)) c.as_slice-rows.ensures.value;
-      many = many ∙ ap length (sym (c.in_ok-shares.ensures ∙ ap records c.as_slice.ensures.value ∙ c.requires.records));
-      room = omega arith;
-      links = fewer_rooms _ _ _ (omega arith) c.in_ok-reserve_all.ensures.links;
-    }
 
 pub file_all-requires-clause-some : goal.file_all-requires-clause-some
 file_all-requires-clause-some g c =
@@ -71,14 +48,10 @@ invariant_of-self-2 g c =
     let was = c.args.self.now in
     let s = kept_by was (λ z. (goal.Segment-dyn g z).holding z.1) in
     let after = c.in_ok-apply_entries.ensures.ok in
-    let leaves = ap (λ (x : Shown). x.leaves) after ∙ ap (pages was.leaves.m was.leaves.leaves) c.as_slice-2.ensures.value in
     let evicted = ap (λ (x : Shown). x.evicted) after in
     record {
       whole = whole_entered was.cuts.items was.intake.history.items c.enter.new.self.history.items c.args.lane c.args.group c.requires.sound.ordered was.whole
           (c.enter.ensures.grows ∙ ap (λ (es : List Entry). es ++ entered c.args.lane (marked c.args.group)) c.reserve.ensures.history);
-      tailed = tails_now s c.args.group c.args.draft.now c.requires.sound c.requires.lawful c.requires.draft _ _ _ _ _ _ _
-          c.as_slice-rows.ensures.value (c.in_ok-shares.ensures ∙ ap records c.as_slice.ensures.value ∙ c.requires.records) (c.reserve_all.ensures.same ∙ was.tailed) c.note_all.ensures
-          c.file_all.ensures.making c.as_slice-4.ensures.value leaves;
       logged = λ q there.
           evicted_now s c.args.group c.args.draft.now c.requires.sound c.requires.lawful c.requires.draft was.leaves.evicted q _ _ c.requires.here
           c.count.ensures.beyond

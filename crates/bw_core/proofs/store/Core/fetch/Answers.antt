@@ -1,6 +1,3 @@
-use Rattle.std.proofs.Common.{List, length, ap, sym, ◌∙◌}
-use Rattle.bw_record.specs.declared.leaf.Leaf.{Leaf}
-use Rattle.bw_making.specs.Tails.{tails_for}
 use Rattle.bw_core.proofs.EvictedPages.{evicted_less}
 use Rattle.bw_core.proofs.Fetched.{same_here, still_here}
 use Rattle.bw_core.proofs.store.Core.fetch.Goals as goal
@@ -10,7 +7,6 @@ invariant_of-self g c =
     let read = c.read_evicted.new.self in
     record {
       whole = read.whole;
-      tailed = read.tailed ∙ ap (λ (ls : List Leaf). tails_for (length ls) read.making.blocks) (sym c.bring_back.ensures.leaves);
       logged = evicted_less read.leaves c.bring_back.new.self c.find-page.result read.making.blocks c.bring_back.ensures.evicted read.logged;
       forgotten = read.forgotten;
       began = read.began;

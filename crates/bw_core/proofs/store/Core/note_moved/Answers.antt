@@ -1,5 +1,5 @@
-use Rattle.std.proofs.Common.{◌∙◌, ap, refl, sym, length}
-use Rattle.bw_making.specs.Tails.{tails_for, is_made}
+use Rattle.std.proofs.Common.{◌∙◌, ap, refl, sym}
+use Rattle.bw_making.specs.Tails.{is_made}
 use Rattle.bw_core.proofs.Forgetting.{gone_moved}
 use Rattle.bw_history.proofs.Grouped.{whole_many}
 use Rattle.bw_core.proofs.store.Core.note_moved.Goals as goal
@@ -8,7 +8,6 @@ pub invariant_of-self : goal.invariant_of-self
 invariant_of-self g c = record {
   whole = whole_many c.args.self.now.cuts.items _ c.args.self.now.intake.history.items c.frames_between-frames.result _ c.args.self.now.whole
       c.args.self.now.intake.grouped c.len-end.ensures c.push_many.ensures;
-  tailed = c.args.self.now.tailed ∙ ap (tails_for (length c.args.self.now.leaves.leaves)) (c.requires.empty ∙ sym c.begin_at.ensures.empty);
   logged = λ p evicted. ap (is_made p) c.begin_at.ensures.empty;
   forgotten = gone_moved c.args.self.now.cuts.items _ c.frames_between-frames.result c.len-end.result c.args.self.now.durable _ _
       c.requires.cut.0 (c.requires.cut.1 ∙ sym c.len-end.ensures) c.push_many.ensures refl c.args.self.now.forgotten;
