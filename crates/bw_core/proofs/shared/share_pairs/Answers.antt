@@ -2,7 +2,6 @@ use Rattle.std.proofs.Common.{◌≡◌, ◌+◌, ◌-◌, ◌∙◌, ◌++◌, 
 use Rattle.std.specs.Prelude.{min}
 use Rattle.bw_leaf.specs.Above.{pairs_above, with_some}
 use Rattle.bw_leaf.specs.Changed.{Pairs}
-use Rattle.bw_leaf.specs.Seek.{seek_of, end_of}
 use Rattle.bw_leaf.proofs.Sought.{some_above}
 use Rattle.bw_core.proofs.shared.share_pairs.Goals as goal
 
