@@ -53,12 +53,7 @@ fn push_shared(found: &mut Vec<Pair>, pairs: &[Pair]) -> Result<(), AllocError>
 }
 
 /// Adds the pairs of a page at or above a key, in order, until there are so many.
-fn share_pairs(
-    leaf: &Leaf,
-    key: &Key,
-    most: usize,
-    found: &mut Vec<Pair>,
-) -> Result<(), AllocError>
+fn share_pairs(leaf: &Leaf, key: &Key, most: usize, found: &mut Vec<Pair>) -> Result<(), AllocError>
     ensures { OnOk result (found.new.items
         ≡ with_some most found.old.items (pairs_above key.now leaf.now.pairs)) }
 {

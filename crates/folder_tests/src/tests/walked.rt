@@ -47,12 +47,7 @@ fn comes(walk: &mut Walk, home: &mut Home, key: &[u8]) -> Result<bool, Fail>
     }
 }
 
-fn finds(
-    found: &mut Vec<Pair>,
-    home: &mut Home,
-    key: &[u8],
-    most: usize,
-) -> Result<bool, Fail>
+fn finds(found: &mut Vec<Pair>, home: &mut Home, key: &[u8], most: usize) -> Result<bool, Fail>
     requires { IsReady home.old holding }
     ensures { IsReady home.new holding }
 {

@@ -183,12 +183,7 @@ fn is_pair(told: Option<&(Key, Value)>, key: &Key, value: &[u8]) -> bool {
 }
 
 /// Whether the first pair from a key on, which shares its bytes with its page, is this one.
-fn is_shared(
-    alloc: Global,
-    store: &mut Store,
-    key: &Key,
-    value: &[u8],
-) -> Result<bool, StoreFault>
+fn is_shared(alloc: Global, store: &mut Store, key: &Key, value: &[u8]) -> Result<bool, StoreFault>
     requires { IsSound store.old holding }
     ensures sound { IsSound store.new holding }
     ensures rings { (kept_by store.new holding).rings ≡ (kept_by store.old holding).rings }
