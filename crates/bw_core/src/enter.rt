@@ -1,4 +1,10 @@
 //! Records are entered in the history and in the frame in the making.
+//!
+//! Five lists change for one record: history, page, last places, frame and ring. Were the third
+//! refused memory after two had changed, the store would have to take them back, and each such way
+//! back would be code that hardly ever runs. So nothing is undone here: every list grows first,
+//! unused, and the page, which may be refused all the same, changes before the others. What comes
+//! behind it cannot be refused, and its types say so: it answers nothing.
 
 ghost use Rattle.std.specs.Prelude.{◌≡◌, ◌≤◌, ◌<◌, ◌+◌, ◌-◌, ◌^◌, ◌∷◌, [], Some, false, length, map, vec_len, slice_get, OnOk, OnErr, IfOk, IfErr};
 ghost use Rattle.std.specs.List.{AllByRecursion};

@@ -1,4 +1,13 @@
 //! The frame in the making is appended, and the next one begun.
+//!
+//! Checks and growths come first (`prepare`): behind them nothing but the device can refuse. Then
+//! the frame is sealed and its cut pushed, and only then its bytes go out. The order matters where
+//! the device fails: what it wrote nobody knows, so the frame stays sealed, its cut stands beyond
+//! the durable ones, and the log is failed for good. A second try would append behind a piece of
+//! unknown length. Recovery finds that frame or does not, and both are beginnings of the history.
+//!
+//! `durable` is counted behind the append and nowhere else: it is what receipts, readers and
+//! `forget` go by.
 
 ghost use Rattle.std.specs.Prelude.{◌≡◌, ◌≤◌, ◌<◌, Some, [], true, false, length, vec_len, OnOk, IfErr, MatchResult};
 ghost use Rattle.std.specs.Vec.{vec_capacity};

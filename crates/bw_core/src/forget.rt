@@ -1,4 +1,8 @@
 //! What is durable of the history leaves memory.
+//!
+//! Every clause speaks of the whole history, and a store that runs for a year must not hold it. So
+//! entries leave memory and stay in the clauses: what is left is the part that no frame has yet, or
+//! that readers have still to be shown. Receipts go by lengths, and lose nothing.
 
 ghost use Rattle.std.specs.Prelude.{◌≡◌, ◌≤◌, ◌+◌, length, max, min};
 ghost use Rattle.bw_core.specs.Following.{Follows, HasBoxes};

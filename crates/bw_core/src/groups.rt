@@ -1,4 +1,11 @@
 //! A group of several records: all of it is planned, and then all of it is entered.
+//!
+//! What a record adds to the frame depends on the records before it: it may stand on a page that
+//! one of these makes, or join the Delta of one. But no page may change before it is sure that the
+//! whole group fits the frame. So the group is drafted on what the records before would leave:
+//! `Leaves::steps` applies all but the last to the pages, notes what each did, and takes them back.
+//! The work in the pages comes twice; a draft is blocks and places alone, and is thrown away where
+//! they do not fit.
 
 ghost use Rattle.std.specs.Prelude.{ℕ, ◌≡◌, ◌<◌, ◌+◌, Some, Err, true, false, List, length, map, take, IfOk, IfErr, OnOk, OnErr, MatchOption};
 ghost use Rattle.std.specs.List.{AllByRecursion};

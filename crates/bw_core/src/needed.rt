@@ -1,4 +1,9 @@
 //! How much of a live segment is still needed, and when it pays to clean the oldest.
+//!
+//! A cleaning writes what is still needed of a segment behind all others, and gives its room back.
+//! Where most of it is needed that makes the log longer, and a store that cleans whenever it is
+//! full would write the same pages round and round. It pays at twice what is needed and 88 bytes
+//! more: heads of frames and headers are less than that, so room is won; no clause says so.
 
 ghost use Rattle.std.specs.Prelude.{◌≡◌, ◌≤◌, ◌<◌, ◌^◌, ◌↔◌, None, Some, length, slice_get, IfSome, IsTrue, MatchOption};
 ghost use Rattle.bw_log.specs.Contents.{counted};

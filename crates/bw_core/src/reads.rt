@@ -1,4 +1,12 @@
 //! Pages and values, as the history leaves them, in memory or read from the log.
+//!
+//! A page in memory has all records, also those that no frame has yet. A page that was evicted is
+//! what the log has of it with what the frame in the making adds: read without that, a value that
+//! was put and not yet flushed would be gone until the next flush. A value is looked for from the
+//! newest block back, so a key that changed lately costs one frame, and not the whole page.
+//!
+//! A read changes one thing in the store, the count of a segment's failures. The page stays where
+//! it is, so a walk over more pages than memory has room for drives none out.
 
 ghost use Rattle.std.specs.Prelude.{ℕ, ◌≡◌, ◌≤◌, ◌↔◌, ◌⊎◌, true, false, Some, None, List, length, IfOk, IfErr, OnErr, OnOk, IsErrOf};
 ghost use Rattle.std.specs.FinMap as finite;

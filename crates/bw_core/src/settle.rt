@@ -1,4 +1,9 @@
 //! All that was accepted is taken and appended.
+//!
+//! Where a turn asks the rings again and again, a settling looks at each ring once, with both of
+//! its ends at hand, and takes what it knows of then. A further look could show more, and nothing
+//! would bound the loop; and what the feeds had accepted at the call is what the caller may speak
+//! of. It goes lane by lane: no promise speaks of the order among writers.
 
 ghost use Rattle.std.specs.Prelude.{◌≡◌, ◌<◌, Err, [], true, length, map, IfErr, IfOk, MatchResult, OnOk};
 ghost use Rattle.bw_ring.specs.Ends.{accepted, given, ring_of_feed, taken};

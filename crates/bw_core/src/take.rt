@@ -1,4 +1,14 @@
 //! One group is taken from a lane, whole or not at all.
+//!
+//! A reader of the log must never see a part of a group, and no stop may leave one. So a group's
+//! blocks go into one frame: where they do not fit the frame in the making, that one is appended
+//! first, and the group begins the next. And the group leaves its ring as the last thing of all:
+//! were it popped before its page is read or its frame appended, a refusal would lose it. All that
+//! can be refused (a read of an evicted page, a growth, an append) comes before; so whoever was
+//! refused finds the same group first in its ring, and may ask again.
+//!
+//! A record by itself is the common case, and takes no list: it is planned, and entered. Several
+//! are planned one behind the other (`groups.rt`) before the first of them changes a page.
 
 ghost use Rattle.std.specs.Prelude.{◌≡◌, ◌≤◌, ◌<◌, ◌+◌, ◌-◌, ◌∷◌, [], Some, None, false, length, map, IfSome, IfNone, IfOk, IfErr, OnOk, OnErr, MatchResult};
 ghost use Rattle.std.specs.List.{AllByRecursion};

@@ -1,4 +1,8 @@
 //! Turns: rounds over the lanes.
+//!
+//! A turn takes one group from each lane and begins again at the first, so a writer that puts
+//! without end keeps no other waiting. It ends with a round that took none, or at its limit:
+//! without one, a writer in a thread of its own could keep it from ending.
 
 ghost use Rattle.std.specs.Prelude.{◌≡◌, ◌≤◌, ◌<◌, ◌+◌, ◌*◌, length, IfOk, IfErr, MatchResult};
 ghost use Rattle.bw_core.specs.Following.{Turned, TookInTurn, RefusedAfter, TurnsOn, groups_since};

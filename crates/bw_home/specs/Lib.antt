@@ -3,3 +3,4 @@ pub mod Putting
 pub mod Renewing
 pub mod Sharing
 pub mod Maps
+pub mod Reasons

@@ -47,13 +47,14 @@ impl Home {
     {
         self.stock.renew(rt)?;
         let cleaned = self.give_up(rt)?;
+        self.stock.is_owed = true;
         self.stock.renew(rt)?;
         Ok(cleaned)
     }
 
     /// Gives up the oldest segment as `clean` does, but its file keeps what it has, up to a call of
-    /// `empty`, and nothing stands in its place. So its file stands as long as something is told
-    /// before.
+    /// `empty` or `make_spare`, and nothing stands in its place. So its file stands as long as
+    /// something is told before.
     ///
     /// Refused as `clean` is; `Folder` where the file of the one that was given up before was not
     /// emptied: no other is given up then.
@@ -88,7 +89,8 @@ impl Home {
     }
 
     /// Makes a further segment, with the least lease that is free: a spare from the next leg on, as
-    /// `added` then tells, or once the folder is opened again.
+    /// `added` then tells, or once the folder is opened again. The file of the segment that was given
+    /// up last is emptied before.
     ///
     /// Refused `Lease`, where none is free; `Folder`, and `NoMemory`. The store is as it was.
     pub fn make_spare<R: System>(&mut self, rt: &R) -> Result<(), HomeFault>

@@ -1,6 +1,6 @@
 //! A store with the feeds of its writers, and where its segments stand.
 
-ghost use Rattle.std.specs.Prelude.{◌≡◌, ◌<◌, ◌≤◌, ℕ, Some, Err, true, length, map, slice_get, IfOk, IfErr, OnOk, OnErr, MatchResult};
+ghost use Rattle.std.specs.Prelude.{◌≡◌, ◌<◌, ◌≤◌, ℕ, Some, Err, true, length, map, slice_get, IfSome, IfOk, IfErr, OnOk, OnErr, MatchResult};
 ghost use Rattle.std.specs.FinMap as finite;
 ghost use Rattle.bw_page.specs.Ahead.{IsFirst, IsStretch};
 ghost use Rattle.bw_page.specs.Leaves.{plain};
@@ -19,6 +19,7 @@ ghost use Rattle.bw_core.specs.Reading.{HasRead};
 ghost use Rattle.bw_core.specs.Settled.{IsSettled};
 ghost use Rattle.bw_core.specs.Settling.{SettleRefuses};
 ghost use Rattle.bw_home.specs.Putting.{Added, AddedGroup};
+ghost use Rattle.bw_home.specs.Reasons.{IsWaitRefused};
 
 use crate::fault::{GroupNotPut, HomeFault, NotPut};
 use crate::found::Found;
@@ -148,6 +149,9 @@ impl Home {
         ensures back { IfErr result (λ not_put. not_put.record ≡ item) }
         ensures unchanged { OnErr result
             (map accepted self.new.feeds.items ≡ map accepted self.old.feeds.items) }
+        ensures refused { IfErr result (λ not_put. IfSome not_put.cause
+            (IsWaitRefused (kept_in self.old holding) (lanes_of self.new.store)
+            (away_in self.new.store) (kept_in self.new holding))) }
         ensures follows { Follows (kept_in self.old holding) (kept_in self.new holding) }
     {
         match self.put_group(0, Group::one(item)) {
@@ -169,6 +173,9 @@ impl Home {
         ensures back { IfErr result (λ not_put. not_put.group ≡ group) }
         ensures unchanged { OnErr result
             (map accepted self.new.feeds.items ≡ map accepted self.old.feeds.items) }
+        ensures refused { IfErr result (λ not_put. IfSome not_put.cause
+            (IsWaitRefused (kept_in self.old holding) (lanes_of self.new.store)
+            (away_in self.new.store) (kept_in self.new holding))) }
         ensures follows { Follows (kept_in self.old holding) (kept_in self.new holding) }
     {
         let group = match self.offer(writer, group) {

@@ -1,6 +1,6 @@
 //! A home with one writer as a map: what is set is seen at once, and kept by `keep`.
 
-ghost use Rattle.std.specs.Prelude.{◌≡◌, ◌<◌, length, map, IfErr, IfOk, MatchResult, OnOk};
+ghost use Rattle.std.specs.Prelude.{◌≡◌, ◌↔◌, ◌<◌, length, map, IfErr, IfOk, IsErrOf, MatchResult, OnOk};
 ghost use Rattle.std.specs.FinMap as finite;
 ghost use Rattle.std.specs.List.{fold, AllByRecursion};
 ghost use Rattle.bw_leaf.specs.Changed.{changed_map};
@@ -11,6 +11,7 @@ ghost use Rattle.bw_core.specs.Following.{Follows, groups_since, RefusedAt};
 ghost use Rattle.bw_core.specs.Goal.{SameFeeds, Sequel};
 ghost use Rattle.bw_core.specs.Machine.{machine_of};
 ghost use Rattle.bw_home.specs.Maps.{Has, Keeps, Refuses};
+ghost use Rattle.bw_home.specs.Reasons.{IsReason};
 
 use crate::fault::{GroupNotPut, MapFault};
 use crate::home::Home;
@@ -64,6 +65,10 @@ impl Home {
             (maps_of self.new holding)) }
         ensures refused { IfErr result (λ fault. Refuses fault (maps_of self.old holding).put
             (finite.insert (maps_of self.old holding).put key value) (maps_of self.new holding)) }
+        ensures writers { IsErrOf result MapFault.Writers
+            ↔ (length self.old.feeds.items ≡ 1 → ⊥) }
+        ensures reason { IfErr result (λ fault. IsReason fault (kept_in self.old holding)
+            (lanes_of self.new.store) (away_in self.new.store) (kept_in self.new holding)) }
         ensures follows { Follows (kept_in self.old holding) (kept_in self.new holding) }
     {
         self.change(Group::one(Record::Put(key, value)))
@@ -77,6 +82,10 @@ impl Home {
             (Has (finite.remove (maps_of self.old holding).put key) (maps_of self.new holding)) }
         ensures refused { IfErr result (λ fault. Refuses fault (maps_of self.old holding).put
             (finite.remove (maps_of self.old holding).put key) (maps_of self.new holding)) }
+        ensures writers { IsErrOf result MapFault.Writers
+            ↔ (length self.old.feeds.items ≡ 1 → ⊥) }
+        ensures reason { IfErr result (λ fault. IsReason fault (kept_in self.old holding)
+            (lanes_of self.new.store) (away_in self.new.store) (kept_in self.new holding)) }
         ensures follows { Follows (kept_in self.old holding) (kept_in self.new holding) }
     {
         self.change(Group::one(Record::Del(key)))
@@ -92,6 +101,10 @@ impl Home {
             (maps_of self.new holding)) }
         ensures refused { IfErr result (λ fault. Refuses fault (maps_of self.old holding).put
             (fold changed_map (maps_of self.old holding).put group) (maps_of self.new holding)) }
+        ensures writers { IsErrOf result MapFault.Writers
+            ↔ (length self.old.feeds.items ≡ 1 → ⊥) }
+        ensures reason { IfErr result (λ fault. IsReason fault (kept_in self.old holding)
+            (lanes_of self.new.store) (away_in self.new.store) (kept_in self.new holding)) }
         ensures follows { Follows (kept_in self.old holding) (kept_in self.new holding) }
     {
         if self.feeds.len() != 1 {
@@ -117,6 +130,10 @@ impl Home {
             (Keeps (maps_of self.old holding).put (maps_of self.new holding)) }
         ensures answer { IfOk result (λ n. n ≡ length (kept_in self.new holding).entries) }
         ensures put { (maps_of self.new holding).put ≡ (maps_of self.old holding).put }
+        ensures writers { IsErrOf result MapFault.Writers
+            ↔ (length self.old.feeds.items ≡ 1 → ⊥) }
+        ensures reason { IfErr result (λ fault. IsReason fault (kept_in self.old holding)
+            (lanes_of self.new.store) (away_in self.new.store) (kept_in self.new holding)) }
         ensures follows { Follows (kept_in self.old holding) (kept_in self.new holding) }
     {
         if self.feeds.len() != 1 {

@@ -129,6 +129,7 @@ impl SharedHome {
         self.stock.renew(rt)?;
         let cleaned = self.store.clean(rt)?;
         self.stock.given_up = Some(cleaned.lease);
+        self.stock.is_owed = true;
         self.stock.renew(rt)?;
         Ok(cleaned)
     }

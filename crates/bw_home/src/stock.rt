@@ -28,9 +28,10 @@ pub(crate) struct Stock {
     capacity: u64,
     /// What was there before the store.
     pub(crate) found: Option<Found>,
-    /// The lease of the segment that was given up last, as long as its file was not emptied, or a
-    /// new segment is to stand in its place.
+    /// The lease of the segment that was given up last, as long as its file was not emptied.
     pub(crate) given_up: Option<u32>,
+    /// Whether a new segment is still to stand in its place.
+    pub(crate) is_owed: bool,
     /// Segments that were made: spares from the next leg on.
     made: Vec<Made>,
     pub(crate) added: Option<Added>,
@@ -54,6 +55,7 @@ impl Stock {
             capacity,
             found,
             given_up: None,
+            is_owed: false,
             made: Vec::new(alloc),
             added: None,
         }
@@ -70,23 +72,25 @@ impl Stock {
         Ok(())
     }
 
-    /// The same, and makes a new segment in its place. A stop must never show a later segment gone
-    /// and an earlier one still there.
+    /// The same, and makes a new segment in its place, where one is owed. A stop must never show a
+    /// later segment gone and an earlier one still there.
     pub(crate) fn renew<R: System>(&mut self, rt: &R) -> Result<(), HomeFault>
         ensures { IfErr result IsOfSite }
     {
-        if let Some(lease) = self.given_up {
-            self.site.empty(rt, lease)?;
+        self.empty(rt)?;
+        if self.is_owed {
             self.make_spare(rt)?;
-            self.given_up = None;
+            self.is_owed = false;
         }
         Ok(())
     }
 
-    /// Makes a segment with the least lease that is free.
+    /// Makes a segment with the least lease that is free. This may be that of the segment that was
+    /// given up last: so its file is emptied before, and never again.
     pub(crate) fn make_spare<R: System>(&mut self, rt: &R) -> Result<(), HomeFault>
         ensures { IfErr result IsOfSite }
     {
+        self.empty(rt)?;
         let made = self.site.spare(rt, self.capacity)?;
         self.made.push(made)?;
         Ok(())

@@ -258,15 +258,23 @@ fn clean_served<R: System>(rt: &R, home: &mut Home) -> Result<Answer, Miss>
     Ok(Answer::Won(cleaned, won))
 }
 
+/// Does what a command asks for; a cleaning tells what it won.
+fn call_winning<R: System>(rt: &R, home: &mut Home, command: Command) -> Result<Answer, Miss>
+    requires { IsReady home.old holding }
+    ensures { IsReady home.new holding }
+{
+    match command {
+        Command::Clean => clean_served(rt, home),
+        command => call(rt, home, command),
+    }
+}
+
 /// Does what a command of a request asks for.
 fn call_served<R: System>(rt: &R, home: &mut Home, command: Command) -> Result<Answer, Miss>
     requires { IsReady home.old holding }
     ensures { IsReady home.new holding }
 {
-    let answer = match command {
-        Command::Clean => clean_served(rt, home)?,
-        command => call(rt, home, command)?,
-    };
+    let answer = call_winning(rt, home, command)?;
     forget_behind(home, &answer);
     Ok(answer)
 }

@@ -72,6 +72,78 @@ fn a_cleaning_goes_in_parts(rt: HostRuntime) -> Result<(), Fail> {
     Ok(())
 }
 
+const TAKEN: &str = "folder_tests_taken";
+
+const TAKEN_FIRST: &str = "folder_tests_taken/segment-0000.bw";
+
+/// Gives up the first of two segments, whose file is not emptied, and makes two spares, of which the
+/// first stands over that file. Whether what this one has stays where what was given up is emptied.
+#[derive(Drop)]
+struct Taken {
+    made: u32,
+}
+
+impl Taken {
+    // Makes a spare over the file of what was given up.
+    fn begin<R: System>(&mut self, rt: &R, home: &mut Home) -> Result<bool, Fail>
+        requires { IsReady home.old holding }
+        ensures { IsReady home.new holding }
+    {
+        put_one(home, b'a')?;
+        put_one(home, b'b')?;
+        let lease = home.give_up(rt)?.lease;
+        self.further(rt, home)?;
+        Ok(lease == 0)
+    }
+
+    fn further<R: System>(&mut self, rt: &R, home: &mut Home) -> Result<bool, Fail>
+        requires { IsReady home.old holding }
+        ensures { IsReady home.new holding }
+    {
+        home.make_spare(rt)?;
+        self.made = self.made.saturating_add(1);
+        Ok(true)
+    }
+}
+
+// Fills three segments, that of the first file among them.
+fn fill<R: System>(rt: &R, home: &mut Home) -> Result<bool, Fail>
+    requires { IsReady home.old holding }
+    ensures { IsReady home.new holding }
+{
+    put_one(home, b'c')?;
+    put_one(home, b'd')?;
+    put_one(home, b'e')?;
+    let written = length_of(rt, TAKEN_FIRST)?;
+    home.empty(rt)?;
+    Ok(written > 0 && length_of(rt, TAKEN_FIRST)? == written)
+}
+
+impl<R: System> Legs<R> for Taken {
+    type Answer = Result<bool, Fail>;
+
+    fn leg(&mut self, rt: &R, home: &mut Home) -> Option<Result<bool, Fail>> {
+        let went = match self.made {
+            0 => self.begin(rt, home),
+            1 => self.further(rt, home),
+            _ => return Some(fill(rt, home)),
+        };
+        match went {
+            Ok(true) => None,
+            went => Some(went),
+        }
+    }
+}
+
+#[test]
+fn a_file_that_has_a_new_segment_is_not_emptied(rt: HostRuntime) -> Result<(), Fail> {
+    let mut taken = Taken { made: 0 };
+    let went = with_store_at(&rt, Some(TAKEN), 64, &SMALL, &mut taken)??;
+    assert!(&rt; went);
+    fs::remove_dir_all(&rt, TAKEN)?;
+    Ok(())
+}
+
 const ROW: &str = "folder_tests_row";
 
 const ROW_FIRST: &str = "folder_tests_row/segment-0000.bw";
