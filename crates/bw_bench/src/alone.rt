@@ -12,6 +12,7 @@ use crate::beside::{Seen, end_if, start_if};
 use crate::shape::{Span, WHOLE};
 use crate::stop::Stop;
 use crate::subject::Subject;
+use crate::walks::walks;
 use crate::watch::resident;
 use bw_ring::Feed;
 use bw_store::Store;
@@ -98,7 +99,8 @@ impl<R: Threads + Wait> Subject<'_, R> {
         read_back(bench, store, span.name, keys, span.to)
     }
 
-    /// New keys, then old ones; and where there is nothing beside and readers see all, gets.
+    /// New keys, then old ones; and where there is nothing beside and readers see all, gets and
+    /// walks.
     fn put_and_get(&self, store: &mut Store, feed: &mut Feed) -> Option<()>
         requires { IsSound store.old holding }
         ensures store { Keeps store.old store.new holding }
@@ -111,6 +113,7 @@ impl<R: Threads + Wait> Subject<'_, R> {
             return Some(());
         }
         gets(self.bench, store)?;
+        walks(self.bench, store)?;
         gets_evicted(self.bench, store)
     }
 

@@ -25,6 +25,7 @@ mod shape;
 mod steady;
 mod stop;
 mod subject;
+mod walks;
 mod watch;
 
 use bench::Bench;

@@ -37,6 +37,7 @@ mod reopen;
 mod rewrite;
 mod segments;
 mod settle;
+mod shared;
 mod store;
 mod take;
 mod take_all;

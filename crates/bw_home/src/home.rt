@@ -28,7 +28,7 @@ use crate::site::Site;
 use crate::stock::Stock;
 use crate::system::System;
 use bw_care::Recovered;
-use bw_codec::{Key, Record, Value};
+use bw_codec::{Key, Pair, Record, Value};
 use bw_core::{Core, StoreFault, TurnFault};
 use bw_device::Segment;
 use bw_ring::{Feed, FullGroup, Group, Items};
@@ -368,5 +368,25 @@ impl Home {
         ensures boxes { HasBoxes (kept_in self.old holding) (kept_in self.new holding) }
     {
         self.store.scan(key, most, found)
+    }
+
+    /// Puts the pairs at or above a key into `found`, as `scan` does, but copies none of their
+    /// bytes. As `Core::scan_shared`.
+    pub fn scan_shared(
+        &mut self,
+        key: &Key,
+        most: usize,
+        found: &mut Vec<Pair>,
+    ) -> Result<(), StoreFault>
+        requires { IsReady self.old holding }
+        ensures ready { IsReady self.new holding }
+        ensures feeds { self.new.feeds ≡ self.old.feeds }
+        ensures value { OnOk result (IsStretch (plain (kept_in self.old holding).start
+            (records (kept_in self.old holding).entries)) key.now most found.new.items) }
+        ensures read { HasRead (kept_in self.old holding) (kept_in self.new holding) }
+        ensures follows { Follows (kept_in self.old holding) (kept_in self.new holding) }
+        ensures boxes { HasBoxes (kept_in self.old holding) (kept_in self.new holding) }
+    {
+        self.store.scan_shared(key, most, found)
     }
 }

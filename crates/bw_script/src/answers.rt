@@ -3,11 +3,11 @@
 ghost use Rattle.bw_home.specs.Ready.{IsReady};
 
 use crate::calls::durable;
-use bw_codec::{Key, Leaf, Value};
+use bw_codec::{Key, Leaf, Pair, Value};
 use bw_core::{Cleaned, PackedEntry};
 use bw_file::FolderFault;
 use bw_home::Home;
-use bw_look::{Printer, write_page, write_pair};
+use bw_look::{Printer, write_page, write_word};
 use bw_rescue::Copied;
 use bw_words::{Stop, write_dump, write_entry, write_pair_line, write_value};
 use std::io::Write;
@@ -28,7 +28,7 @@ pub enum Answer {
     /// The first pair at or above a key, if there is one.
     Pair(Option<(Key, Value)>),
     /// Some pairs, in the order of their keys.
-    Pairs(Vec<(Key, Value)>),
+    Pairs(Vec<Pair>),
     /// How many pairs there are.
     Count(u64),
     /// How many pages there are.
@@ -76,11 +76,13 @@ fn write_copied<O: Write>(out: &mut Printer<'_, O>, copied: Copied) {
     out.line(" pairs ", copied.pairs);
 }
 
-fn write_pairs<O: Write>(out: &mut Printer<'_, O>, pairs: &[(Key, Value)]) {
+fn write_pairs<O: Write>(out: &mut Printer<'_, O>, pairs: &[Pair]) {
     out.named("pairs ", pairs.len());
     for pair in pairs {
         out.text(b" ");
-        write_pair(out, &pair.0, &pair.1);
+        write_word(out, pair.key());
+        out.text(b"=");
+        write_word(out, pair.value());
     }
     out.text(b"\n");
 }

@@ -160,7 +160,7 @@ fn scan(alloc: Global, home: &mut Home, key: &Key, most: u32) -> Result<Answer, 
     ensures { IsReady home.new holding }
 {
     let mut found = Vec::new(alloc);
-    home.scan(key, most as usize, &mut found)?;
+    home.scan_shared(key, most as usize, &mut found)?;
     Ok(Answer::Pairs(found))
 }
 

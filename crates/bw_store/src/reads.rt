@@ -13,7 +13,7 @@ ghost use Rattle.bw_store.specs.Following.{Follows, HasBoxes};
 ghost use Rattle.bw_store.specs.Reading.{leaves_now, HasRead, PageLeaves, ReadLeaves, WalkLeaves};
 
 use crate::store::Store;
-use bw_codec::{Key, Leaf, Value};
+use bw_codec::{Key, Leaf, Pair, Value};
 use bw_core::StoreFault;
 
 impl Store {
@@ -173,6 +173,36 @@ impl Store {
         ensures noted { noted_of self.new ≡ noted_of self.old }
     {
         self.core.scan(key, most, found)
+    }
+
+    /// Puts the pairs at or above a key into `found`, as `scan` does, but copies none of their
+    /// bytes: a pair that was found shares them with its page. It stays as it was found, whatever
+    /// becomes of the page, and they stay in memory as long as it does.
+    ///
+    /// It costs a search and a look for each page, and a look at each pair. Refused as `scan` is;
+    /// `NoMemory` also where the count of those that share a pair is full.
+    pub fn scan_shared(
+        &mut self,
+        key: &Key,
+        most: usize,
+        found: &mut Vec<Pair>,
+    ) -> Result<(), StoreFault>
+        requires { IsSound self.old holding }
+        ensures value { OnOk result (IsStretch (plain (kept_by self.old holding).start
+            (records (kept_by self.old holding).entries)) key.now most found.new.items) }
+        ensures sound { IsSound self.new holding }
+        ensures read { HasRead (kept_by self.old holding) (kept_by self.new holding) }
+        ensures leaves { WalkLeaves (kept_by self.old holding) result
+            (kept_by self.new holding) }
+        ensures memory { ((p : ℕ) → is_evicted p self.old ≡ false)
+            → IfErr result (λ fault. fault ≡ StoreFault.NoMemory) }
+        ensures evicted { (p : ℕ) → is_evicted p self.new ≡ is_evicted p self.old }
+
+        ensures follows { Follows (kept_by self.old holding) (kept_by self.new holding) }
+        ensures boxes { HasBoxes (kept_by self.old holding) (kept_by self.new holding) }
+        ensures noted { noted_of self.new ≡ noted_of self.old }
+    {
+        self.core.scan_shared(key, most, found)
     }
 
     /// How many pairs there are, as all records of the history leave them, flushed or not, in

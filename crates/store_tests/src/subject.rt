@@ -5,7 +5,7 @@ ghost use Rattle.bw_care.specs.Found.{IsRecovered};
 ghost use Rattle.bw_ring.specs.Ends.{ring_of_feed};
 
 use bw_care::Recovered;
-use bw_codec::{Key, Leaf, Value};
+use bw_codec::{Key, Leaf, Pair, Value};
 use bw_core::Core;
 use bw_device::Segment;
 use bw_ring::Feed;
@@ -240,6 +240,22 @@ impl Subject {
         match self {
             Subject::Bare(core) => core.prev_below(key),
             Subject::Shown(store) => store.prev_below(key),
+        }
+    }
+
+    pub fn scan_shared(
+        &mut self,
+        key: &Key,
+        most: usize,
+        found: &mut Vec<Pair>,
+    ) -> Result<(), StoreFault>
+        requires { IsSound self.old holding }
+        ensures sound { IsSound self.new holding }
+        ensures rings { rings_by self.new holding ≡ rings_by self.old holding }
+    {
+        match self {
+            Subject::Bare(core) => core.scan_shared(key, most, found),
+            Subject::Shown(store) => store.scan_shared(key, most, found),
         }
     }
 

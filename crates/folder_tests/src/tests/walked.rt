@@ -1,11 +1,12 @@
-//! A walk goes over the pairs of a prefix, or over all, as they are at each step; and the least key
-//! above another.
+//! A walk goes over the pairs of a prefix, or over all, as they are at each step; a stretch of pairs
+//! stays as it was found; and the least key above another.
 
 ghost use Rattle.bw_home.specs.Ready.{IsReady};
 
 use super::again::SMALL;
-use bw::{Home, Key, Legs, System, Value, Walk, after, with_store_at};
+use bw::{Home, Key, Legs, Pair, System, Value, Walk, after, with_store_at};
 use bw_codec::limits::MAX_KEY;
+use std::alloc::Global;
 use std::test::Fail;
 
 /// One call, with what it has to answer.
@@ -19,9 +20,13 @@ enum Step {
     Over(&'static [u8]),
     /// The walk comes to this key; with no bytes, to its end.
     Comes(&'static [u8]),
+    /// Pairs are found from a key on, no more than so many.
+    Finds(&'static [u8], usize),
+    /// They are those of these keys.
+    Found(&'static [&'static [u8]]),
 }
 
-use Step::{All, Comes, Over, Set};
+use Step::{All, Comes, Finds, Found, Over, Set};
 
 fn set(home: &mut Home, key: &[u8]) -> Result<bool, Fail>
     requires { IsReady home.old holding }
@@ -42,18 +47,43 @@ fn comes(walk: &mut Walk, home: &mut Home, key: &[u8]) -> Result<bool, Fail>
     }
 }
 
+fn finds(found: &mut Vec<Pair>, home: &mut Home, key: &[u8], most: usize) -> Result<bool, Fail>
+    requires { IsReady home.old holding }
+    ensures { IsReady home.new holding }
+{
+    home.scan_shared(&Key::new(key)?, most, found)?;
+    Ok(true)
+}
+
+fn are_those_of(pairs: &[Pair], keys: &[&'static [u8]]) -> bool {
+    pairs.len() == keys.len()
+        && pairs
+            .iter()
+            .zip(keys)
+            .all(|(pair, key)| pair.key() == *key && pair.value() == *key)
+}
+
 // Whether the step goes as told.
-fn goes(walk: &mut Walk, home: &mut Home, step: &Step) -> Result<bool, Fail>
+fn goes(going: &mut Going, home: &mut Home, step: &Step) -> Result<bool, Fail>
     requires { IsReady home.old holding }
     ensures { IsReady home.new holding }
 {
     match step {
         Set(key) => return set(home, *key),
-        Comes(key) => return comes(walk, home, *key),
-        All => *walk = Walk::all(),
-        Over(prefix) => *walk = Walk::over(Key::new(*prefix)?),
+        Comes(key) => return comes(&mut going.walk, home, *key),
+        Finds(key, most) => return finds(&mut going.found, home, *key, *most),
+        Found(keys) => return Ok(are_those_of(&going.found, *keys)),
+        All => going.walk = Walk::all(),
+        Over(prefix) => going.walk = Walk::over(Key::new(*prefix)?),
     }
     Ok(true)
+}
+
+/// A walk, and the pairs that were found last.
+#[derive(Drop)]
+struct Going {
+    walk: Walk,
+    found: Vec<Pair>,
 }
 
 /// Steps, one a leg.
@@ -61,15 +91,19 @@ fn goes(walk: &mut Walk, home: &mut Home, step: &Step) -> Result<bool, Fail>
 struct Steps {
     steps: &'static [Step],
     at: usize,
-    walk: Walk,
+    going: Going,
 }
 
 impl Steps {
-    fn of(steps: &'static [Step]) -> Steps {
+    fn of(alloc: Global, steps: &'static [Step]) -> Steps {
+        let going = Going {
+            walk: Walk::all(),
+            found: Vec::new(alloc),
+        };
         Steps {
             steps,
             at: 0,
-            walk: Walk::all(),
+            going,
         }
     }
 }
@@ -82,7 +116,7 @@ impl<R: System> Legs<R> for Steps {
         let Some(step) = self.steps.get(self.at) else {
             return Some(Ok(self.at));
         };
-        match goes(&mut self.walk, home, step) {
+        match goes(&mut self.going, home, step) {
             Ok(true) => {
                 self.at = self.at.saturating_add(1);
                 None
@@ -150,14 +184,38 @@ const PUT: [Step; 10] = [
     Comes(b"kc"),
 ];
 
+/// Pairs that were found stay while their pages change.
+const FOUND: [Step; 12] = [
+    Finds(b"a", 9),
+    Found(&[]),
+    Set(b"d"),
+    Set(b"b"),
+    Set(b"c"),
+    Set(b"e"),
+    Set(b"a"),
+    Finds(b"b", 3),
+    Set(b"bb"),
+    Found(&[b"b", b"c", b"d"]),
+    Finds(b"bb", 9),
+    Found(&[b"bb", b"c", b"d", b"e"]),
+];
+
+// How many steps over an empty home in memory went as told before one did not.
+fn gone<R: System>(rt: &R, steps: &'static [Step]) -> Result<usize, Fail> {
+    with_store_at(rt, None, 4, &SMALL, &mut Steps::of(rt.alloc(), steps))?
+}
+
 #[test]
 fn a_walk_goes_over_a_prefix(rt: HostRuntime) -> Result<(), Fail> {
-    let empty = with_store_at(&rt, None, 4, &SMALL, &mut Steps::of(&EMPTY))??;
-    assert_eq!(&rt; empty, EMPTY.len());
-    let prefix = with_store_at(&rt, None, 4, &SMALL, &mut Steps::of(&PREFIX))??;
-    assert_eq!(&rt; prefix, PREFIX.len());
-    let put = with_store_at(&rt, None, 4, &SMALL, &mut Steps::of(&PUT))??;
-    assert_eq!(&rt; put, PUT.len());
+    assert_eq!(&rt; gone(&rt, &EMPTY)?, EMPTY.len());
+    assert_eq!(&rt; gone(&rt, &PREFIX)?, PREFIX.len());
+    assert_eq!(&rt; gone(&rt, &PUT)?, PUT.len());
+    Ok(())
+}
+
+#[test]
+fn pairs_that_were_found_stay(rt: HostRuntime) -> Result<(), Fail> {
+    assert_eq!(&rt; gone(&rt, &FOUND)?, FOUND.len());
     Ok(())
 }
 

@@ -4,7 +4,7 @@ ghost use Rattle.std.specs.Prelude.{◌≡◌};
 ghost use Rattle.store_tests.specs.Views.{rings_by, IsSound};
 
 use crate::subject::Subject;
-use bw_codec::{Key, Leaf, Record, Value};
+use bw_codec::{Key, Leaf, Pair, Record, Value};
 use bw_store::{PackedEntry, StoreFault};
 use std::alloc::Global;
 use test_vectors::{behind, behind_leaf, is_at_end, spells};
@@ -117,4 +117,32 @@ pub(super) fn is_last_below(store: &mut Subject, key: &[u8], at: &[u8], text: &[
         Ok(key) => is_pair(store.prev_below(&key), at, text),
         Err(_) => false,
     }
+}
+
+fn are_pairs(pairs: &[Pair], text: &str) -> bool {
+    let mut rest = Some(text.as_bytes());
+    for pair in pairs {
+        rest = behind(behind(rest, b" "), pair.key());
+        rest = behind(behind(rest, b"="), pair.value());
+    }
+    is_at_end(rest)
+}
+
+/// Whether the pairs at or above a key, no more than so many, are these: each after a space.
+pub(super) fn is_stretch(
+    alloc: Global,
+    store: &mut Subject,
+    key: &[u8],
+    most: usize,
+    text: &str,
+) -> bool
+    requires { IsSound store.old holding }
+    ensures sound { IsSound store.new holding }
+    ensures rings { rings_by store.new holding ≡ rings_by store.old holding }
+{
+    let Ok(key) = Key::new(key) else {
+        return false;
+    };
+    let mut found = Vec::new(alloc);
+    store.scan_shared(&key, most, &mut found) == Ok(()) && are_pairs(&found, text)
 }

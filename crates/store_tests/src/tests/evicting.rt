@@ -4,7 +4,7 @@ use super::putting::{BESIDE_ZERO, FOUR, TWO};
 use super::steps::Step;
 use super::steps::Step::{
     Below, Clean, Del, Each, Evict, Flush, Frame, Get, Last, Page, Pages, Put, Segments, Settle,
-    Stands, Stops, Taken, Turn, Unread, Walk,
+    Stands, Stops, Stretch, Taken, Turn, Unread, Walk,
 };
 use super::walking::{Stand, Tables, all_go};
 use bw_store::StoreFault;
@@ -138,6 +138,32 @@ const BACKWARDS: &[Step] = &[
     Evict(2, Ok(false)),
 ];
 
+/// A walk that shares its pairs goes over pages in memory and over evicted ones, from a low and from
+/// between keys, and over a page whose pairs are all gone. It brings no page back.
+const SHARED: &[Step] = &[
+    Each(0, FOUR),
+    Turn(9, 4),
+    Taken(b"e", b"5"),
+    Stretch(b"A", 9, " a=1 b=2 c=3 d=4 e=5"),
+    Stretch(b"b", 3, " b=2 c=3 d=4"),
+    Stretch(b"c", 1, " c=3"),
+    Stretch(b"bz", 2, " c=3 d=4"),
+    Stretch(b"f", 9, ""),
+    Stretch(b"a", 0, ""),
+    Flush(Some(1)),
+    Evict(1, Ok(true)),
+    Evict(2, Ok(true)),
+    Stretch(b"b", 9, " b=2 c=3 d=4 e=5"),
+    Del(0, b"a"),
+    Del(0, b"b"),
+    Turn(9, 2),
+    Stretch(b"A", 2, " c=3 d=4"),
+    Evict(1, Ok(true)),
+    Stretch(b"a", 9, " c=3 d=4 e=5"),
+    Evict(1, Ok(false)),
+    Evict(2, Ok(false)),
+];
+
 /// The second page begins with a key that ends with a byte 0, and the first one has its front.
 const ZERO: &[Step] = &[
     Each(0, BESIDE_ZERO),
@@ -155,7 +181,7 @@ const TABLES: &[Tables] = &[
     (Stand::Fuse(0, (2, 2), (0, 0)), &[READ_AGAIN, TURNED_AGAIN]),
     (
         Stand::Boxes(4, 8),
-        &[UNFLUSHED, CUT, CLEANED, BACKWARDS, ZERO],
+        &[UNFLUSHED, CUT, CLEANED, BACKWARDS, SHARED, ZERO],
     ),
     (Stand::Bytes(&[FIRST]), &[OPENED_AGAIN]),
 ];

@@ -4,7 +4,9 @@ ghost use Rattle.std.specs.Prelude.{◌≡◌, ◌<◌, length, map};
 ghost use Rattle.bw_ring.specs.Ends.{ring_of_feed};
 ghost use Rattle.store_tests.specs.Views.{rings_beside, rings_by, AreItsFeeds, IsSound, IsSoundBeside};
 
-use super::asking::{are_bytes, has, is_history, is_last, is_last_below, is_page, is_unread};
+use super::asking::{
+    are_bytes, has, is_history, is_last, is_last_below, is_page, is_stretch, is_unread,
+};
 use super::opening::Held;
 use super::putting::{Op, are_each_put, are_put, are_same, is_grouped, is_put, record};
 use super::reading::reads;
@@ -72,6 +74,8 @@ pub(super) enum Step {
     Last(&'static [u8], &'static [u8], &'static [u8]),
     /// The same below it.
     Below(&'static [u8], &'static [u8], &'static [u8]),
+    /// The pairs at or above a key, no more than so many: each after a space.
+    Stretch(&'static [u8], usize, &'static str),
     /// All pages together have the first so many puts of two writers, and so has each key.
     Reads(u32),
     /// The number, lease and length of a live segment, from 0.
@@ -107,7 +111,7 @@ use Step::{
     Add, Below, Bytes, Clean, Count, Counts, Cuts, Del, Each, Evict, Flush, Forget, Frame, Frames,
     Full, FullGroup, Get, Group, History, Last, Live, Lives, Needed, NotUpgraded, Page, Pages,
     Pays, Put, Puts, Reads, Receipt, Refused, Rewrite, Roll, Same, Segments, Settle, Stands, Stops,
-    Taken, Turn, Uncleaned, Unread, Unsettled, Upgrade, Walk,
+    Stretch, Taken, Turn, Uncleaned, Unread, Unsettled, Upgrade, Walk,
 };
 
 fn are_cuts(cuts: &[u64], told: &[u64]) -> bool {
@@ -230,6 +234,7 @@ fn answers(alloc: Global, store: &mut Subject, step: &Step) -> bool
         Get(key, value) => has(store, *key, *value),
         Last(key, at, value) => is_last(store, *key, *at, *value),
         Below(key, at, value) => is_last_below(store, *key, *at, *value),
+        Stretch(key, most, text) => is_stretch(alloc, store, *key, *most, *text),
         Reads(many) => reads(store, *many),
         Live(at, number, lease, length) => {
             store.live_segment(*at) == Some((*number, *lease, *length))

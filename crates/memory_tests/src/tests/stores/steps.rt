@@ -182,6 +182,20 @@ fn is_pair(told: Option<&(Key, Value)>, key: &Key, value: &[u8]) -> bool {
     }
 }
 
+/// Whether the first pair from a key on, which shares its bytes with its page, is this one.
+fn is_shared(alloc: Global, store: &mut Store, key: &Key, value: &[u8]) -> Result<bool, StoreFault>
+    requires { IsSound store.old holding }
+    ensures sound { IsSound store.new holding }
+    ensures rings { (kept_by store.new holding).rings ≡ (kept_by store.old holding).rings }
+{
+    let mut found = Vec::new(alloc);
+    store.scan_shared(key, 1, &mut found)?;
+    match found.as_slice().first() {
+        Some(pair) => Ok(pair.key() == key.as_slice() && pair.value() == value),
+        None => Ok(false),
+    }
+}
+
 /// Whether a key has a value, by itself, as the first from it on and as the last up to it.
 fn has(alloc: Global, store: &mut Store, key: &[u8], value: &[u8]) -> Result<bool, StoreFault>
     requires { IsSound store.old holding }
@@ -199,7 +213,8 @@ fn has(alloc: Global, store: &mut Store, key: &[u8], value: &[u8]) -> Result<boo
     let last = store.prev_at(&key)?;
     let is_first = is_pair(first.as_slice().first(), &key, value);
     let is_last = is_pair(last.as_ref(), &key, value);
-    Ok(found.as_slice() == value && is_first && is_last)
+    let is_shared = is_shared(alloc, store, &key, value)?;
+    Ok(found.as_slice() == value && is_first && is_last && is_shared)
 }
 
 /// A reader that is made sees this.

@@ -1,0 +1,68 @@
+use Rattle.std.proofs.Common.{◌∙◌, refl, sym, ap, subst, arith}
+use Rattle.bw_leaf.specs.Above.{pairs_above, with_some}
+use Rattle.bw_page.specs.Ahead.{IsStretch, HasGone, HasNoLowAbove, IsNextLow}
+use Rattle.bw_leaf.specs.Changed.{Bytes, Pairs}
+use Rattle.bw_page.specs.Leaves.{home}
+use Rattle.bw_page.specs.Shown.{Shown}
+use Rattle.bw_core.specs.Views.{kept_by}
+use Rattle.bw_core.proofs.FollowMore.{follows_as, read_follows}
+use Rattle.bw_core.proofs.Walks.{map_of, fewer_ahead, stretch_first, stretch_more, stretch_last, stretch_full}
+use Rattle.bw_core.proofs.store.Core.scan_shared.Goals as goal
+
+pub pages-init : goal.pages-init
+pages-init g c =
+    let s = kept_by c.args.self.now (λ z. (goal.Segment-dyn g z).holding z.1) in
+    record {
+      sound = c.requires;
+      same = refl;
+      pages = refl;
+      noted = refl;
+      gone = subst (λ (x : Bytes × Pairs). HasGone (map_of s) c.args.key.now x.0 c.args.most x.1)
+          (λ i. (sym c.copy-from.ensures i, sym c.clear.ensures.items i)) (stretch_first s c.requires c.args.key.now c.args.most);
+    }
+
+pub returns-in_err-share_page-clause-follows : goal.returns-in_err-share_page-clause-follows
+returns-in_err-share_page-clause-follows g c = read_follows _ _ _ c.pages.invariant.same c.share_page.ensures.read
+
+pub pages-smaller : goal.pages-smaller
+pages-smaller g c =
+    omega (arith, fewer_ahead c.pages.from c.in-Some.low _ _ c.share_page.ensures.pages c.in-Some.ensures.some)
+
+pub pages-preserved : goal.pages-preserved
+pages-preserved g c =
+    let s = kept_by c.args.self.now (λ z. (goal.Segment-dyn g z).holding z.1) in
+    let value = c.in_ok-share_page.ensures.value
+    ∙ ap (λ (f : Shown). with_some c.args.most c.pages.found.items (pairs_above c.pages.from (home c.pages.from f.leaves).pairs)) c.pages.invariant.pages in
+    let next = subst (λ (f : Shown). IsNextLow f.leaves c.pages.from c.in-Some.low) (c.share_page.ensures.pages ∙ c.pages.invariant.pages)
+    c.in-Some.ensures.some in
+    record {
+      sound = c.share_page.ensures.sound;
+      same = c.in_ok-share_page.ensures.leaves ∙ c.pages.invariant.same;
+      pages = c.share_page.ensures.pages ∙ c.pages.invariant.pages;
+      noted = c.share_page.ensures.noted ∙ c.pages.invariant.noted;
+      gone = subst (λ (ps : Pairs). HasGone (map_of s) c.args.key.now c.in-Some.low c.args.most ps) (sym value)
+          (stretch_more s c.requires c.args.key.now c.pages.from c.args.most c.pages.found.items c.pages.invariant.gone c.in-Some.low
+          (omega (arith, c.pages-test.true, c.len.ensures)) next);
+    }
+
+pub returns-in-None-clause-value : goal.returns-in-None-clause-value
+returns-in-None-clause-value g c =
+    let s = kept_by c.args.self.now (λ z. (goal.Segment-dyn g z).holding z.1) in
+    let value = c.in_ok-share_page.ensures.value
+    ∙ ap (λ (f : Shown). with_some c.args.most c.pages.found.items (pairs_above c.pages.from (home c.pages.from f.leaves).pairs)) c.pages.invariant.pages in
+    let last = subst (λ (f : Shown). HasNoLowAbove f.leaves c.pages.from) (c.share_page.ensures.pages ∙ c.pages.invariant.pages) (c.in-None.ensures.none refl) in
+    subst (λ (ps : Pairs). IsStretch (map_of s) c.args.key.now c.args.most ps) (sym value)
+    (stretch_last s c.requires c.args.key.now c.pages.from c.args.most c.pages.found.items c.pages.invariant.gone
+    (omega (arith, c.pages-test.true, c.len.ensures)) last)
+
+pub returns-in-None-clause-follows : goal.returns-in-None-clause-follows
+returns-in-None-clause-follows g c = read_follows _ _ _ c.pages.invariant.same c.share_page.ensures.read
+
+pub returns-clause-value : goal.returns-clause-value
+returns-clause-value g c =
+    let s = kept_by c.args.self.now (λ z. (goal.Segment-dyn g z).holding z.1) in
+    stretch_full s c.requires c.args.key.now c.pages.from c.args.most c.pages.found.items c.pages.invariant.gone
+    (omega (arith, c.pages-test.false, c.len.ensures))
+
+pub returns-clause-follows : goal.returns-clause-follows
+returns-clause-follows g c = (follows_as _ _ c.pages.invariant.same).follows
