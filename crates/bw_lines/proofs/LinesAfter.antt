@@ -9,12 +9,11 @@ use Rattle.bw_codec.specs.declared.block.Block.TheVariants.{Delta, Base, Split}
 use Rattle.bw_codec.specs.declared.block.Place.{Place}
 use Rattle.bw_record.specs.declared.leaf.Leaf.{Leaf}
 use Rattle.bw_record.specs.declared.record.Record.{Record}
-use Rattle.bw_leaf.specs.Changed.{all_changed}
 use Rattle.bw_leaf.specs.Forwards.{kept_below}
 use Rattle.bw_lines.specs.declared.page_lines.Line.{Line}
 use Rattle.bw_log.specs.PageTable.{changed_line, set_line}
 use Rattle.bw_log.specs.declared.places.PageAt.{PageAt}
-use Rattle.bw_lines.specs.Reading.{at_in, leaf_in, line_after}
+use Rattle.bw_lines.specs.Reading.{at_in, leaf_in, changed_by, line_after}
 
 abbrev Lines : Type 0
 Lines = ℕ → Option Line
@@ -36,18 +35,14 @@ With page line old new = (q : ℕ) → new q ≡ (if nat_eq page q then Some lin
 
 -- ---- Delta
 
-abbrev pub delta_after : Place → List Record → Option Line → Line
-delta_after place ops was = record { at = changed_line place (at_in was); leaf = option_map (all_changed ops) (leaf_in was) }
+delta_by : (p page : ℕ) (place back : Place) (ops : List Record) (old : Lines) (t : Bool) → nat_eq page p ≡ t
+    → (if t then Some (changed_by place ops (old page)) else old p) ≡ line_after p (old p) (place, Delta page back ops)
+delta_by p page place back ops old true e = rw e (ap (λ (k : ℕ). Some (changed_by place ops (old k))) (eqb-true page p e))
+delta_by p page place back ops old false e = rw e refl
 
-delta_by : (p page : ℕ) (place back : Place) (ops : List Record) (old mid : Lines) (t : Bool) → nat_eq page p ≡ t → Without page old mid
-    → (if t then Some (delta_after place ops (old page)) else mid p) ≡ line_after p (old p) (place, Delta page back ops)
-delta_by p page place back ops old mid true e without = rw e (ap (λ (k : ℕ). Some (delta_after place ops (old k))) (eqb-true page p e))
-delta_by p page place back ops old mid false e without = rw e (without p ∙ (rw e refl))
-
-pub delta_line : (p page : ℕ) (place back : Place) (ops : List Record) (old mid new : Lines) → Without page old mid
-    → With page (delta_after place ops (old page)) mid new
+pub delta_line : (p page : ℕ) (place back : Place) (ops : List Record) (old new : Lines) → With page (changed_by place ops (old page)) old new
     → new p ≡ line_after p (old p) (place, Delta page back ops)
-delta_line p page place back ops old mid new without with_it = with_it p ∙ delta_by p page place back ops old mid (nat_eq page p) refl without
+delta_line p page place back ops old new with_it = with_it p ∙ delta_by p page place back ops old (nat_eq page p) refl
 
 -- ---- Base
 
@@ -85,22 +80,16 @@ split_line p page place back upper old mid one new without with_it more =
 
 -- ---- as the code goes
 
-pub delta_told : {E : Type 0} (r : Result (Unit {0}) E) (place back : Place) (was_at at : PageAt) (page : ℕ) (ops records : List Record) (block : Block)
-    (was leaf : Option Leaf) (old mid new : Lines) → block ≡ Delta page back ops
-    → was_at ≡ at_in (old page) → at ≡ changed_line place was_at → was ≡ leaf_in (old page) → Without page old mid → records ≡ ops
-    → leaf ≡ option_map (all_changed records) was
-    → ((p : ℕ) → OnOk r (new p ≡ (if nat_eq page p then Some (record { at = at; leaf = leaf }) else mid p)))
+pub delta_told : {E : Type 0} (r : Result (Unit {0}) E) (place back : Place) (page : ℕ) (ops records : List Record) (block : Block) (old new : Lines)
+    → block ≡ Delta page back ops → records ≡ ops
+    → ((p : ℕ) → OnOk r (new p ≡ (if nat_eq page p then Some (changed_by place records (old page)) else old p)))
     → OnOk r ((p : ℕ) → new p ≡ line_after p (old p) (place, block))
-delta_told {E} r place back was_at at page ops records block was leaf old mid new is was_at_is at_is was_is without same leaf_is put =
-    let leaf_told : leaf ≡ option_map (all_changed ops) (leaf_in (old page)) =
-    leaf_is ∙ ap (λ (l : List Record). option_map (all_changed l) was) same ∙ ap (option_map (all_changed ops)) was_is in
-    let at_told : at ≡ changed_line place (at_in (old page)) = at_is ∙ ap (changed_line place) was_at_is in
-    let line : record { at = at; leaf = leaf } ≡ delta_after place ops (old page) =
-    λ i. record { at = at_told i; leaf = leaf_told i } in
-    on_more r (λ (h : With page (record { at = at; leaf = leaf }) mid new). λ p.
-    delta_line p page place back ops old mid new without (λ q. h q ∙ ap (λ (l : Line). if nat_eq page q then Some l else mid q) line)
+delta_told {E} r place back page ops records block old new is same put =
+    on_more r (λ (h : With page (changed_by place records (old page)) old new). λ p.
+    delta_line p page place back ops old new
+    (λ q. h q ∙ ap (λ (l : List Record). if nat_eq page q then Some (changed_by place l (old page)) else old q) same)
     ∙ ap (λ (b : Block). line_after p (old p) (place, b)) (sym is))
-    (on_each (λ q. new q ≡ (if nat_eq page q then Some (record { at = at; leaf = leaf }) else mid q)) r put)
+    (on_each (λ q. new q ≡ (if nat_eq page q then Some (changed_by place records (old page)) else old q)) r put)
 
 pub base_told : {E : Type 0} (r : Result (Unit {0}) E) (place : Place) (leaf : Leaf) (block : Block) (old new : Lines) → block ≡ Base leaf
     → ((p : ℕ) → OnOk r (new p ≡ (if nat_eq leaf.page p then Some (base_after place leaf) else old p)))

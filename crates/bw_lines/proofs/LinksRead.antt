@@ -1,12 +1,11 @@
 -- A map of lines, and the links of the blocks that were read.
 
-use Rattle.std.proofs.Common.{zero, suc, take, drop, reverse, ◌+◌, length, append_assoc, arith, ◌≡◌, ℕ, Bool, true, false, if◌then◌else◌, Option, Some, None}
+use Rattle.std.proofs.Common.{zero, suc, take, drop, get_or, ◌+◌, ◌<◌, length, append_assoc, arith, ◌≡◌, ℕ, Bool, true, false, if◌then◌else◌, Option, Some, None}
 use Rattle.std.proofs.Common.{List, [], ◌∷◌, ◌++◌, refl, sym, ap, ◌∙◌, subst}
 use Rattle.std.specs.List.{fold}
 use Rattle.std.specs.BTreeMap as tree
 use Rattle.std.specs.Ordering.{nat_cmp}
 use Rattle.std.proofs.lemmas.Grind.{fold-append}
-use Rattle.std.proofs.lemmas.List.{reverse-append, reverse-reverse}
 use Rattle.bw_codec.specs.Touch.{sets, touches}
 use Rattle.bw_codec.specs.declared.block.Block.{Block}
 use Rattle.bw_codec.specs.declared.block.Place.{Place}
@@ -131,23 +130,17 @@ next_of all now later i b is front =
     let n = next_of_by all i b later (sym is ∙ front) in
     record { front = ap (λ (k : ℕ). take k all) (sym one) ∙ n.0; beyond = ap (λ (k : ℕ). drop k all) (sym one) ∙ n.1; split = n.2; index = n.3 }
 
--- what was popped stood in front
-pub popped : (old new : List Block) (b : Block) → old ≡ new ++ b ∷ [] → reverse old ≡ b ∷ reverse new
-popped old new b is = ap reverse is ∙ reverse-append new (b ∷ [])
+-- an item, and those behind it
+item_there : (all : List Block) (i : ℕ) (b : Block) → i < length all → b ≡ get_or all i b → drop i all ≡ b ∷ drop (suc i) all
+item_there [] i b inside is = absurd (omega arith)
+item_there (x ∷ xs) zero b inside is = ap (λ (y : Block). y ∷ xs) (sym is)
+item_there (x ∷ xs) (suc i) b inside is = item_there xs i b (omega arith) is
+
+pub next_at : (all : List Block) (i : ℕ) (b : Block) → i < length all → b ≡ get_or all i b → IsNextOf all i b (drop (suc i) all)
+next_at all i b inside is = next_of all (drop i all) (drop (suc i) all) i b refl (item_there all i b inside is)
 
 pub blocks_step : (first number i : ℕ) (done : List (Place × Block)) (all later : List Block) (b : Block) (lines : tree.BTreeMap ℕ Line)
     → IsNextOf all i b later → IsRead first ((done ++ placed number 0 (take i all)) ++ (record { frame = number; index = i }, b) ∷ []) lines
     → IsRead first (done ++ placed number 0 (take (i + 1) all)) lines
 blocks_step first number i done all later b lines n read =
     subst (λ (l : List Block). IsRead first (done ++ placed number 0 l) lines) (sym n.front) (blocks_more first number i done (take i all) b lines n.index read)
-
-again_is : (items turned : List Block) → turned ≡ reverse items → items ≡ reverse turned
-again_is items turned is = sym (reverse-reverse items) ∙ ap reverse (sym is)
-
-pub blocks_wrong_at : (first number i : ℕ) (done rest : List (Place × Block)) (items turned : List Block) (later : List Block) (b : Block)
-    (lines : tree.BTreeMap ℕ Line) (fault : ReadFault) → turned ≡ reverse items → IsNextOf (reverse turned) i b later
-    → IsRead first (done ++ placed number 0 (take i (reverse turned))) lines
-    → LinkFaultIs (fault_of first (done ++ placed number 0 (take i (reverse turned))) b) fault
-    → LinkFaultIs (bad_link first [] (done ++ (placed number 0 items ++ rest))) fault
-blocks_wrong_at first number i done rest items turned later b lines fault is n read wrong =
-    blocks_wrong first number i done rest (take i (reverse turned)) later items b lines fault n.index (again_is items turned is ∙ n.split) read wrong

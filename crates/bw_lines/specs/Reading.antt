@@ -2,12 +2,15 @@
 
 use Rattle.std.specs.Prelude.{ℕ, ◌≡◌, if◌then◌else◌, Option, Some, None, List, []}
 use Rattle.std.specs.List.{fold}
+use Rattle.std.specs.Option.{option_map}
 use Rattle.std.specs.BTreeMap as tree
 use Rattle.std.specs.Ordering.{nat_cmp}
 use Rattle.bw_codec.specs.Touch.{sets, touches}
 use Rattle.bw_codec.specs.declared.block.Block.{Block}
 use Rattle.bw_codec.specs.declared.block.Place.{Place}
 use Rattle.bw_record.specs.declared.leaf.Leaf.{Leaf}
+use Rattle.bw_record.specs.declared.record.Record.{Record}
+use Rattle.bw_leaf.specs.Changed.{all_changed}
 use Rattle.bw_leaf.specs.Forwards.{after}
 use Rattle.bw_log.specs.PageTable.{changed_line, set_line, empty_line}
 use Rattle.bw_log.specs.Places.{bad_link}
@@ -28,6 +31,10 @@ place_in (Some l) = Some l.at.place
 abbrev pub at_in : Option Line → PageAt
 at_in None = empty_line
 at_in (Some l) = l.at
+
+-- a page's line after the records of a Delta
+abbrev pub changed_by : Place → List Record → Option Line → Line
+changed_by place ops was = record { at = changed_line place (at_in was); leaf = option_map (all_changed ops) (leaf_in was) }
 
 -- a page's line after one more block
 abbrev pub line_after : ℕ → Option Line → Place × Block → Option Line

@@ -3,7 +3,7 @@
 //! A map has a line for each page that was touched, so it grows by the blocks that are there,
 //! whatever page numbers stand in them.
 
-ghost use Rattle.std.specs.Prelude.{◌≡◌, ◌∷◌, ◌++◌, [], Some, None, ◌<◌, ◌^◌, length, OnOk, IfOk, IfErr, if◌then◌else◌, nat_eq, List, ℕ};
+ghost use Rattle.std.specs.Prelude.{◌≡◌, ◌∷◌, ◌++◌, [], Some, None, Ok, true, false, ◌<◌, ◌^◌, length, is_some, OnOk, IfOk, IfErr, if◌then◌else◌, nat_eq, List, ℕ};
 ghost use Rattle.std.specs.Option.{option_map};
 ghost use Rattle.std.specs.List.{AllByRecursion};
 ghost use Rattle.std.specs.BTreeMap as tree;
@@ -11,7 +11,7 @@ ghost use Rattle.std.specs.Ordering.{nat_cmp};
 ghost use Rattle.bw_leaf.specs.Changed.{all_changed};
 ghost use Rattle.bw_leaf.specs.Forwards.{kept_below};
 ghost use Rattle.bw_log.specs.Places.{is_back, fault_at, fault_of, placed, all_placed, bad_link};
-ghost use Rattle.bw_lines.specs.Reading.{place_in, at_in, leaf_in, line_after, AreLines, IsRead, LinkFaultIs};
+ghost use Rattle.bw_lines.specs.Reading.{place_in, at_in, leaf_in, changed_by, line_after, AreLines, IsRead, LinkFaultIs};
 ghost use Rattle.bw_codec.specs.declared.block.Place.{Place as PlaceValue};
 ghost use Rattle.bw_codec.specs.declared.block.Block.{Block as BlockValue};
 
@@ -55,6 +55,16 @@ impl DraftLine {
             None => None,
         };
         Ok(Line { at, leaf })
+    }
+
+    // The line after the records of a Delta at a place.
+    fn change(&mut self, place: Place, records: &[Record]) -> Result<(), AllocError>
+        ensures { OnOk result (self.new ≡ changed_by place records.now (Some self.old)) }
+    {
+        let draft = self.draft.take();
+        self.draft = change_some(draft, records)?;
+        self.at = self.at.changed(place);
+        Ok(())
     }
 }
 
@@ -106,44 +116,77 @@ fn put_line(
     Ok(())
 }
 
+// Changes the line of a page by the records of a Delta, where the map has one; whether it does.
+fn change_there(
+    lines: &mut BTreeMap<u32, DraftLine>,
+    page: u32,
+    place: Place,
+    records: &[Record],
+) -> Result<bool, AllocError>
+    ensures known { IfOk result (λ known. known ≡ is_some (tree.get nat_cmp lines.old page)) }
+    ensures value { result ≡ Ok true → (p : ℕ) → tree.get nat_cmp lines.new p
+        ≡ (if nat_eq page p then Some (changed_by place records.now (tree.get nat_cmp lines.old page))
+        else tree.get nat_cmp lines.old p) }
+    ensures none { result ≡ Ok false → lines.new ≡ lines.old }
+{
+    match lines.get_mut(&page) {
+        Some(line) => {
+            line.change(place, records)?;
+            Ok(true)
+        }
+        None => Ok(false),
+    }
+}
+
+// A Delta: the line of its page stays where it is in the map.
+fn read_delta(
+    lines: &mut BTreeMap<u32, DraftLine>,
+    page: u32,
+    place: Place,
+    records: &[Record],
+) -> Result<(), AllocError>
+    ensures { (p : ℕ) → OnOk result (tree.get nat_cmp lines.new p
+        ≡ (if nat_eq page p then Some (changed_by place records.now (tree.get nat_cmp lines.old page))
+        else tree.get nat_cmp lines.old p)) }
+{
+    if change_there(lines, page, place, records)? {
+        return Ok(());
+    }
+    let at = PageAt::NONE.changed(place);
+    put_line(lines, page, DraftLine { at, draft: None })
+}
+
 /// One more block. A refused growth is the only error.
 pub fn read_one(
     lines: &mut BTreeMap<u32, DraftLine>,
     place: Place,
-    block: Block,
+    block: &Block,
 ) -> Result<(), AllocError>
-    ensures { OnOk result (AreLines lines.old ((place, block) ∷ []) lines.new) }
+    ensures { OnOk result (AreLines lines.old ((place, block.now) ∷ []) lines.new) }
 {
     match block {
-        Block::Delta { page, back: _, ops } => {
-            let (at, draft) = take_line(lines, page);
-            let draft = change_some(draft, ops.as_slice())?;
-            let at = at.changed(place);
-            put_line(lines, page, DraftLine { at, draft })
-        }
+        Block::Delta { page, back: _, ops } => read_delta(lines, *page, place, ops.as_slice()),
         Block::Base(leaf) => {
-            let page = leaf.page;
             let line = DraftLine {
                 at: PageAt::set(place),
-                draft: Some(Draft::of(leaf)),
+                draft: Some(Draft::of(leaf.copy()?)),
             };
-            put_line(lines, page, line)
+            put_line(lines, leaf.page, line)
         }
         Block::Split {
             page,
             back: _,
             upper,
         } => {
-            let (at, draft) = take_line(lines, page);
+            let (at, draft) = take_line(lines, *page);
             let draft = keep_some(draft, upper.low.as_slice());
             let at = at.changed(place);
-            put_line(lines, page, DraftLine { at, draft })?;
-            let made = upper.page;
+            put_line(lines, *page, DraftLine { at, draft })?;
             let line = DraftLine {
                 at: PageAt::set(place),
-                draft: Some(Draft::of(upper)),
+                draft: Some(Draft::of(upper.copy()?)),
             };
-            put_line(lines, made, line)
+            put_line(lines, upper.page, line)
         }
     }
 }
@@ -205,14 +248,14 @@ pub fn read_linked(
     lines: &mut BTreeMap<u32, DraftLine>,
     first: u64,
     place: Place,
-    block: Block,
+    block: &Block,
 ) -> Result<(), ReadFault>
     ensures ok { (done : List (PlaceValue × BlockValue)) → IsRead first done lines.old
-        → OnOk result (IsRead first (done ++ (place, block) ∷ []) lines.new) }
+        → OnOk result (IsRead first (done ++ (place, block.now) ∷ []) lines.new) }
     ensures fault { (done : List (PlaceValue × BlockValue)) → IsRead first done lines.old
-        → IfErr result (LinkFaultIs (fault_of first done block)) }
+        → IfErr result (LinkFaultIs (fault_of first done block.now)) }
 {
-    match wrong_link(lines, first, &block) {
+    match wrong_link(lines, first, block) {
         Some(page) => Err(ReadFault::BadLink(page)),
         None => {
             read_one(lines, place, block)?;
@@ -235,19 +278,14 @@ pub fn read_blocks_linked(
         → IfErr result (LinkFaultIs
         (bad_link first [] (done ++ (placed number 0 blocks.items ++ rest)))) }
 {
-    let mut blocks = blocks;
-    blocks.reverse();
+    let items = blocks.as_slice();
     let mut index: u32 = 0;
-    'next: while let Some(block) = blocks.pop() {
-        read_linked(
-            lines,
-            first,
-            Place {
-                frame: number,
-                index,
-            },
-            block,
-        )?;
+    for block in items {
+        let place = Place {
+            frame: number,
+            index,
+        };
+        read_linked(lines, first, place, block)?;
         index += 1;
     }
     Ok(())
