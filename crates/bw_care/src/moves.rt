@@ -1,4 +1,9 @@
 //! The steps of a cleaning.
+//!
+//! A refusal may come between any two frames, and a stop inside of one. So each frame by itself
+//! changes no page: it says whole what older blocks say, and whoever stops behind it has pages
+//! that are read from two places and are the same from both. Only once all of them are out does
+//! the segment go.
 
 ghost use Rattle.std.specs.Prelude.{◌≡◌, ◌≢◌, ◌+◌, ◌^◌, ◌<◌, ◌≤◌, ℕ, [], take, drop, length, false, Err, IfOk, IfErr, IfSome};
 ghost use Rattle.std.specs.List.{AllByRecursion};

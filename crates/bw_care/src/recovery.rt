@@ -1,4 +1,9 @@
 //! Recovery by a scan: from any bytes to the leaves, or to the first fault.
+//!
+//! One changed byte may make several things wrong at once, and two recoveries of the same bytes
+//! have to tell the same of them. So each step is done for all segments before the next one
+//! begins, and the first fault in that order is the answer. No box is moved before the last step
+//! that may be refused: all come back on a refusal, and whoever was refused memory may try again.
 
 ghost use Rattle.std.specs.Prelude.{◌≡◌, Ok, IfOk, IfErr, map};
 ghost use Rattle.bw_care.specs.Recovery.{recovery, limit_in, live_in, spares_in, ends_whole};

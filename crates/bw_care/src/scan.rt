@@ -1,4 +1,10 @@
 //! One box's bytes, read from left to right.
+//!
+//! What stands behind the last whole frame is a tail, or damage, and everything hangs on which. A
+//! stop leaves a beginning of a lawful frame there. Were damage taken for a tail, records that
+//! were durable would be dropped in silence; were a tail taken for damage, a store would be
+//! refused after each loss of power. No beginning of a lawful frame is a whole one or begins
+//! another, so the bytes alone decide.
 
 ghost use Rattle.std.specs.Prelude.{◌≡◌, ◌≤◌, ◌<◌, ◌^◌, Some, IfOk, IfErr, Result, Ok, Err, length, drop};
 ghost use Rattle.bw_codec.specs.Grammar.{IsFront};

@@ -1,5 +1,15 @@
-//! Appending: a frame goes whole to the end of the current segment, or another segment is begun for
-//! it.
+//! Appending: a frame goes whole to the end of the current segment, or another segment is begun
+//! for it.
+//!
+//! A device may fail at any byte, and nobody knows then what it wrote. So all that the log itself
+//! could refuse is asked before (`ready`), and the tables change behind the device's answer, into
+//! room that was reserved: a log says of no frame that it is there which may not be. One failure
+//! ends it for good, since an append behind a piece of unknown length would stand where no scan
+//! finds it. A header is an append of its own: cut short, it is a segment with a part of a header,
+//! which is a spare again.
+//!
+//! An ordinary append leaves one spare. A cleaning writes before it gives room back, and without
+//! that spare a log that is full could never be cleaned.
 
 ghost use Rattle.std.specs.Prelude.{◌≡◌, ◌+◌, ◌-◌, ◌^◌, ◌/◌, ◌<◌, ◌≤◌, ◌∷◌, ◌++◌, Some, None, Ok, Err, true, false, length, map, slice_get, IfSome, OnOk, MatchResult, vec_len};
 ghost use Rattle.std.specs.Vec.{vec_capacity};

@@ -1,4 +1,8 @@
 //! The table of places, changed by what a frame's blocks do. None of it takes memory.
+//!
+//! The frame's bytes are out by then, and nothing may be refused any more: a table that lacks a
+//! frame which the segment has would send the next read of a page past its newest records. So room
+//! for every page that a frame of this length could name was made before the device was asked.
 
 ghost use Rattle.std.specs.Prelude.{◌≡◌, ◌+◌, ◌-◌, ◌≤◌, length, vec_len};
 ghost use Rattle.std.specs.Vec.{vec_capacity};

@@ -1,4 +1,8 @@
 //! The value of one key on a page, from the page's newest block back.
+//!
+//! The newest block that says something of the key decides, so the walk ends there: it holds one
+//! block at a time, and a key that changed lately costs one frame, however old its page is. Read
+//! forwards, the whole page would have to be made for it.
 
 ghost use Rattle.std.specs.Prelude.{◌≡◌, ◌≢◌, ◌↔◌, [], Err, IfOk};
 ghost use Rattle.bw_leaf.specs.Forwards.{content, blocks_of};

@@ -1,4 +1,10 @@
 //! The readers' rule, and one read.
+//!
+//! Two versions change places at a publication, and news of it go another way: so a reader may
+//! have learnt of batches that the version which it enters does not show. An answer from there
+//! would go back behind what the reader was told. Each version has a mark of how far into the book
+//! it goes, and the read gives that mark with its answer: whoever asked compares it with what was
+//! seen and learnt before, and counts a shorter one as not entered.
 
 ghost use Rattle.std.specs.Prelude.{◌≡◌, IfSome};
 ghost use mathlib.Core.List.{IsPrefix};
