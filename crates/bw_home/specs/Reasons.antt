@@ -14,7 +14,7 @@ abbrev pub IsWaitRefused : Kept → List Lane → (ℕ → Bool) → Kept → St
 IsWaitRefused old lanes away new cause = RefusedAt old lanes away cause new
 
 -- a change was put, and then it, or one that waited before it, was refused, as a turn is
-record pub IsTakeRefused (old : Kept) (lanes : List Lane) (away : ℕ → Bool) (new : Kept) (cause : StoreFault) : Type 0 where
+pub record IsTakeRefused (old : Kept) (lanes : List Lane) (away : ℕ → Bool) (new : Kept) (cause : StoreFault) : Type 0 where
   pub put : Kept
   pub follows : Follows old put
   pub refused : RefusedAt put lanes away cause new
