@@ -1,21 +1,13 @@
 -- A key with a zero more, or with its last byte raised that can be, is the least above it.
 
-use Rattle.std.proofs.Common.{◌≡◌, ℕ, suc, ◌+◌, ◌-◌, ◌<◌, ◌≤◌, true, Some, None, [], ◌∷◌, ◌++◌, length, take, get_or, refl, sym, ap, ◌∙◌, arith, replicate}
-use Rattle.std.specs.Ordering.{MatchOrdering, nat_cmp, is_lt, ordering_then}
-use Rattle.std.specs.Cmp.{ranked}
-use Rattle.std.specs.Cmp.Lexicographic.{slice_cmp}
-use Rattle.std.specs.declared.cmp.Ordering.TheVariants.{Less, Equal, Greater}
+use Rattle.std.proofs.Common.{◌≡◌, ℕ, suc, ◌+◌, ◌-◌, ◌<◌, ◌≤◌, Some, None, [], ◌∷◌, ◌++◌, length, take, get_or, refl, sym, ap, ◌∙◌, arith}
 use Rattle.std.proofs.lemmas.List.{append_assoc, append-nil, length-take-le, take_all, take_more}
 use Rattle.bw_record.specs.Keys.{is_below, IsBytes}
 use Rattle.bw_leaf.specs.Changed.{Bytes}
 use Rattle.bw_leaf.proofs.Order.{Below, not_both, must_not, below-upto}
-use Rattle.bw_core.specs.Back.{IsNextBelow}
-use Rattle.bw_core.proofs.Backwards.{front_next, filled_next}
+use Rattle.bw_walks.specs.Back.{IsNextBelow}
+use Rattle.bw_walks.proofs.Backwards.{below_first, filled, front_next, filled_next}
 use Rattle.bw.specs.Keys.{IsAfter}
-
--- so many of the greatest byte
-abbrev pub filled : ℕ → Bytes
-filled n = replicate n 255
 
 -- where a key is the greatest below another, the other is the least above it
 after_last : (key next : Bytes) → IsNextBelow next key → IsAfter key (Some next)
@@ -65,13 +57,7 @@ none_behind key long =
 -- each byte fits below this one
 below_over : (q : Bytes) → IsBytes q → Below q (256 ∷ [])
 below_over [] bytes = refl
-below_over (x ∷ xs) bytes =
-    let fits : x < 256 = bytes 0 in
-    elim (nat_cmp x 256) as (λ o. MatchOrdering o (x < 256) (x ≡ 256) (256 < x) → is_lt (ordering_then o (slice_cmp nat_cmp xs [])) ≡ true) [
-      | Less ↦ λ less. refl
-      | Equal ↦ λ same. absurd (omega arith)
-      | Greater ↦ λ more. absurd (omega arith)
-    ] (ranked x 256 (nat_cmp x 256) refl)
+below_over (x ∷ xs) bytes = below_first x 256 xs [] (bytes 0)
 
 -- above 128 of the greatest byte there is no key
 pub after_none : (key : Bytes) → key ≡ filled 128 → IsAfter key None

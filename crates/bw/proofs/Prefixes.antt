@@ -13,6 +13,7 @@ use Rattle.bw_record.specs.Keys.{is_below, IsBytes, IsKey}
 use Rattle.bw_leaf.specs.Changed.{Bytes, Map}
 use Rattle.bw_leaf.proofs.Order.{Below, UpTo, not_both, upto_empty, upto-trans, below_upto}
 use Rattle.bw_page.specs.Ahead.{IsFirst, IsFirstPair}
+use Rattle.bw_walks.proofs.Backwards.{below_first, same_first}
 use Rattle.bw_core.specs.Following.{Follows}
 use Rattle.bw_core.specs.Kept.{Kept}
 use Rattle.bw_core.proofs.FollowMore.{stays_on}
@@ -28,22 +29,6 @@ both false b h = absurd (true≢false (sym h))
 other : (a b : Bool) → a ≡ true → (a && b) ≡ false → b ≡ false
 other true b a h = h
 other false b a h = absurd (true≢false (sym a))
-
-lesser_first : (x y : ℕ) (xs ys : Bytes) → x < y → Below (x ∷ xs) (y ∷ ys)
-lesser_first x y xs ys less =
-    elim (nat_cmp x y) as (λ o. MatchOrdering o (x < y) (x ≡ y) (y < x) → is_lt (ordering_then o (slice_cmp nat_cmp xs ys)) ≡ true) [
-      | Less ↦ λ l. refl
-      | Equal ↦ λ same. absurd (omega arith)
-      | Greater ↦ λ more. absurd (omega arith)
-    ] (ranked x y (nat_cmp x y) refl)
-
-same_first : (x y : ℕ) (xs ys : Bytes) → x ≡ y → is_below (x ∷ xs) (y ∷ ys) ≡ is_below xs ys
-same_first x y xs ys e =
-    elim (nat_cmp x y) as (λ o. MatchOrdering o (x < y) (x ≡ y) (y < x) → is_lt (ordering_then o (slice_cmp nat_cmp xs ys)) ≡ is_below xs ys) [
-      | Less ↦ λ less. absurd (omega arith)
-      | Equal ↦ λ same. refl
-      | Greater ↦ λ more. absurd (omega arith)
-    ] (ranked x y (nat_cmp x y) refl)
 
 -- no key is below a single zero
 pub upto_least : (q : Bytes) → IsKey q → UpTo (0 ∷ []) q
@@ -78,7 +63,7 @@ below_past (x ∷ xs) (z ∷ zs) (y ∷ ys) b u not =
       | Equal ↦ λ same.
           below_past xs zs ys parts.1 (sym (same_first y x ys xs (sym (first ∙ same))) ∙ u)
           (other (nat_eq x y) (starts_with nat_eq ys xs) (eq-eqb x y (first ∙ same)) not)
-      | Greater ↦ λ more. not_both (is_below (y ∷ ys) (x ∷ xs)) (lesser_first y x ys xs (omega arith)) u
+      | Greater ↦ λ more. not_both (is_below (y ∷ ys) (x ∷ xs)) (below_first y x ys xs (omega arith)) u
     ] (ranked z y (nat_cmp z y) refl)
 
 -- ---- a walk

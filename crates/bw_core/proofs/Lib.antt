@@ -36,7 +36,6 @@ pub mod Stopping
 pub mod EvictedPages
 pub mod Walks
 pub mod Backwards
-pub mod BackSeen
 pub mod Counted
 pub mod NeededMore
 pub mod CountsMore

@@ -12,7 +12,6 @@ pub mod Fitting
 pub mod Settled
 pub mod Emptied
 pub mod Reading
-pub mod Back
 pub mod Taking
 pub mod Opened
 pub mod Reopened

@@ -9,7 +9,7 @@ ghost use Rattle.bw_care.specs.Found.{IsRecovered};
 ghost use Rattle.bw_history.specs.Entries.{records};
 ghost use Rattle.bw_history.specs.Lanes.{AreDry};
 ghost use Rattle.bw_history.specs.Machine.{Stops, TakesAndKeeps, TakesAndStops, TakesMany, keeps};
-ghost use Rattle.bw_core.specs.Back.{IsLast, IsLastBelow};
+ghost use Rattle.bw_walks.specs.Back.{IsLast, IsLastBelow};
 ghost use Rattle.bw_core.specs.Faults.{FlushAnswers, FlushLeaves, flush_refusal};
 ghost use Rattle.bw_core.specs.Following.{Follows, HasBoxes, RefusedAfter, TookInTurn, Turned, groups_since};
 ghost use Rattle.bw_core.specs.Goal.{Goal, SameFeeds, Sequel};

@@ -1,7 +1,8 @@
 use Rattle.std.proofs.Common.{◌≡◌, ◌∙◌, ◌++◌, ◌-◌, ◌∷◌, [], ℕ, Some, length, take, get_or, sym, ap, subst, arith, length-take-le}
 use Rattle.bw_leaf.specs.Changed.{Bytes}
 use Rattle.bw.specs.Keys.{IsAfter}
-use Rattle.bw.proofs.NextKey.{filled, after_short, after_raised, one_more, none_behind, after_none}
+use Rattle.bw_walks.proofs.Backwards.{filled}
+use Rattle.bw.proofs.NextKey.{after_short, after_raised, one_more, none_behind, after_none}
 use Rattle.bw.proofs.keys.after.Goals as goal
 
 pub returns-then-end-lt-MAX_KEY : goal.returns-then-end-lt-MAX_KEY

@@ -1,4 +1,4 @@
-use Rattle.bw_core.proofs.Backwards.{base_at}
+use Rattle.bw_walks.proofs.Backwards.{base_at}
 use Rattle.bw_core.proofs.store.Core.look_back.Goals as goal
 
 pub found_on-requires-2-clause-ascends : goal.found_on-requires-2-clause-ascends

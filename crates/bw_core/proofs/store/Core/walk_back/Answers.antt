@@ -1,10 +1,11 @@
 use Rattle.std.proofs.Common.{◌∙◌, ◌≡◌, refl, ap, subst, arith}
 use Rattle.bw_page.specs.Leaves.{leaf_at}
 use Rattle.bw_page.specs.Shown.{Shown}
-use Rattle.bw_core.specs.Back.{IsPageBefore, behind_leaf}
+use Rattle.bw_walks.specs.Back.{IsPageBefore, behind_leaf}
+use Rattle.bw_walks.proofs.Backwards.{told_as, fewer_back}
 use Rattle.bw_core.specs.Views.{kept_by}
 use Rattle.bw_core.proofs.FollowMore.{read_follows}
-use Rattle.bw_core.proofs.Backwards.{told_as, fewer_back, back_first, back_found, back_further, back_last}
+use Rattle.bw_core.proofs.Backwards.{back_first, back_found, back_further, back_last}
 use Rattle.bw_core.proofs.store.Core.walk_back.Goals as goal
 
 pub pages-init : goal.pages-init

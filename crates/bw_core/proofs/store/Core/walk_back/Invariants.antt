@@ -1,6 +1,6 @@
 use Rattle.std.proofs.Common.{◌≡◌, ◌≤◌, length}
 use Rattle.bw_page.specs.Leaves.{leaf_at}
-use Rattle.bw_core.specs.Back.{HasComeBack, behind_leaf}
+use Rattle.bw_walks.specs.Back.{HasComeBack, behind_leaf}
 use Rattle.bw_core.specs.Views.{kept_by, noted_of, IsSound}
 use Rattle.bw_core.proofs.Walks.{map_of}
 use Rattle.bw_core.proofs.store.Core.walk_back.Given as goal

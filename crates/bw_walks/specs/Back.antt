@@ -9,10 +9,10 @@ use Rattle.bw_record.specs.Keys.{is_below, IsBytes}
 use Rattle.bw_record.specs.declared.leaf.Leaf.{Leaf}
 use Rattle.bw_leaf.specs.Changed.{Bytes, Pairs, Map, order}
 use Rattle.bw_page.specs.Leaves.{home, leaf_at}
-use Rattle.bw_core.specs.declared.back.Reach.{Reach}
-use Rattle.bw_core.specs.declared.back.Reach.TheVariants.{With, Without}
-use Rattle.bw_core.specs.declared.back.Look.{Look}
-use Rattle.bw_core.specs.declared.back.Look.TheVariants.{Found, Before, End}
+use Rattle.bw_walks.specs.declared.back.Reach.{Reach}
+use Rattle.bw_walks.specs.declared.back.Reach.TheVariants.{With, Without}
+use Rattle.bw_walks.specs.declared.back.Look.{Look}
+use Rattle.bw_walks.specs.declared.back.Look.TheVariants.{Found, Before, End}
 
 -- ---- the greatest of some keys
 

@@ -3,7 +3,7 @@ use Rattle.std.specs.Prelude.{min}
 use Rattle.bw_leaf.specs.Above.{pairs_above, with_some}
 use Rattle.bw_leaf.specs.Changed.{Pairs}
 use Rattle.bw_leaf.proofs.Sought.{some_above}
-use Rattle.bw_core.proofs.shared.share_pairs.Goals as goal
+use Rattle.bw_walks.proofs.shared.share_pairs.Goals as goal
 
 pub returns : goal.returns
 returns c =

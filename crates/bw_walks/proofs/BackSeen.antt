@@ -4,9 +4,9 @@ use Rattle.std.proofs.Common.{Some, None, List, [], ◌∷◌, refl, lit≤, lit
 use Rattle.bw_record.specs.declared.leaf.Leaf.{Leaf}
 use Rattle.bw_leaf.specs.Changed.{Pairs}
 use Rattle.bw_page.specs.Leaves.{union, AreLeaves}
-use Rattle.bw_core.specs.Back.{IsLast, IsLastOn, IsNextBelow}
-use Rattle.bw_core.specs.declared.back.Reach.TheVariants.{With, Without}
-use Rattle.bw_core.proofs.Backwards.{front_next, filled_next, last_counted, come_first, come_found, come_further}
+use Rattle.bw_walks.specs.Back.{IsLast, IsLastOn, IsNextBelow}
+use Rattle.bw_walks.specs.declared.back.Reach.TheVariants.{With, Without}
+use Rattle.bw_walks.proofs.Backwards.{front_next, filled_next, last_counted, come_first, come_found, come_further}
 
 -- ---- keys
 

@@ -1,7 +1,7 @@
 use Rattle.std.proofs.Common.{◌≡◌, ◌≤◌, ◌∙◌, sym, ap, length, ◌-◌, suc, [], ◌∷◌, ◌++◌, take, get_or, arith, length-take-le, inl, inr}
 use Rattle.bw_leaf.specs.Changed.{Bytes}
-use Rattle.bw_core.proofs.Backwards.{split_last, made_some, not_made, front_next, filled_next, filled_over, filled_long, front_or_none}
-use Rattle.bw_core.proofs.back.last_below.Goals as goal
+use Rattle.bw_walks.proofs.Backwards.{split_last, made_some, not_made, front_next, filled_next, filled_over, filled_long, front_or_none}
+use Rattle.bw_walks.proofs.back.last_below.Goals as goal
 
 pub returns-then-bytes-at-eq0-clause-some : goal.returns-then-bytes-at-eq0-clause-some
 returns-then-bytes-at-eq0-clause-some c =

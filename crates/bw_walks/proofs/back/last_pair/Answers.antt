@@ -1,9 +1,9 @@
 use Rattle.std.proofs.Common.{◌≡◌, ◌≤◌, ◌∙◌, ◌-◌, sym, ap, subst, Some, ℕ, length, get_or, arith, Result}
 use Rattle.bw_leaf.specs.Changed.{Bytes, Pairs}
 use Rattle.bw_leaf.specs.Seek.{seek_of}
-use Rattle.bw_core.specs.Back.{IsLastOn, count_of}
-use Rattle.bw_core.proofs.Backwards.{pair_before, last_counted, pair_there}
-use Rattle.bw_core.proofs.back.last_pair.Goals as goal
+use Rattle.bw_walks.specs.Back.{IsLastOn, count_of}
+use Rattle.bw_walks.proofs.Backwards.{pair_before, last_counted, pair_there}
+use Rattle.bw_walks.proofs.back.last_pair.Goals as goal
 
 pub returns-then-count-eq0 : goal.returns-then-count-eq0
 returns-then-count-eq0 c =

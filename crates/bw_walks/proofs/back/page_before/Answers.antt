@@ -1,6 +1,6 @@
 use Rattle.std.proofs.Common.{refl}
-use Rattle.bw_core.proofs.Backwards.{first_before, taken_before, none_between, none_above}
-use Rattle.bw_core.proofs.back.page_before.Goals as goal
+use Rattle.bw_walks.proofs.Backwards.{first_before, taken_before, none_between, none_above}
+use Rattle.bw_walks.proofs.back.page_before.Goals as goal
 
 pub returns-in_default-clause-before : goal.returns-in_default-clause-before
 returns-in_default-clause-before c = first_before _ c.args.leaves.now.leaves c.args.low.now c.count.ensures.lawful (c.last_below.ensures.none c.in_default.is)

@@ -1,0 +1,2 @@
+-- What callers see.
+pub mod Back

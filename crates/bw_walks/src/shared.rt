@@ -1,0 +1,68 @@
+//! The pairs of a page from a key on, handed out without a copy of their bytes.
+//!
+//! A page holds each pair as a handle to one run of bytes, and so does whoever asked for it: the run
+//! never changes, and stays in memory as long as one of them holds it.
+
+ghost use Rattle.std.specs.Prelude.{◌≡◌, ◌+◌, ◌≤◌, ◌++◌, length, vec_len, OnOk};
+ghost use Rattle.std.specs.Vec.{vec_capacity};
+ghost use Rattle.bw_leaf.specs.Above.{pairs_above, with_some};
+ghost use Rattle.bw_leaf.specs.Seek.{seek_of, end_of};
+
+use bw_codec::{Key, Leaf, Pair, Pairs};
+use bw_leaf::find_key;
+use std::alloc::AllocError;
+
+/// The index of the first pair at or above a key, or how many pairs there are.
+fn first_from(pairs: &Pairs, key: &Key) -> usize
+    ensures at { result ≡ end_of (seek_of key.now pairs.now) }
+    ensures within { result ≤ length pairs.now }
+{
+    match find_key(pairs, key.as_slice()) {
+        Ok(at) => at,
+        Err(at) => at,
+    }
+}
+
+/// Reads the first byte of each run, which may be far away in memory: the processor waits for many
+/// of them at once. What it answers is of no use; but the reads are made only where it is used.
+fn read_runs(pairs: &[Pair]) -> usize {
+    let mut sum = 0;
+    for pair in pairs {
+        sum ^= pair.key().len();
+    }
+    sum
+}
+
+/// Adds these pairs, for which there is room, and shares their bytes.
+fn push_shared(found: &mut Vec<Pair>, pairs: &[Pair]) -> Result<(), AllocError>
+    requires { vec_len found.old + length pairs.now ≤ vec_capacity found.old }
+    ensures { OnOk result (found.new.items ≡ found.old.items ++ pairs.now) }
+{
+    for pair in pairs {
+        found.push_reserved(pair.copy()?);
+    }
+    Ok(())
+}
+
+/// Adds the pairs of a page at or above a key, in order, until `found` has so many: what stood there
+/// is counted too, and stays.
+///
+/// It costs a search among the page's pairs, and a look at each that is added. Refused where `found`
+/// does not grow, or the count of those that share a pair is full; some pairs may be added then.
+pub fn share_pairs(
+    leaf: &Leaf,
+    key: &Key,
+    most: usize,
+    found: &mut Vec<Pair>,
+) -> Result<(), AllocError>
+    ensures { OnOk result (found.new.items
+        ≡ with_some most found.old.items (pairs_above key.now leaf.now.pairs)) }
+{
+    let pairs = leaf.pairs.as_slice();
+    let from = first_from(&leaf.pairs, key);
+    let count = (pairs.len() - from).min(most.saturating_sub(found.len()));
+    let pairs = &pairs[from..from + count];
+    let ahead = read_runs(pairs) % 2;
+    found.reserve(count.max(ahead))?;
+    push_shared(found, pairs)
+}
