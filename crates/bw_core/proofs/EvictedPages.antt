@@ -1,6 +1,6 @@
 -- A page that the frame in the making neither makes nor cuts is in the log, and the records of that frame lead from there to it.
 
-use Rattle.std.proofs.Common.{Ok, ◌≡◌, ℕ, zero, suc, ◌+◌, ◌<◌, ◌≤◌, inl, inr, Bool, true, false, Option, Some, None, Result, Err, List, [], ◌∷◌, ◌++◌}
+use Rattle.std.proofs.Common.{Ok, ◌≡◌, ℕ, zero, suc, ◌+◌, ◌-◌, ◌<◌, ◌≤◌, inl, inr, Bool, true, false, Option, Some, None, Result, Err, List, [], ◌∷◌, ◌++◌}
 use Rattle.std.proofs.Common.{length, refl, sym, ap, ◌∙◌, subst, arith, append-nil, if◌then◌else◌}
 use Rattle.std.specs.Prelude.{◌==◌, ◌||◌, ◌&&◌, nat_le, nat_lt, not, is_some, is_none, IsTrue, IsErrOf, IfOk}
 use Rattle.std.specs.List.{AllByRecursion as All, fold, list_any, slice_get}

@@ -136,7 +136,8 @@ impl Core {
             (kept_by self.old holding) result (kept_by self.new holding) }
         ensures noted { noted_of self.new ≡ noted_of self.old }
     {
-        match self.word(page, key)? {
+        let word = self.word(page, key)?;
+        match word {
             Word::Silent => {}
             Word::Gone => return Ok(None),
             Word::Holds(value) => return Ok(Some(value)),

@@ -22,12 +22,12 @@ returns-in_err-apply_entries-clause-refused g c =
     let s = kept_by c.args.self.now (λ z. (goal.Segment-dyn g z).holding z.1) in
     let p = err_from_is_err_and c.from_residual-in_err-apply_entries.result c.from_residual-in_err-apply_entries.ensures.1 in
     rw (p.1, p.2) (wanting_of s c.args.self.now.leaves c.args.group c.in_err-apply_entries.field-0.0 refl refl
-    (λ e. rw (sym c.as_slice-2.ensures.value) (c.in_err-apply_entries.ensures.only_spent (ap (λ (x : ApplyError). Err x) e))))
+    (λ e. rw (sym c.as_slice.ensures.value) (c.in_err-apply_entries.ensures.only_spent (ap (λ (x : ApplyError). Err x) e))))
 
 pub file_all-requires-clause-some : goal.file_all-requires-clause-some
 file_all-requires-clause-some g c =
     let s = kept_by c.args.self.now (λ z. (goal.Segment-dyn g z).holding z.1) in
-    blocks_some s c.args.group c.args.draft.now c.requires.sound c.requires.lawful c.requires.draft _ c.as_slice-4.ensures.value c.as_slice-2.ensures.few.0
+    blocks_some s c.args.group c.args.draft.now c.requires.sound c.requires.lawful c.requires.draft _ c.as_slice-3.ensures.value c.as_slice.ensures.few.0
 
 pub file_all-requires-clause-inside : goal.file_all-requires-clause-inside
 file_all-requires-clause-inside g c =
@@ -56,7 +56,7 @@ invariant_of-self-2 g c =
           evicted_now s c.args.group c.args.draft.now c.requires.sound c.requires.lawful c.requires.draft was.leaves.evicted q _ _ c.requires.here
           c.count.ensures.beyond
           (subst (λ (ps : List ℕ). is_among q ps ≡ true) evicted there) (was.logged q (subst (λ (ps : List ℕ). is_among q ps ≡ true) evicted there))
-          c.file_all.ensures.making c.as_slice-4.ensures.value;
+          c.file_all.ensures.making c.as_slice-3.ensures.value;
       began = was.began;
       forgotten = (let entered = c.enter.ensures.gone in let reserved = c.reserve.ensures.gone in let known = was.forgotten in omega arith);
     }
@@ -65,13 +65,13 @@ pub returns-clause-sound : goal.returns-clause-sound
 returns-clause-sound g c =
     let was = c.args.self.now in
     let s = kept_by was (λ z. (goal.Segment-dyn g z).holding z.1) in
-    let leaves = ap (pages was.leaves.m was.leaves.leaves) c.as_slice-2.ensures.value in
+    let leaves = ap (pages was.leaves.m was.leaves.leaves) c.as_slice.ensures.value in
     subst kept.IsSound
     (sym (entered_all s c.args.group c.args.draft.now c.requires.sound c.requires.lawful c.requires.draft c.args.lane _ _ c.enter.new.self.history.items _
     (filed_of c.apply_entries.new.leaves) _ _ _ _ _
     c.enter.ensures.rings (ap (λ v. map ring_of_lane v.items) c.reserve.ensures.lanes) c.enter.ensures.grows c.reserve.ensures.history
     (ap filed_of c.in_ok-apply_entries.ensures.ok ∙ ap (λ (ls : List Leaf). filed_with was.leaves.m ls) leaves)
-    c.file_all.ensures.newest c.reserve-2.ensures.items c.as_slice-rows.ensures.value c.file_all.ensures.making c.as_slice-4.ensures.value))
+    c.file_all.ensures.newest c.reserve-2.ensures.items c.as_slice-rows.ensures.value c.file_all.ensures.making c.as_slice-3.ensures.value))
     (all_sound s c.args.group c.args.draft.now c.requires.sound c.requires.lawful c.requires.draft c.args.lane c.requires.next
     (lane_inside _ _ c.requires.inside))
 
@@ -79,9 +79,9 @@ pub returns-clause-ok : goal.returns-clause-ok
 returns-clause-ok g c =
     let was = c.args.self.now in
     let s = kept_by was (λ z. (goal.Segment-dyn g z).holding z.1) in
-    let leaves = ap (pages was.leaves.m was.leaves.leaves) c.as_slice-2.ensures.value in
+    let leaves = ap (pages was.leaves.m was.leaves.leaves) c.as_slice.ensures.value in
     entered_all s c.args.group c.args.draft.now c.requires.sound c.requires.lawful c.requires.draft c.args.lane _ _ c.enter.new.self.history.items _
     (filed_of c.apply_entries.new.leaves) _ _ _ _ _
     c.enter.ensures.rings (ap (λ v. map ring_of_lane v.items) c.reserve.ensures.lanes) c.enter.ensures.grows c.reserve.ensures.history
     (ap filed_of c.in_ok-apply_entries.ensures.ok ∙ ap (λ (ls : List Leaf). filed_with was.leaves.m ls) leaves)
-    c.file_all.ensures.newest c.reserve-2.ensures.items c.as_slice-rows.ensures.value c.file_all.ensures.making c.as_slice-4.ensures.value
+    c.file_all.ensures.newest c.reserve-2.ensures.items c.as_slice-rows.ensures.value c.file_all.ensures.making c.as_slice-3.ensures.value
