@@ -1,6 +1,6 @@
 -- A walk back over the pages of a store finds the last pair of its map in reach of a key.
 
-use Rattle.std.proofs.Common.{◌≡◌, ℕ, Option, Some, None, sym, ap, subst}
+use Rattle.std.proofs.Common.{◌≡◌, ℕ, Option, Some, None, refl, sym, ap, ◌∙◌, subst}
 use Rattle.std.specs.Option.{IsSomeAnd}
 use Rattle.std.specs.FinMap as finite
 use Rattle.bw_record.specs.declared.leaf.Leaf.{Leaf}

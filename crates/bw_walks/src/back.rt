@@ -1,7 +1,7 @@
 //! A look at one page of a walk back, and the page that the walk goes to from there.
 //!
-//! No index is searched downwards for the page before: a key of at most 128 bytes has a greatest one
-//! below it, and that one's page is it.
+//! No index is searched downwards for the page before: a key of at most 128 bytes has a greatest
+//! one below it, and that one's page is the page before.
 
 ghost use Rattle.std.specs.Prelude.{◌≡◌, ◌≤◌, [], ◌∷◌, None, length, IfSome, IsTrue};
 ghost use Rattle.bw_record.specs.Keys.{ascends};

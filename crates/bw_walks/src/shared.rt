@@ -1,7 +1,7 @@
 //! The pairs of a page from a key on, handed out without a copy of their bytes.
 //!
-//! A page holds each pair as a handle to one run of bytes, and so does whoever asked for it: the run
-//! never changes, and stays in memory as long as one of them holds it.
+//! A page holds each pair as a handle to one run of bytes, and so does whoever asked for it: the
+//! run never changes, and stays in memory as long as one of them holds it.
 
 ghost use Rattle.std.specs.Prelude.{◌≡◌, ◌+◌, ◌≤◌, ◌++◌, length, vec_len, OnOk};
 ghost use Rattle.std.specs.Vec.{vec_capacity};
@@ -44,11 +44,12 @@ fn push_shared(found: &mut Vec<Pair>, pairs: &[Pair]) -> Result<(), AllocError>
     Ok(())
 }
 
-/// Adds the pairs of a page at or above a key, in order, until `found` has so many: what stood there
-/// is counted too, and stays.
+/// Adds the pairs of a page at or above a key, in order, until `found` has so many: what stood
+/// there is counted too, and stays.
 ///
-/// It costs a search among the page's pairs, and a look at each that is added. Refused where `found`
-/// does not grow, or the count of those that share a pair is full; some pairs may be added then.
+/// It costs a search among the page's pairs, and a look at each that is added. Refused where
+/// `found` does not grow, or the count of those that share a pair is full; some pairs may be added
+/// then.
 pub fn share_pairs(
     leaf: &Leaf,
     key: &Key,
