@@ -14,16 +14,12 @@ use std::alloc::{AllocError, Global};
 use std::cmp::Ordering;
 
 /// The index of a key, or where it would stand. The first bytes of keys are compared as numbers, and
-/// whole keys as bytes from the first pair on that these do not tell apart: a key that is not there
-/// mostly costs no look at a pair.
+/// whole keys as bytes from the first pair on that these do not tell apart.
 pub fn find_key(pairs: &Pairs, key: &[u8]) -> Result<usize, usize>
     ensures found { result ≡ seek_of key.now pairs.now }
     ensures within { IsWithin (length pairs.now) result }
 {
     let from = pairs.skipped(key);
-    if pairs.is_above(from, key) {
-        return Err(from);
-    }
     match find_whole(&pairs.as_slice()[from..], key) {
         Ok(at) => Ok(from + at),
         Err(at) => Err(from + at),

@@ -1,10 +1,10 @@
 -- Heads of keys, beside which a search seldom reads whole keys.
 
-use Rattle.std.specs.Prelude.{ℕ, ◌≡◌, ◌⊎◌, List, [], ◌∷◌, map}
+use Rattle.std.specs.Prelude.{ℕ, ◌≡◌, ◌⊎◌, List, [], map}
 use Rattle.std.specs.List.{AllByRecursion}
 use Rattle.std.specs.Bool.{IsTrue}
 use Rattle.byteorder.specs.Endian.{big_number}
-use Rattle.bw_record.specs.Keys.{is_below, IsBytes}
+use Rattle.bw_record.specs.Keys.{is_below}
 
 -- the first eight bytes of a key as one number, the highest first; for those that it lacks stand zeros
 abbrev pub head : List ℕ → ℕ
@@ -16,19 +16,10 @@ PairList = List (List ℕ × List ℕ)
 abbrev pub heads : PairList → List ℕ
 heads pairs = map (λ p. head p.0) pairs
 
--- the keys of these pairs are bytes
-abbrev pub AreBytes : PairList → Type 0
-AreBytes pairs = AllByRecursion (λ p. IsBytes p.0) pairs
-
 -- the row beside pairs: the head of each key, or none
 abbrev pub IsRow : List ℕ → PairList → Type 0
-IsRow row pairs = (row ≡ []) ⊎ ((row ≡ heads pairs) × AreBytes pairs)
+IsRow row pairs = (row ≡ []) ⊎ (row ≡ heads pairs)
 
 -- the key of each of these pairs is below another
 abbrev pub AreBelow : List ℕ → PairList → Type 0
 AreBelow key pairs = AllByRecursion (λ p. IsTrue (is_below p.0 key)) pairs
-
--- there are pairs, and the key of the first is above another
-abbrev pub BeginAbove : List ℕ → PairList → Type 0
-BeginAbove key [] = ⊥
-BeginAbove key (p ∷ ps) = IsTrue (is_below key p.0)

@@ -1,8 +1,8 @@
 //! A leaf: a page's low key and its pairs in the order of their keys.
 
-ghost use Rattle.std.specs.Prelude.{◌≡◌, ◌<◌, ◌≤◌, ◌-◌, [], length, reverse, vec_len, insert, remove, take, drop, slice_set, slice_index_or, OnOk, OnErr, IfOk, IsTrue};
+ghost use Rattle.std.specs.Prelude.{◌≡◌, ◌<◌, ◌≤◌, ◌-◌, [], length, reverse, vec_len, insert, remove, take, drop, slice_set, slice_index_or, OnOk, OnErr, IfOk};
 ghost use Rattle.std.specs.Vec.{vec_capacity};
-ghost use Rattle.bw_record.specs.Heads.{AreBelow, BeginAbove, IsRow};
+ghost use Rattle.bw_record.specs.Heads.{AreBelow, IsRow};
 
 use crate::heads::{count_below, head_of, insert_head, remove_head, row_of, set_head};
 use crate::pair::Pair;
@@ -191,18 +191,6 @@ impl Pairs {
         ensures below { AreBelow key.now (take result self.now) }
     {
         count_below(self.row.as_slice(), head_of(key))
-    }
-
-    /// Whether the first eight bytes tell that the key of the pair at an index is above this one. It
-    /// reads no key; where there is no pair or no row, it answers `false`.
-    pub fn is_above(&self, at: usize, key: &[u8]) -> bool
-        ensures { IsTrue result → BeginAbove key.now (drop at self.now) }
-    {
-        let row = self.row.as_slice();
-        if at < row.len() {
-            return head_of(key) < row[at];
-        }
-        false
     }
 
     /// The first eight bytes of each key as a number, or none at all.

@@ -1,6 +1,6 @@
 use Rattle.std.proofs.Common.{◌∙◌, sym, ap}
 use Rattle.bw_leaf.specs.Seek.{seek_of, passed}
-use Rattle.bw_leaf.proofs.Skipping.{skipped_search, above_search, all_behind}
+use Rattle.bw_leaf.proofs.Skipping.{skipped_search, all_behind}
 use Rattle.bw_leaf.proofs.changes.find_key.Goals as goal
 
 pub returns-in-Ok-clause-found : goal.returns-in-Ok-clause-found
@@ -14,8 +14,3 @@ returns-in-Err-clause-found c =
     let found = sym c.in-Err.is ∙ rw c.as_slice.ensures at c.find_whole.ensures.found in
     ap (passed c.skipped-from.result) (found ∙ ap (seek_of c.args.key.now) (all_behind c.skipped-from.result c.args.pairs.now))
     ∙ skipped_search c.args.key.now c.args.pairs.now c.skipped-from.result c.skipped-from.ensures.within c.skipped-from.ensures.below
-
-pub returns-then-is_above-clause-found : goal.returns-then-is_above-clause-found
-returns-then-is_above-clause-found c =
-    above_search c.args.key.now c.args.pairs.now c.skipped-from.result c.skipped-from.ensures.within c.skipped-from.ensures.below
-    (c.is_above.ensures c.if-is_above.true)
