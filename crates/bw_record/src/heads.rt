@@ -102,8 +102,8 @@ impl Row {
         );
     }
 
-    // Steps over no byte any more that this key does not share. It is linear in the pairs where that
-    // changes something, at most once for each byte.
+    // Steps over no byte any more that this key does not share. It is linear in the pairs where
+    // that changes something, at most once for each byte.
     fn shorten(&mut self, pairs: &[Pair], key: &[u8])
         ensures { IsRow self.old.shared.items self.old.heads.items pairs.now
             → IsRow self.new.shared.items self.new.heads.items pairs.now }
@@ -194,8 +194,8 @@ fn count_same(a: &[u8], b: &[u8]) -> usize
     b.len()
 }
 
-// The row of pairs from behind bytes that they share, with room for one more; none where one does not
-// share them, or where memory is refused.
+// The row of pairs from behind bytes that they share, with room for one more; none where one does
+// not share them, or where memory is refused.
 fn fill(row: &mut Vec<u64>, shared: &[u8], pairs: &[Pair])
     ensures { IsRow shared.now row.new.items pairs.now }
 {

@@ -59,9 +59,9 @@ impl Low {
 /// Keys with their values, in the order of the keys where a lawful leaf holds them. Their bytes may
 /// be shared with other leaves.
 ///
-/// Beside them stands a row with eight bytes of each key as a number, the first behind those that all
-/// keys share. A search reads it in place of most keys. It takes memory of its own, and where that is
-/// refused there is none: then a search is slower, and nothing else changes.
+/// Beside them stands a row with eight bytes of each key as a number, the first behind those that
+/// all keys share. A search reads it in place of most keys. It takes memory of its own, and where
+/// that is refused there is none: then a search is slower, and nothing else changes.
 #[derive(Drop)]
 pub struct Pairs {
     items: Vec<Pair>,
@@ -183,8 +183,8 @@ impl Pairs {
         Pairs::of(rest)
     }
 
-    /// How many pairs from the first on have a key below this one, as far as the heads tell: a search
-    /// for the key can begin behind them. There may be more.
+    /// How many pairs from the first on have a key below this one, as far as the heads tell: a
+    /// search for the key can begin behind them. There may be more.
     pub fn skipped(&self, key: &[u8]) -> usize
         ensures within { result ≤ length self.now }
         ensures below { AreBelow key.now (take result self.now) }

@@ -230,8 +230,8 @@ fn near_are_stepped_over(alloc: Global) -> Option<bool> {
     Some(are_stepped(&made, STEPS) && are_stepped(&made.copy().ok()?, STEPS))
 }
 
-/// Whether a search steps over pairs whose keys share many bytes, also once a key comes in that does
-/// not share them.
+/// Whether a search steps over pairs whose keys share many bytes, also once a key comes in that
+/// does not share them.
 fn far_are_stepped_over(alloc: Global) -> Option<bool> {
     let mut far = pairs_with(alloc, FAR)?;
     let alike = are_stepped(&far, FAR_STEPS);
