@@ -13,8 +13,9 @@ use bw_codec::{Key, Leaf, Low, Packed, Pair, Pairs, Record, Value};
 use std::alloc::{AllocError, Global};
 use std::cmp::Ordering;
 
-/// The index of a key, or where it would stand. The first bytes of keys are compared as numbers, and
-/// whole keys as bytes from the first pair on that these do not tell apart.
+/// The index of a key, or where it would stand. Eight bytes of keys, behind those that all of them
+/// share, are compared as numbers, and whole keys as bytes from the first pair on that these do not
+/// tell apart.
 pub fn find_key(pairs: &Pairs, key: &[u8]) -> Result<usize, usize>
     ensures found { result ≡ seek_of key.now pairs.now }
     ensures within { IsWithin (length pairs.now) result }

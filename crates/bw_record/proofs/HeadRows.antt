@@ -1,9 +1,10 @@
 -- Heads tell an order of keys, and a row of them goes along with its pairs.
 
-use Rattle.std.proofs.Common.{◌≡◌, ℕ, zero, suc, ◌*◌, ◌^◌, ◌<◌, ◌≤◌, inl, inr, List, [], ◌∷◌, ◌++◌, length, take, drop, map, insert, remove}
+use Rattle.std.proofs.Common.{◌≡◌, ◌≢◌, ℕ, zero, suc, ◌*◌, ◌^◌, ◌<◌, ◌≤◌, inl, inr, List, [], ◌∷◌, ◌++◌, length, take, drop, map, insert, remove}
 use Rattle.std.proofs.Common.{refl, sym, ap, ◌∙◌, subst, arith, Less, Equal, Greater}
 use Rattle.std.proofs.lemmas.List.{length-map, map-append, take-map, drop-map, map-set}
 use Rattle.std.proofs.Math.Nat.{mul-le-mul_right}
+use Rattle.std.proofs.Math.Seq.{drop-append_seam}
 use Rattle.std.specs.Prelude.{slice_set}
 use Rattle.std.specs.Bool.{IsTrue}
 use Rattle.std.specs.List.{AllByRecursion}
@@ -13,7 +14,7 @@ use Rattle.std.specs.Cmp.Lexicographic.{slice_cmp}
 use Rattle.byteorder.specs.Endian.{big_from}
 use Rattle.byteorder.specs.Numbers.{big_from-cons, big_from-lt}
 use Rattle.bw_record.specs.Keys.{is_below, IsBytes}
-use Rattle.bw_record.specs.Heads.{PairList, head, heads, IsRow, AreBelow}
+use Rattle.bw_record.specs.Heads.{PairList, head, heads, BeginsWith, Share, IsRow, AreBelow}
 
 -- ---- the order
 
@@ -37,64 +38,164 @@ below_by_head (suc n) (x ∷ xs) (y ∷ ys) fits h =
       | Greater ↦ λ more. absurd (let top : suc y * 256 ^ n ≤ x * 256 ^ n = mul-le-mul_right (256 ^ n) more in omega arith)
     ] (ranked x y (nat_cmp x y) refl)
 
-all_below : (key : List ℕ) → IsBytes key → (pairs : PairList) (n : ℕ) → AllByRecursion (λ h. h < head key) (take n (heads pairs))
-    → AreBelow key (take n pairs)
-all_below key fits [] zero all = tt
-all_below key fits [] (suc n) all = tt
-all_below key fits (p ∷ ps) zero all = tt
-all_below key fits (p ∷ ps) (suc n) all = (below_by_head 8 p.0 key fits all.0, all_below key fits ps n all.1)
+-- what is the same in front of two keys does not change their order
+below_behind : (s a b : List ℕ) → IsTrue (is_below a b) → IsTrue (is_below (s ++ a) (s ++ b))
+below_behind [] a b below = below
+below_behind (x ∷ s) a b below =
+    elim (nat_cmp x x) as (λ o. MatchOrdering o (x < x) (x ≡ x) (x < x) → IsTrue (is_lt (ordering_then o (slice_cmp nat_cmp (s ++ a) (s ++ b))))) [
+      | Less ↦ λ less. refl
+      | Equal ↦ λ same. below_behind s a b below
+      | Greater ↦ λ more. absurd (omega arith)
+    ] (ranked x x (nat_cmp x x) refl)
 
-pub skipped_below : (key row : List ℕ) (pairs : PairList) (n : ℕ) → IsBytes key → IsRow row pairs → n ≤ length row
-    → AllByRecursion (λ h. h < head key) (take n row) → (n ≤ length pairs) × AreBelow key (take n pairs)
-skipped_below key row pairs n fits (inl missing) within all =
-    let zero_is : n ≡ 0 = omega (arith, ap length missing) in
-    (omega arith, subst (λ m. AreBelow key (take m pairs)) (sym zero_is) tt)
-skipped_below key row pairs n fits (inr whole) within all = (
-  omega (arith, ap length whole, length-map pairs (λ p. head p.0)),
-  all_below key fits pairs n (subst (λ r. AllByRecursion (λ h. h < head key) (take n r)) whole all),
+-- a key above bytes that it does not begin with is above each key that does
+above_beginning : (s a key : List ℕ) → IsTrue (is_below s key) → ((rest : List ℕ) → key ≢ s ++ rest) → IsTrue (is_below (s ++ a) key)
+above_beginning [] a key below other = absurd (other key refl)
+above_beginning (x ∷ s) a [] below other = cc
+above_beginning (x ∷ s) a (y ∷ ys) below other =
+    elim (nat_cmp x y) as (λ o. MatchOrdering o (x < y) (x ≡ y) (y < x) → IsTrue (is_lt (ordering_then o (slice_cmp nat_cmp s ys)))
+    → IsTrue (is_lt (ordering_then o (slice_cmp nat_cmp (s ++ a) ys)))) [
+      | Less ↦ λ less under. refl
+      | Equal ↦ λ same under. above_beginning s a ys under (λ rest e. other rest cc)
+      | Greater ↦ λ more under. cc
+    ] (ranked x y (nat_cmp x y) refl) below
+
+all_below : (s rest : List ℕ) → IsBytes rest → (pairs : PairList) (n : ℕ) → Share s pairs
+    → AllByRecursion (λ h. h < head rest) (take n (heads (length s) pairs)) → AreBelow (s ++ rest) (take n pairs)
+all_below s rest fits [] zero share all = tt
+all_below s rest fits [] (suc n) share all = tt
+all_below s rest fits (p ∷ ps) zero share all = tt
+all_below s rest fits (p ∷ ps) (suc n) share all = (
+  subst (λ k. IsTrue (is_below k (s ++ rest))) (sym share.0)
+      (below_behind s (drop (length s) p.0) rest (below_by_head 8 (drop (length s) p.0) rest fits all.0)),
+  all_below s rest fits ps n share.1 all.1,
 )
+
+-- the key begins with the bytes that are shared, and its rest has a head above these
+pub skipped_below : (shared rest row : List ℕ) (pairs : PairList) (n : ℕ) → IsBytes rest → IsRow shared row pairs → n ≤ length row
+    → AllByRecursion (λ h. h < head rest) (take n row) → (n ≤ length pairs) × AreBelow (shared ++ rest) (take n pairs)
+skipped_below shared rest row pairs n fits (inl missing) within all =
+    let zero_is : n ≡ 0 = omega (arith, ap length missing) in
+    (omega arith, subst (λ m. AreBelow (shared ++ rest) (take m pairs)) (sym zero_is) tt)
+skipped_below shared rest row pairs n fits (inr whole) within all = (
+  omega (arith, ap length whole.1, length-map pairs (λ p. head (drop (length shared) p.0))),
+  all_below shared rest fits pairs n whole.0 (subst (λ r. AllByRecursion (λ h. h < head rest) (take n r)) whole.1 all),
+)
+
+all_above : (s key : List ℕ) → IsTrue (is_below s key) → ((rest : List ℕ) → key ≢ s ++ rest) → (pairs : PairList) (n : ℕ)
+    → Share s pairs → AreBelow key (take n pairs)
+all_above s key below other [] zero share = tt
+all_above s key below other [] (suc n) share = tt
+all_above s key below other (p ∷ ps) zero share = tt
+all_above s key below other (p ∷ ps) (suc n) share = (
+  subst (λ k. IsTrue (is_below k key)) (sym share.0) (above_beginning s (drop (length s) p.0) key below other),
+  all_above s key below other ps n share.1,
+)
+
+-- the key does not begin with the bytes that are shared, and is above them
+pub skipped_all : (shared key row : List ℕ) (pairs : PairList) → IsRow shared row pairs → IsTrue (is_below shared key)
+    → ((rest : List ℕ) → key ≢ shared ++ rest) → (length row ≤ length pairs) × AreBelow key (take (length row) pairs)
+skipped_all shared key row pairs (inl missing) below other =
+    let zero_is : length row ≡ 0 = ap length missing in
+    (omega arith, subst (λ m. AreBelow key (take m pairs)) (sym zero_is) tt)
+skipped_all shared key row pairs (inr whole) below other = (
+  omega (arith, ap length whole.1, length-map pairs (λ p. head (drop (length shared) p.0))),
+  all_above shared key below other pairs (length row) whole.0,
+)
+
+-- ---- what keys share
+
+pub rest_is : (shared key rest : List ℕ) → key ≡ shared ++ rest → drop (length shared) key ≡ rest
+rest_is shared key rest e = ap (drop (length shared)) e ∙ drop-append_seam shared rest
+
+pub begins : (shared key rest : List ℕ) → key ≡ shared ++ rest → BeginsWith shared key
+begins shared key rest e = e ∙ ap (λ (r : List ℕ). shared ++ r) (sym (rest_is shared key rest e))
+
+share_append : (s : List ℕ) (xs ys : PairList) → Share s xs → Share s ys → Share s (xs ++ ys)
+share_append s [] ys front back = back
+share_append s (x ∷ xs) ys front back = (front.0, share_append s xs ys front.1 back)
+
+share_take : (s : List ℕ) (n : ℕ) (pairs : PairList) → Share s pairs → Share s (take n pairs)
+share_take s zero pairs share = tt
+share_take s (suc n) [] share = tt
+share_take s (suc n) (p ∷ ps) share = (share.0, share_take s n ps share.1)
+
+share_drop : (s : List ℕ) (n : ℕ) (pairs : PairList) → Share s pairs → Share s (drop n pairs)
+share_drop s zero pairs share = share
+share_drop s (suc n) [] share = tt
+share_drop s (suc n) (p ∷ ps) share = share_drop s n ps share.1
+
+share_set : (s : List ℕ) (pairs : PairList) (at : ℕ) (k v : List ℕ) → BeginsWith s k → Share s pairs → Share s (slice_set pairs at (k, v))
+share_set s [] at k v one share = share
+share_set s (p ∷ ps) zero k v one share = (one, share.1)
+share_set s (p ∷ ps) (suc at) k v one share = (share.0, share_set s ps at k v one share.1)
 
 -- ---- the row
 
 -- a row as long as its pairs is whole
-pub whole_row : (row : List ℕ) (pairs : PairList) → IsRow row pairs → length row ≡ length pairs → row ≡ heads pairs
-whole_row row [] (inl missing) long = missing
-whole_row row (p ∷ ps) (inl missing) long = absurd (omega (arith, ap length missing))
-whole_row row pairs (inr whole) long = whole
+pub whole_row : (shared row : List ℕ) (pairs : PairList) → IsRow shared row pairs → length row ≡ length pairs
+    → Share shared pairs × (row ≡ heads (length shared) pairs)
+whole_row shared row [] (inl missing) long = (tt, missing)
+whole_row shared row (p ∷ ps) (inl missing) long = absurd (omega (arith, ap length missing))
+whole_row shared row pairs (inr whole) long = whole
 
-pub row_inserted : (row : List ℕ) (pairs : PairList) (at : ℕ) (k v : List ℕ) → row ≡ heads pairs
-    → insert row at (head k) ≡ heads (insert pairs at (k, v))
-row_inserted row pairs at k v e =
-    let f : List ℕ × List ℕ → ℕ = λ p. head p.0 in
-    ap (λ (r : List ℕ). take at r ++ head k ∷ drop at r) e
-    ∙ ap (λ (r : List ℕ). r ++ head k ∷ drop at (heads pairs)) (take-map (λ p. head p.0) at pairs)
-    ∙ ap (λ (r : List ℕ). map (λ p. head p.0) (take at pairs) ++ head k ∷ r) (drop-map (λ p. head p.0) at pairs)
-    ∙ sym (map-append (λ p. head p.0) (take at pairs) ((k, v) ∷ drop at pairs))
+heads_inserted : (skip : ℕ) (row : List ℕ) (pairs : PairList) (at : ℕ) (k v : List ℕ) → row ≡ heads skip pairs
+    → insert row at (head (drop skip k)) ≡ heads skip (insert pairs at (k, v))
+heads_inserted skip row pairs at k v e =
+    let h : ℕ = head (drop skip k) in
+    ap (λ (r : List ℕ). take at r ++ h ∷ drop at r) e
+    ∙ ap (λ (r : List ℕ). r ++ h ∷ drop at (heads skip pairs)) (take-map (λ p. head (drop skip p.0)) at pairs)
+    ∙ ap (λ (r : List ℕ). map (λ p. head (drop skip p.0)) (take at pairs) ++ h ∷ r) (drop-map (λ p. head (drop skip p.0)) at pairs)
+    ∙ sym (map-append (λ p. head (drop skip p.0)) (take at pairs) ((k, v) ∷ drop at pairs))
 
-row_removed_whole : (pairs : PairList) (at : ℕ) → remove (heads pairs) at ≡ heads (remove pairs at)
-row_removed_whole pairs at =
-    ap (λ (r : List ℕ). r ++ drop (suc at) (heads pairs)) (take-map (λ p. head p.0) at pairs)
-    ∙ ap (λ (r : List ℕ). map (λ p. head p.0) (take at pairs) ++ r) (drop-map (λ p. head p.0) (suc at) pairs)
-    ∙ sym (map-append (λ p. head p.0) (take at pairs) (drop (suc at) pairs))
+pub row_inserted : (shared row : List ℕ) (pairs : PairList) (at : ℕ) (k v rest : List ℕ) → IsRow shared row pairs
+    → length row ≡ length pairs → k ≡ shared ++ rest → IsRow shared (insert row at (head rest)) (insert pairs at (k, v))
+row_inserted shared row pairs at k v rest is long e =
+    let whole : Share shared pairs × (row ≡ heads (length shared) pairs) = whole_row shared row pairs is long in
+    inr (
+      share_append shared (take at pairs) ((k, v) ∷ drop at pairs) (share_take shared at pairs whole.0)
+          (begins shared k rest e, share_drop shared at pairs whole.0),
+      ap (λ (r : List ℕ). insert row at (head r)) (sym (rest_is shared k rest e)) ∙ heads_inserted (length shared) row pairs at k v whole.1,
+    )
+
+heads_removed : (skip : ℕ) (pairs : PairList) (at : ℕ) → remove (heads skip pairs) at ≡ heads skip (remove pairs at)
+heads_removed skip pairs at =
+    ap (λ (r : List ℕ). r ++ drop (suc at) (heads skip pairs)) (take-map (λ p. head (drop skip p.0)) at pairs)
+    ∙ ap (λ (r : List ℕ). map (λ p. head (drop skip p.0)) (take at pairs) ++ r) (drop-map (λ p. head (drop skip p.0)) (suc at) pairs)
+    ∙ sym (map-append (λ p. head (drop skip p.0)) (take at pairs) (drop (suc at) pairs))
+
+pub row_set : (shared row : List ℕ) (pairs : PairList) (at : ℕ) (k v rest : List ℕ) → IsRow shared row pairs → k ≡ shared ++ rest
+    → IsRow shared (slice_set row at (head rest)) (slice_set pairs at (k, v))
+row_set shared row pairs at k v rest (inl missing) e = inl (ap (λ (r : List ℕ). slice_set r at (head rest)) missing)
+row_set shared row pairs at k v rest (inr whole) e = inr (
+  share_set shared pairs at k v (begins shared k rest e) whole.0,
+  ap (λ (r : List ℕ). slice_set row at (head r)) (sym (rest_is shared k rest e))
+      ∙ ap (λ (r : List ℕ). slice_set r at (head (drop (length shared) k))) whole.1
+      ∙ sym (map-set (λ p. head (drop (length shared) p.0)) pairs at (k, v)),
+)
+
+pub row_removed : (shared row : List ℕ) (pairs : PairList) (at : ℕ) → IsRow shared row pairs → at < length row
+    → IsRow shared (remove row at) (remove pairs at)
+row_removed shared row pairs at (inl missing) within = absurd (omega (arith, ap length missing))
+row_removed shared row pairs at (inr whole) within = inr (
+  share_append shared (take at pairs) (drop (suc at) pairs) (share_take shared at pairs whole.0) (share_drop shared (suc at) pairs whole.0),
+  ap (λ (r : List ℕ). remove r at) whole.1 ∙ heads_removed (length shared) pairs at,
+)
+
+pub row_taken : (shared row : List ℕ) (pairs : PairList) (n : ℕ) → IsRow shared row pairs → IsRow shared (take n row) (take n pairs)
+row_taken shared row pairs zero (inl missing) = inl refl
+row_taken shared row pairs (suc n) (inl missing) = inl (ap (take (suc n)) missing)
+row_taken shared row pairs n (inr whole) = inr (
+  share_take shared n pairs whole.0,
+  ap (take n) whole.1 ∙ take-map (λ p. head (drop (length shared) p.0)) n pairs,
+)
 
 -- what is beyond a row is beyond its pairs, or there is no row
-missing_beyond : (row : List ℕ) (pairs : PairList) (at : ℕ) → IsRow row pairs → length row ≤ at → at < length pairs → row ≡ []
-missing_beyond row pairs at (inl missing) beyond within = missing
-missing_beyond row pairs at (inr whole) beyond within =
-    absurd (omega (arith, ap length whole, length-map pairs (λ p. head p.0)))
+missing_beyond : (shared row : List ℕ) (pairs : PairList) (at : ℕ) → IsRow shared row pairs → length row ≤ at → at < length pairs → row ≡ []
+missing_beyond shared row pairs at (inl missing) beyond within = missing
+missing_beyond shared row pairs at (inr whole) beyond within =
+    absurd (omega (arith, ap length whole.1, length-map pairs (λ p. head (drop (length shared) p.0))))
 
-pub row_set : (row : List ℕ) (pairs : PairList) (at : ℕ) (k v : List ℕ) → IsRow row pairs → IsRow (slice_set row at (head k)) (slice_set pairs at (k, v))
-row_set row pairs at k v (inl missing) = inl (ap (λ (r : List ℕ). slice_set r at (head k)) missing)
-row_set row pairs at k v (inr whole) = inr (ap (λ (r : List ℕ). slice_set r at (head k)) whole ∙ sym (map-set (λ p. head p.0) pairs at (k, v)))
-
-pub row_removed : (row : List ℕ) (pairs : PairList) (at : ℕ) → IsRow row pairs → at < length row → IsRow (remove row at) (remove pairs at)
-row_removed row pairs at (inl missing) within = absurd (omega (arith, ap length missing))
-row_removed row pairs at (inr whole) within = inr (ap (λ (r : List ℕ). remove r at) whole ∙ row_removed_whole pairs at)
-
-pub row_taken : (row : List ℕ) (pairs : PairList) (n : ℕ) → IsRow row pairs → IsRow (take n row) (take n pairs)
-row_taken row pairs zero (inl missing) = inl refl
-row_taken row pairs (suc n) (inl missing) = inl (ap (take (suc n)) missing)
-row_taken row pairs n (inr whole) = inr (ap (take n) whole ∙ take-map (λ p. head p.0) n pairs)
-
-pub row_missing : (row : List ℕ) (pairs other : PairList) (at : ℕ) → IsRow row pairs → length row ≤ at → at < length pairs → IsRow row other
-row_missing row pairs other at is beyond within = inl (missing_beyond row pairs at is beyond within)
+pub row_missing : (shared row : List ℕ) (pairs other : PairList) (at : ℕ) → IsRow shared row pairs → length row ≤ at → at < length pairs
+    → IsRow shared row other
+row_missing shared row pairs other at is beyond within = inl (missing_beyond shared row pairs at is beyond within)

@@ -1,6 +1,6 @@
 -- Heads of keys, beside which a search seldom reads whole keys.
 
-use Rattle.std.specs.Prelude.{ℕ, ◌≡◌, ◌⊎◌, List, [], map}
+use Rattle.std.specs.Prelude.{ℕ, ◌≡◌, ◌⊎◌, List, [], ◌++◌, map, drop, length}
 use Rattle.std.specs.List.{AllByRecursion}
 use Rattle.std.specs.Bool.{IsTrue}
 use Rattle.byteorder.specs.Endian.{big_number}
@@ -13,12 +13,21 @@ head key = big_number 8 key
 abbrev pub PairList : Type 0
 PairList = List (List ℕ × List ℕ)
 
-abbrev pub heads : PairList → List ℕ
-heads pairs = map (λ p. head p.0) pairs
+-- the key begins with these bytes
+abbrev pub BeginsWith : List ℕ → List ℕ → Type 0
+BeginsWith shared key = key ≡ shared ++ drop (length shared) key
 
--- the row beside pairs: the head of each key, or none
-abbrev pub IsRow : List ℕ → PairList → Type 0
-IsRow row pairs = (row ≡ []) ⊎ (row ≡ heads pairs)
+-- each key begins with these bytes
+abbrev pub Share : List ℕ → PairList → Type 0
+Share shared pairs = AllByRecursion (λ p. BeginsWith shared p.0) pairs
+
+-- the heads of keys from behind so many bytes
+abbrev pub heads : ℕ → PairList → List ℕ
+heads skip pairs = map (λ p. head (drop skip p.0)) pairs
+
+-- the row beside pairs: the head of each key from behind the bytes that all share, or none
+abbrev pub IsRow : List ℕ → List ℕ → PairList → Type 0
+IsRow shared row pairs = (row ≡ []) ⊎ (Share shared pairs × (row ≡ heads (length shared) pairs))
 
 -- the key of each of these pairs is below another
 abbrev pub AreBelow : List ℕ → PairList → Type 0

@@ -1,12 +1,18 @@
-//! The heads of keys: their first eight bytes as numbers, so that a search among pairs reads few
-//! bytes of most of them.
+//! The heads of keys: eight of their bytes as numbers, so that a search among pairs reads few bytes
+//! of most of them.
+//!
+//! Keys of one page often share their first bytes, and these tell nothing apart. So a row of heads
+//! begins behind them: were all its heads the same, each step of a search would read a whole key,
+//! which stands elsewhere in memory.
 
-ghost use Rattle.std.specs.Prelude.{◌≡◌, ℕ, List, ◌≤◌, ◌<◌, get_or, length, take, insert, remove, slice_set};
+ghost use Rattle.std.specs.Prelude.{◌≡◌, ◌≢◌, ℕ, List, ◌≤◌, ◌<◌, ◌++◌, MatchOption, get_or, length, take, insert, remove, slice_set};
 ghost use Rattle.std.specs.List.{AllByRecursion};
 ghost use Rattle.bw_record.specs.Keys.{IsBytes};
-ghost use Rattle.bw_record.specs.Heads.{PairList, head, IsRow};
+ghost use Rattle.bw_record.specs.Heads.{PairList, head, AreBelow, BeginsWith, IsRow};
 
+use crate::key::is_before;
 use crate::pair::Pair;
+use arrayvec::ArrayVec;
 use std::alloc::Global;
 
 // A byte of a key; zeros stand behind its end.
@@ -46,61 +52,218 @@ pub(crate) fn head_of(key: &[u8]) -> u64
     }
 }
 
-/// The heads of the keys of pairs, in their order, with room for one more; none where memory for
-/// them is refused.
-pub(crate) fn row_of(alloc: Global, pairs: &[Pair]) -> Vec<u64>
-    ensures { IsRow result.items pairs.now }
-{
-    let Ok(mut row) = Vec::with_capacity(alloc, pairs.len() + 1) else {
-        return Vec::new(alloc);
-    };
-    for pair in pairs {
-        if row.push(head_of(pair.key())).is_err() {
-            return Vec::new(alloc);
-        }
-    }
-    row
+/// How many shared bytes a row steps over at most.
+const MOST: usize = 32;
+
+/// The heads of the keys of pairs in their order, each from behind the bytes with which all these
+/// keys begin. There are none where memory for them is refused, or where a key does not share the
+/// bytes: then a search is slower, and nothing else changes.
+#[derive(Drop)]
+pub(crate) struct Row {
+    shared: ArrayVec<u8, MOST>,
+    heads: Vec<u64>,
 }
 
-/// The row of so many pairs takes the head of a key that goes to an index. There is none any more
-/// where there was none, or where memory is refused.
-pub(crate) fn insert_head(row: &mut Vec<u64>, count: usize, at: usize, key: &[u8])
+impl Row {
+    /// The row of pairs, with room for one more. What the first and the last key share, all between
+    /// them do where keys ascend.
+    pub(crate) fn of(alloc: Global, pairs: &[Pair]) -> Row
+        ensures { IsRow result.shared.items result.heads.items pairs.now }
+    {
+        let shared = match (pairs.first(), pairs.last()) {
+            (Some(first), Some(last)) => beginning(first.key(), last.key()),
+            _ => ArrayVec::new(),
+        };
+        let mut heads = Vec::new(alloc);
+        fill(&mut heads, shared.as_slice(), pairs);
+        Row { shared, heads }
+    }
+
+    /// The heads.
+    pub(crate) fn heads(&self) -> &[u64]
+        ensures { result.now ≡ self.now.heads.items }
+    {
+        self.heads.as_slice()
+    }
+
+    /// The row of these pairs takes the head of a key that goes to an index.
+    pub(crate) fn insert(&mut self, pairs: &[Pair], at: usize, key: &[u8])
+        requires { at ≤ length pairs.now }
+        ensures { (v : List ℕ) → IsRow self.old.shared.items self.old.heads.items pairs.now
+            → IsRow self.new.shared.items self.new.heads.items (insert pairs.now at (key.now, v)) }
+    {
+        self.shorten(pairs, key);
+        insert_head(
+            &mut self.heads,
+            self.shared.as_slice(),
+            pairs.len(),
+            at,
+            key,
+        );
+    }
+
+    // Steps over no byte any more that this key does not share. It is linear in the pairs where
+    // that changes something, at most once for each byte.
+    fn shorten(&mut self, pairs: &[Pair], key: &[u8])
+        ensures { IsRow self.old.shared.items self.old.heads.items pairs.now
+            → IsRow self.new.shared.items self.new.heads.items pairs.now }
+    {
+        if pairs.is_empty() {
+            self.share(beginning(key, key), pairs);
+        } else if !key.starts_with(self.shared.as_slice()) {
+            let shared = beginning(self.shared.as_slice(), key);
+            self.share(shared, pairs);
+        }
+    }
+
+    // The row of these pairs from behind these bytes.
+    fn share(&mut self, shared: ArrayVec<u8, MOST>, pairs: &[Pair])
+        ensures { IsRow self.new.shared.items self.new.heads.items pairs.now }
+    {
+        self.shared = shared;
+        fill(&mut self.heads, self.shared.as_slice(), pairs);
+    }
+
+    /// The key at an index is another one.
+    pub(crate) fn set(&mut self, at: usize, key: &[u8])
+        ensures { (pairs : PairList) (v : List ℕ) → at < length pairs
+            → IsRow self.old.shared.items self.old.heads.items pairs
+            → IsRow self.new.shared.items self.new.heads.items (slice_set pairs at (key.now, v)) }
+    {
+        set_head(&mut self.heads, self.shared.as_slice(), at, key);
+    }
+
+    /// The key at an index is gone.
+    pub(crate) fn remove(&mut self, at: usize)
+        ensures { (pairs : PairList) → at < length pairs
+            → IsRow self.old.shared.items self.old.heads.items pairs
+            → IsRow self.new.shared.items self.new.heads.items (remove pairs at) }
+    {
+        remove_head(&mut self.heads, at);
+    }
+
+    /// The keys from an index on are gone.
+    pub(crate) fn truncate(&mut self, count: usize)
+        ensures { (pairs : PairList) → IsRow self.old.shared.items self.old.heads.items pairs
+            → IsRow self.new.shared.items self.new.heads.items (take count pairs) }
+    {
+        self.heads.truncate(count);
+    }
+
+    /// How many pairs from the first on have a key below this one, as far as the heads tell. A key
+    /// that does not share what these keys do is above all of them or below all.
+    pub(crate) fn skipped(&self, key: &[u8]) -> usize
+        ensures { (pairs : PairList) → IsRow self.now.shared.items self.now.heads.items pairs
+            → (result ≤ length pairs) × AreBelow key.now (take result pairs) }
+    {
+        let shared = self.shared.as_slice();
+        match behind(key, shared) {
+            Some(rest) => count_below(self.heads.as_slice(), head_of(rest)),
+            None if is_before(shared, key) => self.heads.as_slice().len(),
+            None => 0,
+        }
+    }
+}
+
+// What stands in a key behind these bytes, or none where it does not begin with them.
+fn behind<'a>(key: &'a [u8], shared: &[u8]) -> Option<&'a [u8]>
+    ensures { MatchOption result ((rest : List ℕ) → key.now ≢ shared.now ++ rest)
+        (λ rest. key.now ≡ shared.now ++ rest.now) }
+{
+    key.strip_prefix(shared)
+}
+
+// The bytes with which both keys begin, as far as there is room.
+fn beginning(a: &[u8], b: &[u8]) -> ArrayVec<u8, MOST>
+    ensures { BeginsWith result.items b.now }
+{
+    let mut shared = ArrayVec::new();
+    let _ = shared.try_extend_from_slice(&b[..count_same(a, b)]);
+    shared
+}
+
+// How many bytes two keys begin with that are the same: no more than there is room for.
+fn count_same(a: &[u8], b: &[u8]) -> usize
+    ensures { result ≤ length b.now }
+{
+    for (i, byte) in b.iter().enumerate() {
+        if i == MOST || a.get(i) != Some(byte) {
+            return i;
+        }
+    }
+    b.len()
+}
+
+// The row of pairs from behind bytes that they share, with room for one more; none where one does
+// not share them, or where memory is refused.
+fn fill(row: &mut Vec<u64>, shared: &[u8], pairs: &[Pair])
+    ensures { IsRow shared.now row.new.items pairs.now }
+{
+    row.clear();
+    if row.reserve_exact(pairs.len() + 1).is_err() {
+        return;
+    }
+    for pair in pairs {
+        let Some(rest) = behind(pair.key(), shared) else {
+            row.clear();
+            return;
+        };
+        if row.push(head_of(rest)).is_err() {
+            row.clear();
+            return;
+        }
+    }
+}
+
+// The row of so many pairs takes the head of a key that goes to an index. There is none any more
+// where there was none, where the key does not share the bytes, or where memory is refused.
+fn insert_head(row: &mut Vec<u64>, shared: &[u8], count: usize, at: usize, key: &[u8])
     requires { at ≤ count }
-    ensures { (pairs : PairList) (v : List ℕ) → length pairs ≡ count → IsRow row.old.items pairs
-        → IsRow row.new.items (insert pairs at (key.now, v)) }
+    ensures { (pairs : PairList) (v : List ℕ) → length pairs ≡ count
+        → IsRow shared.now row.old.items pairs
+        → IsRow shared.now row.new.items (insert pairs at (key.now, v)) }
 {
     if row.as_slice().len() != count {
         row.clear();
         return;
     }
-    match row.insert(at, head_of(key)) {
+    let Some(rest) = behind(key, shared) else {
+        row.clear();
+        return;
+    };
+    match row.insert(at, head_of(rest)) {
         Ok(()) => {}
         Err(_) => row.clear(),
     }
 }
 
-/// The key at an index is another one.
-pub(crate) fn set_head(row: &mut Vec<u64>, at: usize, key: &[u8])
-    ensures { (pairs : PairList) (v : List ℕ) → at < length pairs → IsRow row.old.items pairs
-        → IsRow row.new.items (slice_set pairs at (key.now, v)) }
+// The key at an index is another one. There is no row any more where it does not share the bytes.
+fn set_head(row: &mut Vec<u64>, shared: &[u8], at: usize, key: &[u8])
+    ensures { (pairs : PairList) (v : List ℕ) → at < length pairs
+        → IsRow shared.now row.old.items pairs
+        → IsRow shared.now row.new.items (slice_set pairs at (key.now, v)) }
 {
+    let Some(rest) = behind(key, shared) else {
+        row.clear();
+        return;
+    };
     if at < row.as_slice().len() {
-        row[at] = head_of(key);
+        row[at] = head_of(rest);
     }
 }
 
-/// The key at an index is gone.
-pub(crate) fn remove_head(row: &mut Vec<u64>, at: usize)
-    ensures { (pairs : PairList) → at < length pairs → IsRow row.old.items pairs
-        → IsRow row.new.items (remove pairs at) }
+// The key at an index is gone.
+fn remove_head(row: &mut Vec<u64>, at: usize)
+    ensures { (shared : List ℕ) (pairs : PairList) → at < length pairs
+        → IsRow shared row.old.items pairs → IsRow shared row.new.items (remove pairs at) }
 {
     if at < row.as_slice().len() {
         let _ = row.remove(at);
     }
 }
 
-/// How many heads from the first on are below this one.
-pub(crate) fn count_below(row: &[u64], head: u64) -> usize
+// How many heads from the first on are below this one.
+fn count_below(row: &[u64], head: u64) -> usize
     ensures within { result ≤ length row.now }
     ensures below { AllByRecursion (λ h. h < head) (take result row.now) }
 {

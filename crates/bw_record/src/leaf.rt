@@ -1,10 +1,10 @@
 //! A leaf: a page's low key and its pairs in the order of their keys.
 
-ghost use Rattle.std.specs.Prelude.{◌≡◌, ◌<◌, ◌≤◌, ◌-◌, [], length, reverse, vec_len, insert, remove, take, drop, slice_set, slice_index_or, OnOk, OnErr, IfOk};
+ghost use Rattle.std.specs.Prelude.{◌≡◌, ℕ, List, ◌<◌, ◌≤◌, ◌-◌, [], length, reverse, vec_len, insert, remove, take, drop, slice_set, slice_index_or, OnOk, OnErr, IfOk};
 ghost use Rattle.std.specs.Vec.{vec_capacity};
 ghost use Rattle.bw_record.specs.Heads.{AreBelow, IsRow};
 
-use crate::heads::{count_below, head_of, insert_head, remove_head, row_of, set_head};
+use crate::heads::Row;
 use crate::pair::Pair;
 use std::alloc::{AllocError, Global};
 use std::marker::Model;
@@ -59,13 +59,13 @@ impl Low {
 /// Keys with their values, in the order of the keys where a lawful leaf holds them. Their bytes may
 /// be shared with other leaves.
 ///
-/// Beside them stands a row with the first eight bytes of each key as a number, which a search reads
-/// in place of most keys. It takes memory of its own, and where that is refused there is none: then
-/// a search is slower, and nothing else changes.
+/// Beside them stands a row with eight bytes of each key as a number, the first behind those that
+/// all keys share. A search reads it in place of most keys. It takes memory of its own, and where
+/// that is refused there is none: then a search is slower, and nothing else changes.
 #[derive(Drop)]
 pub struct Pairs {
     items: Vec<Pair>,
-    row: Vec<u64>,
+    row: Row,
 }
 
 impl Model for Pairs {
@@ -76,7 +76,7 @@ impl Model for Pairs {
 
     ghost view = { λ p. p.items.items };
 
-    ghost invariant = { λ p. IsRow p.row.items p.items.items };
+    ghost invariant = { λ p. IsRow p.row.shared.items p.row.heads.items p.items.items };
 }
 
 impl Pairs {
@@ -85,7 +85,7 @@ impl Pairs {
     pub fn of(items: Vec<Pair>) -> Pairs
         ensures { result ≡ items.items }
     {
-        let row = row_of(*items.allocator(), items.as_slice());
+        let row = Row::of(*items.allocator(), items.as_slice());
         Pairs { items, row }
     }
 
@@ -110,10 +110,8 @@ impl Pairs {
         ensures ok { OnOk result (self.new ≡ insert self.old at pair) }
         ensures err { OnErr result (self.new ≡ self.old) }
     {
-        // Tells the proof that the list is as long as the `Vec`; so below.
-        let count = self.items.as_slice().len();
         self.items.reserve(1)?;
-        insert_head(&mut self.row, count, at, pair.key());
+        self.row.insert(self.items.as_slice(), at, pair.key());
         self.items.insert(at, pair)?;
         Ok(())
     }
@@ -130,8 +128,9 @@ impl Pairs {
         ensures set { self.new ≡ slice_set self.old at pair }
         ensures was { result ≡ slice_index_or self.old at result }
     {
+        // Tells the proof that the list is as long as the `Vec`; so below.
         let _ = self.items.as_slice().len();
-        set_head(&mut self.row, at, pair.key());
+        self.row.set(at, pair.key());
         mem::replace(&mut self.items[at], pair)
     }
 
@@ -141,7 +140,7 @@ impl Pairs {
         ensures { self.new ≡ remove self.old at }
     {
         let _ = self.items.as_slice().len();
-        remove_head(&mut self.row, at);
+        self.row.remove(at);
         let _ = self.items.remove(at);
     }
 
@@ -184,20 +183,21 @@ impl Pairs {
         Pairs::of(rest)
     }
 
-    /// How many pairs from the first on have a key below this one, as far as the first eight bytes
-    /// tell: a search for the key can begin behind them. There may be more.
+    /// How many pairs from the first on have a key below this one, as far as the heads tell: a
+    /// search for the key can begin behind them. There may be more.
     pub fn skipped(&self, key: &[u8]) -> usize
         ensures within { result ≤ length self.now }
         ensures below { AreBelow key.now (take result self.now) }
     {
-        count_below(self.row.as_slice(), head_of(key))
+        self.row.skipped(key)
     }
 
-    /// The first eight bytes of each key as a number, or none at all.
+    /// Eight bytes of each key as a number, the first behind those that all keys share; or none at
+    /// all.
     pub fn heads(&self) -> &[u64]
-        ensures { IsRow result.now self.now }
+        ensures { (shared : List ℕ) × IsRow shared result.now self.now }
     {
-        self.row.as_slice()
+        self.row.heads()
     }
 
     /// The same pairs as these, with room for one more: what is copied is about to change. It takes

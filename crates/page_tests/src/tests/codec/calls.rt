@@ -182,26 +182,63 @@ const STEPS: &[(&[u8], usize)] = &[
     (b"c", 5),
 ];
 
-fn near_pairs(alloc: Global) -> Option<Pairs> {
+/// Keys that all begin with the same fourteen bytes.
+const FAR: &[&[u8]] = &[b"user/00000001/a", b"user/00000001/ab", b"user/00000001/b"];
+
+/// How many of these a search may step over, by the bytes behind those.
+const FAR_STEPS: &[(&[u8], usize)] = &[
+    (b"t", 0),
+    (b"user", 0),
+    (b"user/00000001/", 0),
+    (b"user/00000001/a", 0),
+    (b"user/00000001/ab", 1),
+    (b"user/00000001/b", 2),
+    (b"user/00000001/c", 3),
+    (b"user/00000002", 3),
+    (b"v", 3),
+];
+
+/// The same once there is a key that begins with other bytes.
+const WIDE_STEPS: &[(&[u8], usize)] = &[
+    (b"t", 0),
+    (b"user/00000001/c", 0),
+    (b"user1", 3),
+    (b"v", 3),
+    (b"zebra", 3),
+    (b"zebu", 4),
+];
+
+fn pairs_with(alloc: Global, keys: &[&[u8]]) -> Option<Pairs> {
     let mut items = Vec::new(alloc);
-    for key in NEAR {
-        let (key, value) = pair_of(key, b"")?;
+    for key in keys {
+        let (key, value) = pair_of(*key, b"")?;
         items.push(Pair::of(alloc, &key, &value).ok()?).ok()?;
     }
     Some(Pairs::of(items))
 }
 
-/// Whether all steps are made over these pairs.
-fn are_stepped(pairs: &Pairs) -> bool {
-    STEPS
+/// Whether all these steps are made over pairs.
+fn are_stepped(pairs: &Pairs, steps: &[(&[u8], usize)]) -> bool {
+    steps
         .iter()
         .all(|(key, count)| pairs.skipped(*key) == *count)
 }
 
 /// Whether a search steps over pairs that were made, and over a copy of them.
 fn near_are_stepped_over(alloc: Global) -> Option<bool> {
-    let made = near_pairs(alloc)?;
-    Some(are_stepped(&made) && are_stepped(&made.copy().ok()?))
+    let made = pairs_with(alloc, NEAR)?;
+    Some(are_stepped(&made, STEPS) && are_stepped(&made.copy().ok()?, STEPS))
+}
+
+/// Whether a search steps over pairs whose keys share many bytes, also once a key comes in that
+/// does not share them.
+fn far_are_stepped_over(alloc: Global) -> Option<bool> {
+    let mut far = pairs_with(alloc, FAR)?;
+    let alike = are_stepped(&far, FAR_STEPS);
+    let at = far.as_slice().len();
+    let (key, value) = pair_of(b"zebra", b"")?;
+    far.insert(at, Pair::of(alloc, &key, &value).ok()?).ok()?;
+    Some(alike && are_stepped(&far, WIDE_STEPS))
 }
 
 /// Whether it steps over pairs that were changed.
@@ -243,6 +280,7 @@ fn each_call_succeeds(rt: HostRuntime) {
         leaf_is_copied(alloc) == Some(true),
         records_go_through(alloc) == Some(true),
         near_are_stepped_over(alloc) == Some(true),
+        far_are_stepped_over(alloc) == Some(true),
         changed_are_stepped_over(alloc) == Some(true),
     ];
     all_hold(&rt, &said);
