@@ -16,7 +16,7 @@ use Rattle.bw_codec.specs.declared.block.Block.TheVariants.{Delta, Base, Split}
 use Rattle.bw_codec.proofs.Lengths.{length-delta}
 use Rattle.bw_buffer.specs.Filling.{Filling, size_of, with_all}
 use Rattle.bw_buffer.specs.Joining.{is_delta, open_after, open_from, last_delta, records_in, records_after, open_records, takes, joins_of, joined, added}
-use Rattle.bw_buffer.specs.Counting.{grown, records_with}
+use Rattle.bw_buffer.specs.Counting.{front_length, grown, records_with}
 use Rattle.bw_buffer.proofs.Joined.{StandsOpen, JoinsOne, joins_parts, joins_one, joins_none, records_here, records_stand}
 use Rattle.std.specs.List.{flat_map, fold}
 
@@ -183,3 +183,9 @@ records_step p bs others i b was inside is h =
 pub more_for : (f : Filling) (others : List Block) (b : Block)
     → size_of (with_all f (others ++ b ∷ [])) ≡ 20 + length (body_bytes (joined (added f.blocks others) b))
 more_for f others b = ap (λ (l : List Block). 20 + length (body_bytes l)) (added_more f.blocks others (b ∷ []))
+
+-- how long the frame is with a Delta that joins this block, or none
+pub with_delta : (f : Filling) (p : ℕ) (back : Place) (ops : List Record) (o : Option ℕ) → joins_of (length ops) p f.blocks ≡ o
+    → size_of (with_all f (Delta p back ops ∷ [])) ≡ size_of f + (front_length o + length (flat_map op_bytes ops))
+with_delta f p back ops None e = (let n = joined_size_none f.blocks p back ops e in let d = length-delta p back ops in omega arith)
+with_delta f p back ops (Some i) e = (let n = joined_size_at f.blocks p back ops i e in omega arith)

@@ -1,4 +1,4 @@
--- How many records the last Delta of a page has when one more block is added.
+-- How many records the last Delta of a page has when one more block is added, and how long its front is.
 
 use Rattle.std.specs.Prelude.{ℕ, ◌+◌, if◌then◌else◌, Option, Some, None, unwrap_or, length}
 use Rattle.bw_codec.specs.Touch.{touches}
@@ -18,3 +18,8 @@ records_by was (Split page back upper) = None
 -- how many records the last block of a page has then, where that is a Delta
 abbrev pub records_with : ℕ → Option ℕ → Block → Option ℕ
 records_with p was b = if touches p b then records_by was b else was
+
+-- how many bytes stand before the records of a Delta: none more where they join this block
+abbrev pub front_length : Option ℕ → ℕ
+front_length None = 19
+front_length (Some i) = 0

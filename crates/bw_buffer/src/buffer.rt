@@ -1,17 +1,18 @@
 //! The buffer itself.
 
 ghost use Rattle.std.specs.Prelude.{ℕ, nat_eq, is_some, Some, None, if◌then◌else◌, ◌≡◌, ◌≤◌, ◌<◌, ◌+◌, ◌/◌, ◌∷◌, ◌++◌, ◌↔◌, ◌⊎◌, [], true, false, length, slice_get, IsTrue, IfOk, OnOk, OnErr, IfSome, IsErrOf};
-ghost use Rattle.std.specs.List.{AllByRecursion};
+ghost use Rattle.std.specs.List.{AllByRecursion, flat_map};
 ghost use Rattle.std.specs.Option.{option_map};
-ghost use Rattle.bw_codec.specs.Grammar.{block_bytes, frame_bytes, IsBlock};
+ghost use Rattle.bw_codec.specs.Grammar.{op_bytes, block_bytes, frame_bytes, IsBlock};
 ghost use Rattle.bw_codec.specs.Touch.{touches};
 ghost use Rattle.bw_record.specs.declared.leaf.Leaf.{Leaf};
+ghost use Rattle.bw_codec.specs.declared.block.Place.{Place as PlaceValue};
 ghost use Rattle.bw_codec.specs.declared.block.Block.TheVariants.{Delta, Base};
 ghost use Rattle.std.specs.HashMap.{spare, hash_map_len};
 ghost use Rattle.bw_buffer.specs.Index.{index_at};
 ghost use Rattle.bw_buffer.specs.Filling.{frame_of, size_of, with_all, place_at, IsLawfulFrame, SpellsBase};
 ghost use Rattle.bw_buffer.specs.Joining.{joins, joins_of, open_records, takes, added, index_for, is_delta};
-ghost use Rattle.bw_buffer.specs.Counting.{grown, records_with};
+ghost use Rattle.bw_buffer.specs.Counting.{front_length, grown, records_with};
 ghost use Rattle.bw_buffer.specs.Marks.{mark_of, is_closed_by};
 ghost use Rattle.bw_buffer.specs.Rows.{IsUntouched};
 
@@ -25,6 +26,7 @@ use bw_codec::limits::{HEAD_LEN, MAX_OPS, MIN_BLOCK};
 use bw_codec::{Block, Ops, Place, Record, block_length, ops_length, write_block, write_ops};
 use std::alloc::{AllocError, Global};
 use std::marker::Model;
+use std::slice;
 
 /// A frame in the making.
 #[derive(Drop)]
@@ -153,6 +155,62 @@ impl Buffer {
         Ok(first)
     }
 
+    /// Adds a Delta of this one record, lawful for 32 pairs a page, or nothing, and answers its place:
+    /// what `put_all` does with this block alone, but no block is made of the record. It joins, and is
+    /// refused, as there. No memory is taken. Time is that of a look-up and of copying the record's
+    /// bytes, whatever stands in the buffer.
+    pub fn put_record(&mut self, page: u32, back: &Place, item: &Record) -> Result<Place, PutError>
+        requires lawful { IsBlock 32 (Delta page back.now (item.now ∷ [])) }
+        ensures added { OnOk result
+            (self.new ≡ with_all self.old (Delta page back.now (item.now ∷ []) ∷ [])) }
+        ensures place { IfOk result (λ place. place
+            ≡ place_at self.old
+            (index_for self.old.blocks (Delta page back.now (item.now ∷ [])))) }
+
+        // The seal is looked at first, then the room; there is no other refusal.
+        ensures sealed { IsErrOf result PutError.Sealed ↔ IsTrue self.old.is_sealed }
+        ensures no_room { IsErrOf result PutError.NoRoom
+            ↔ ((self.old.is_sealed ≡ false)
+            × (self.old.limit
+            < size_of (with_all self.old (Delta page back.now (item.now ∷ []) ∷ [])))) }
+        ensures unchanged { OnErr result (self.new ≡ self.old) }
+    {
+        if self.is_sealed {
+            return Err(PutError::Sealed);
+        }
+        let joins = self.joining(page, 1);
+        if (self.room() as usize) < length_of(joins, item) {
+            return Err(PutError::NoRoom);
+        }
+        Ok(self.put_at(joins, page, back, item))
+    }
+
+    // Adds a record that fits to the Delta that it joins, or a Delta of it behind all blocks; answers
+    // where that Delta stands.
+    fn put_at(&mut self, joins: Option<u32>, page: u32, back: &Place, item: &Record) -> Place
+        requires joins { joins ≡ joins_of 1 page self.old.blocks }
+        requires lawful { IsBlock 32 (Delta page back.now (item.now ∷ [])) }
+        requires unsealed { self.old.is_sealed ≡ false }
+        requires fits { size_of (with_all self.old (Delta page back.now (item.now ∷ []) ∷ []))
+            ≤ self.old.limit }
+        ensures added { self.new ≡ with_all self.old (Delta page back.now (item.now ∷ []) ∷ []) }
+        ensures place { result ≡ place_at self.old
+            (index_for self.old.blocks (Delta page back.now (item.now ∷ []))) }
+    {
+        let frame = self.frame();
+        match joins {
+            Some(index) => {
+                self.join(page, index, back, slice::from_ref(item));
+                Place { frame, index }
+            }
+            None => {
+                let index = self.count();
+                self.put_new(page, back, slice::from_ref(item));
+                Place { frame, index }
+            }
+        }
+    }
+
     /// Adds a Base by the bytes that spell it, and answers its place: for a block that stands in a
     /// frame already and is written again as it is, so that nobody decodes it. `page` is the page
     /// that it sets. `Sealed` and `NoRoom` as in `put_all`. No memory is taken. Time is that of
@@ -216,6 +274,16 @@ impl Buffer {
             left -= more;
         }
         true
+    }
+
+    /// Whether the frame with a Delta of this one record would not be longer than the limit: what
+    /// `has_room` tells of this block alone. No memory is taken. Time is that of a look-up.
+    pub fn has_room_for(&self, page: u32, item: &Record) -> bool
+        ensures { (back : PlaceValue) → IsTrue result
+            ↔ (size_of (with_all self.now (Delta page back (item.now ∷ []) ∷ []))
+            ≤ self.now.limit) }
+    {
+        length_of(self.joining(page, 1), item) <= self.room() as usize
     }
 
     // How many bytes a block adds behind these others.
@@ -518,6 +586,17 @@ impl Buffer {
         // The call tells the proof that the number has a range.
         let _ = self.frame();
         self.bytes.as_slice()
+    }
+}
+
+// How many bytes a record adds that joins this block, or of which a Delta is made.
+fn length_of(joins: Option<u32>, item: &Record) -> usize
+    ensures { result ≡ front_length joins + length (flat_map op_bytes (item.now ∷ [])) }
+{
+    let length = ops_length(slice::from_ref(item));
+    match joins {
+        Some(_) => length,
+        None => DELTA_HEAD as usize + length,
     }
 }
 
