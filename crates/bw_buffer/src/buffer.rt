@@ -558,9 +558,9 @@ impl Buffer {
         self.rows[i as usize].mark
     }
 
-    /// A copy of the block of this index, from 0, sealed or not: it is read back out of its bytes. A
-    /// refused growth is the only error. Time is linear in the bytes of the block, and in how often
-    /// blocks were put into the frame: each piece of it is looked at.
+    /// A copy of the block of this index, from 0, sealed or not: it is read back out of its bytes.
+    /// A refused growth is the only error. Time is linear in the bytes of the block, and in how
+    /// often blocks were put into the frame: each piece of it is looked at.
     pub fn block(&self, alloc: Global, i: u32) -> Result<Block, AllocError>
         requires { i < length self.now.blocks }
         ensures { IfOk result (λ block. slice_get self.now.blocks i ≡ Some block) }

@@ -80,8 +80,8 @@ impl Core {
         self.is_making(page) && makes(&self.making, page)
     }
 
-    /// Whether the newest block of a page stands in the frame in the making. Where it does not, that
-    /// frame has no block of the page, and need not be looked through.
+    /// Whether the newest block of a page stands in the frame in the making. Where it does not,
+    /// that frame has no block of the page, and need not be looked through.
     pub(crate) fn is_making(&self, page: u32) -> bool
         requires sound { IsSound self.now holding }
         requires inside { (1 ≤ page) × (page ≤ length self.now.leaves.leaves) }

@@ -162,8 +162,8 @@ impl Core {
         Ok(word_in_records(tail.as_slice(), key))
     }
 
-    // The records that the frame in the making has of a page, in order. Where the frame has no block
-    // of the page, it is not looked through, and no memory is taken.
+    // The records that the frame in the making has of a page, in order. Where the frame has no
+    // block of the page, it is not looked through, and no memory is taken.
     fn tail(&self, page: u32) -> Result<Vec<Record>, AllocError>
         requires sound { IsSound self.now holding }
         requires inside { (1 ≤ page) × (page ≤ length self.now.leaves.leaves) }

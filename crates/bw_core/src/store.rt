@@ -41,7 +41,7 @@ pub struct Core {
     pub(crate) looks: Looks,
     // No cut stands inside a group.
     ghost whole: { are_whole cuts.items intake.history.items ≡ true },
-    // A page that is evicted is in the log, but for the records that the frame in the making has of it.
+    // A page that is evicted is in the log, but for records of the frame in the making.
     ghost logged: { (p : ℕ) → is_evicted_page p leaves ≡ true → is_made p making.blocks ≡ false },
     // What was forgotten is durable.
     ghost forgotten: { intake.history.gone ≤ cut cuts.items durable },
