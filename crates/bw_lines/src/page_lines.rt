@@ -125,7 +125,8 @@ fn change_there(
 ) -> Result<bool, AllocError>
     ensures known { IfOk result (λ known. known ≡ is_some (tree.get nat_cmp lines.old page)) }
     ensures value { result ≡ Ok true → (p : ℕ) → tree.get nat_cmp lines.new p
-        ≡ (if nat_eq page p then Some (changed_by place records.now (tree.get nat_cmp lines.old page))
+        ≡ (if nat_eq page p
+        then Some (changed_by place records.now (tree.get nat_cmp lines.old page))
         else tree.get nat_cmp lines.old p) }
     ensures none { result ≡ Ok false → lines.new ≡ lines.old }
 {
@@ -146,7 +147,8 @@ fn read_delta(
     records: &[Record],
 ) -> Result<(), AllocError>
     ensures { (p : ℕ) → OnOk result (tree.get nat_cmp lines.new p
-        ≡ (if nat_eq page p then Some (changed_by place records.now (tree.get nat_cmp lines.old page))
+        ≡ (if nat_eq page p
+        then Some (changed_by place records.now (tree.get nat_cmp lines.old page))
         else tree.get nat_cmp lines.old p)) }
 {
     if change_there(lines, page, place, records)? {
