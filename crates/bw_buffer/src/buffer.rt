@@ -155,10 +155,10 @@ impl Buffer {
         Ok(first)
     }
 
-    /// Adds a Delta of this one record, lawful for 32 pairs a page, or nothing, and answers its place:
-    /// what `put_all` does with this block alone, but no block is made of the record. It joins, and is
-    /// refused, as there. No memory is taken. Time is that of a look-up and of copying the record's
-    /// bytes, whatever stands in the buffer.
+    /// Adds a Delta of this one record, lawful for 32 pairs a page, or nothing, and answers its
+    /// place: what `put_all` does with this block alone, but no block is made of the record. It
+    /// joins, and is refused, as there. No memory is taken. Time is that of a look-up and of copying
+    /// the record's bytes, whatever stands in the buffer.
     pub fn put_record(&mut self, page: u32, back: &Place, item: &Record) -> Result<Place, PutError>
         requires lawful { IsBlock 32 (Delta page back.now (item.now ∷ [])) }
         ensures added { OnOk result
@@ -185,8 +185,8 @@ impl Buffer {
         Ok(self.put_at(joins, page, back, item))
     }
 
-    // Adds a record that fits to the Delta that it joins, or a Delta of it behind all blocks; answers
-    // where that Delta stands.
+    // Adds a record that fits to the Delta that it joins, or a Delta of it behind all blocks.
+    // Answers where that Delta stands.
     fn put_at(&mut self, joins: Option<u32>, page: u32, back: &Place, item: &Record) -> Place
         requires joins { joins ≡ joins_of 1 page self.old.blocks }
         requires lawful { IsBlock 32 (Delta page back.now (item.now ∷ [])) }
