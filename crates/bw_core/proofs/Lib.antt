@@ -19,6 +19,7 @@ pub mod UpgradedMore
 pub mod RewrittenMore
 pub mod ReopenedMore
 pub mod Planned
+pub mod Deltas
 pub mod Drafts
 pub mod Ahead
 pub mod Drafted

@@ -7,8 +7,10 @@
 //! can be refused (a read of an evicted page, a growth, an append) comes before; so whoever was
 //! refused finds the same group first in its ring, and may ask again.
 //!
-//! A record by itself is the common case, and takes no list: it is planned, and entered. Several
-//! are planned one behind the other (`groups.rt`) before the first of them changes a page.
+//! A record by itself is the common case, and nearly none splits its page: it is lent all the way
+//! down, and written where it belongs. Where its page is cut, its blocks are planned first
+//! (`plan.rt`). Several records are planned one behind the other (`groups.rt`) before the first of
+//! them changes a page.
 
 ghost use Rattle.std.specs.Prelude.{◌≡◌, ◌≤◌, ◌<◌, ◌+◌, ◌-◌, ◌∷◌, [], Some, None, false, length, map, IfSome, IfNone, IfOk, IfErr, OnOk, OnErr, MatchResult};
 ghost use Rattle.std.specs.List.{AllByRecursion};
@@ -16,7 +18,7 @@ ghost use Rattle.bw_record.specs.Lawful.{IsOp};
 ghost use Rattle.bw_codec.specs.Grammar.{body_bytes, IsBlock};
 ghost use Rattle.bw_record.specs.Record.{key_of};
 ghost use Rattle.bw_page.specs.Batch.{AreHere};
-ghost use Rattle.bw_page.specs.Leaves.{directed_at, HasPages};
+ghost use Rattle.bw_page.specs.Leaves.{directed_at, result_of, HasPages};
 ghost use Rattle.bw_page.specs.Shown.{IsHere};
 ghost use Rattle.bw_ring.specs.Ends.{given};
 ghost use Rattle.bw_ring.specs.Marks.{marked};
@@ -29,7 +31,7 @@ ghost use Rattle.bw_making.specs.Planning.{listed};
 ghost use Rattle.bw_core.specs.Taking.{TakeLeaves, WaitingLeaves, GroupLeaves, IsPlan, IsStopped, IsUnplanned};
 
 use crate::fault::StoreFault;
-use crate::plan::{Plan, planned_for};
+use crate::plan::{Plan, planned_for, splits};
 use crate::store::Core;
 use bw_codec::Record;
 use bw_history::PackedEntry;
@@ -53,9 +55,26 @@ impl Core {
         ensures noted { noted_of self.new ≡ noted_of self.old }
     {
         if let Some(item) = self.intake.alone(lane) {
-            self.take_item(lane, item)?;
+            self.take_item(lane, &item)?;
             return Ok(Some(1));
         }
+        self.take_looked(lane)
+    }
+
+    // The same, by a look at its ring: a group has more room than a record, and only who needs it
+    // makes it.
+    fn take_looked(&mut self, lane: usize) -> Result<Option<u64>, StoreFault>
+        requires sound { IsSound self.old holding }
+        requires inside { lane < length self.old.intake.lanes.items }
+        ensures sound { IsSound self.new holding }
+        ensures count { length self.new.intake.lanes.items ≡ length self.old.intake.lanes.items }
+        ensures dry { IfOk result (λ took. IfNone took
+            (Dries lane self.old.intake.lanes.items self.new.intake.lanes.items)) }
+        ensures few { IfOk result (λ took. IfSome took (λ n. n ≤ 4)) }
+        ensures leaves { TakeLeaves lane self.new.intake.lanes.items (away_in self.new)
+            (kept_by self.old holding) result (kept_by self.new holding) }
+        ensures noted { noted_of self.new ≡ noted_of self.old }
+    {
         let Some(group) = self.look(lane) else {
             return Ok(None);
         };
@@ -80,8 +99,26 @@ impl Core {
         ensures noted { noted_of self.new ≡ noted_of self.old }
     {
         if let Some(item) = self.intake.alone(lane) {
-            return self.take_item(lane, item);
+            return self.take_item(lane, &item);
         }
+        self.take_first(lane)
+    }
+
+    // The same, where more than one record may wait as a group.
+    fn take_first(&mut self, lane: usize) -> Result<(), StoreFault>
+        requires sound { IsSound self.old holding }
+        requires inside { lane < length self.old.intake.lanes.items }
+        requires waits { IsWaiting self.old.intake.lanes.items lane }
+        ensures sound { IsSound self.new holding }
+        ensures count { length self.new.intake.lanes.items ≡ length self.old.intake.lanes.items }
+        ensures given { OnOk result (map given self.new.intake.lanes.items
+            ≡ map given self.old.intake.lanes.items) }
+        ensures known { OnOk result
+            (TookKnown lane self.old.intake.lanes.items self.new.intake.lanes.items) }
+        ensures leaves { WaitingLeaves lane self.new.intake.lanes.items (away_in self.new)
+            (kept_by self.old holding) result (kept_by self.new holding) }
+        ensures noted { noted_of self.new ≡ noted_of self.old }
+    {
         let group = self.intake.first(lane);
         self.take_group(lane, group)
     }
@@ -104,16 +141,16 @@ impl Core {
         ensures noted { noted_of self.new ≡ noted_of self.old }
     {
         match alone(group) {
-            Ok(item) => self.take_item(lane, item),
+            Ok(item) => self.take_item(lane, &item),
             Err(group) => self.take_many(lane, group),
         }
     }
 
-    // Takes a group of this one record: its plan takes no memory of its own.
-    fn take_item(&mut self, lane: usize, item: Record) -> Result<(), StoreFault>
+    // Takes a group of this one record.
+    fn take_item(&mut self, lane: usize, item: &Record) -> Result<(), StoreFault>
         requires sound { IsSound self.old holding }
         requires inside { lane < length self.old.intake.lanes.items }
-        requires comes { IsNext self.old.intake.lanes.items lane (item ∷ []) }
+        requires comes { IsNext self.old.intake.lanes.items lane (item.now ∷ []) }
         ensures sound { IsSound self.new holding }
         ensures count { length self.new.intake.lanes.items ≡ length self.old.intake.lanes.items }
         ensures given { OnOk result (map given self.new.intake.lanes.items
@@ -122,7 +159,7 @@ impl Core {
             (TookKnown lane self.old.intake.lanes.items self.new.intake.lanes.items) }
         ensures stays { OnErr result
             (self.new.intake.lanes.items ≡ self.old.intake.lanes.items) }
-        ensures leaves { GroupLeaves lane (away_in self.new) (item ∷ [])
+        ensures leaves { GroupLeaves lane (away_in self.new) (item.now ∷ [])
             (kept_by self.old holding) result (kept_by self.new holding) }
         ensures noted { noted_of self.new ≡ noted_of self.old }
     {
@@ -132,12 +169,12 @@ impl Core {
     }
 
     // The same, where the page at which it is directed is in memory.
-    fn take_here(&mut self, lane: usize, item: Record, page: u32) -> Result<(), StoreFault>
+    fn take_here(&mut self, lane: usize, item: &Record, page: u32) -> Result<(), StoreFault>
         requires sound { IsSound self.old holding }
         requires inside { lane < length self.old.intake.lanes.items }
-        requires comes { IsNext self.old.intake.lanes.items lane (item ∷ []) }
-        requires here { IsHere (key_of item) self.old.leaves }
-        requires page { page ≡ directed_at self.old.leaves.leaves item }
+        requires comes { IsNext self.old.intake.lanes.items lane (item.now ∷ []) }
+        requires here { IsHere (key_of item.now) self.old.leaves }
+        requires page { page ≡ directed_at self.old.leaves.leaves item.now }
         ensures sound { IsSound self.new holding }
         ensures count { length self.new.intake.lanes.items ≡ length self.old.intake.lanes.items }
         ensures given { OnOk result (map given self.new.intake.lanes.items
@@ -146,16 +183,73 @@ impl Core {
             (TookKnown lane self.old.intake.lanes.items self.new.intake.lanes.items) }
         ensures stays { OnErr result
             (self.new.intake.lanes.items ≡ self.old.intake.lanes.items) }
-        ensures leaves { GroupLeaves lane (away_in self.new) (item ∷ [])
+        ensures leaves { GroupLeaves lane (away_in self.new) (item.now ∷ [])
             (kept_by self.old holding) result (kept_by self.new holding) }
         ensures noted { noted_of self.new ≡ noted_of self.old }
     {
-        let plan = self.plan(page, &item)?;
+        if splits(&self.leaves, page, item) {
+            return self.take_cut(lane, item, page);
+        }
+        self.take_delta(lane, item, page)
+    }
+
+    // The same, where the record does not split that page: no block is made of it, and it is moved
+    // nowhere.
+    fn take_delta(&mut self, lane: usize, item: &Record, page: u32) -> Result<(), StoreFault>
+        requires sound { IsSound self.old holding }
+        requires inside { lane < length self.old.intake.lanes.items }
+        requires comes { IsNext self.old.intake.lanes.items lane (item.now ∷ []) }
+        requires here { IsHere (key_of item.now) self.old.leaves }
+        requires page { page ≡ directed_at self.old.leaves.leaves item.now }
+        requires whole { length (result_of self.old.leaves.leaves item.now).pairs
+            ≤ self.old.leaves.m }
+        ensures sound { IsSound self.new holding }
+        ensures count { length self.new.intake.lanes.items ≡ length self.old.intake.lanes.items }
+        ensures given { OnOk result (map given self.new.intake.lanes.items
+            ≡ map given self.old.intake.lanes.items) }
+        ensures known { OnOk result
+            (TookKnown lane self.old.intake.lanes.items self.new.intake.lanes.items) }
+        ensures stays { OnErr result
+            (self.new.intake.lanes.items ≡ self.old.intake.lanes.items) }
+        ensures leaves { GroupLeaves lane (away_in self.new) (item.now ∷ [])
+            (kept_by self.old holding) result (kept_by self.new holding) }
+        ensures noted { noted_of self.new ≡ noted_of self.old }
+    {
+        let _ = item.key();
+        self.goes_on()?;
+        if self.making.has_room_for(page, item) {
+            return self.enter_delta(lane, item, page);
+        }
+        self.flush_making(false)?;
+        self.goes_on()?;
+        self.enter_delta(lane, item, page)
+    }
+
+    // The same, where it does: its blocks are planned.
+    fn take_cut(&mut self, lane: usize, item: &Record, page: u32) -> Result<(), StoreFault>
+        requires sound { IsSound self.old holding }
+        requires inside { lane < length self.old.intake.lanes.items }
+        requires comes { IsNext self.old.intake.lanes.items lane (item.now ∷ []) }
+        requires here { IsHere (key_of item.now) self.old.leaves }
+        requires page { page ≡ directed_at self.old.leaves.leaves item.now }
+        ensures sound { IsSound self.new holding }
+        ensures count { length self.new.intake.lanes.items ≡ length self.old.intake.lanes.items }
+        ensures given { OnOk result (map given self.new.intake.lanes.items
+            ≡ map given self.old.intake.lanes.items) }
+        ensures known { OnOk result
+            (TookKnown lane self.old.intake.lanes.items self.new.intake.lanes.items) }
+        ensures stays { OnErr result
+            (self.new.intake.lanes.items ≡ self.old.intake.lanes.items) }
+        ensures leaves { GroupLeaves lane (away_in self.new) (item.now ∷ [])
+            (kept_by self.old holding) result (kept_by self.new holding) }
+        ensures noted { noted_of self.new ≡ noted_of self.old }
+    {
+        let plan = self.plan(page, item)?;
         if self.making.has_room(plan.blocks.as_slice()) {
             return self.enter(lane, item, plan.page, plan.back, plan.blocks.as_slice());
         }
         self.flush_making(false)?;
-        let plan = self.plan(page, &item)?;
+        let plan = self.plan(page, item)?;
         self.enter(lane, item, plan.page, plan.back, plan.blocks.as_slice())
     }
 

@@ -1,14 +1,8 @@
 use Rattle.std.proofs.Common.{◌≡◌, [], ◌∷◌, ◌∙◌, ◌+◌, ◌++◌, ℕ, Err, refl, List, true, length, map, ap, subst, sym, arith}
-use Rattle.std.specs.Prelude.{nat_lt}
-use Rattle.bw_codec.specs.declared.block.Block.{Block}
-use Rattle.bw_record.specs.declared.leaf.Leaf.{Leaf}
 use Rattle.bw_buffer.specs.Filling.{Filling, frame_of}
-use Rattle.bw_page.specs.Leaves.{applied}
 use Rattle.bw_page.specs.Seats.{is_among}
-use Rattle.bw_page.specs.Shown.{Shown}
 use Rattle.bw_buffer.specs.Joining.{added}
 use Rattle.bw_making.specs.Adding.{here_for, blocks_for}
-use Rattle.bw_record.specs.declared.record.Record.{Record}
 use Rattle.bw_making.specs.Tails.{is_made}
 use Rattle.bw_core.specs.Views.{kept_by}
 use Rattle.bw_core.proofs.EvictedPages.{evicted_entered}
@@ -38,15 +32,15 @@ invariant_of-self-2 g c =
     let was = c.args.self.now in
     let f = was.leaves in
     let here = here_for (frame_of was.making) c.args.page in
-    let made : c.file.new.making.blocks ≡ added was.making.blocks (blocks_for f.m f.leaves c.args.back here c.args.item) =
+    let made : c.file.new.making.blocks ≡ added was.making.blocks (blocks_for f.m f.leaves c.args.back here c.args.item.now) =
     ap (λ (b : Filling). b.blocks) c.file.ensures.making ∙ ap (added was.making.blocks) c.requires.blocks in
     record {
-      whole = whole_entered was.cuts.items was.intake.history.items c.enter_alone.new.self.history.items c.args.lane (c.args.item ∷ [])
+      whole = whole_entered was.cuts.items was.intake.history.items c.enter_alone.new.self.history.items c.args.lane (c.args.item.now ∷ [])
           c.requires.sound.ordered was.whole
-          (c.enter_alone.ensures.grows ∙ ap (λ (es : List Entry). es ++ entries_of c.args.lane (marked (c.args.item ∷ []))) c.reserve.ensures.history);
+          (c.enter_alone.ensures.grows ∙ ap (λ (es : List Entry). es ++ entries_of c.args.lane (marked (c.args.item.now ∷ []))) c.reserve.ensures.history);
       logged = λ q evicted.
           ap (is_made q) made
-          ∙ evicted_entered f.m f.leaves c.args.back here c.args.item was.making.blocks f.evicted q
+          ∙ evicted_entered f.m f.leaves c.args.back here c.args.item.now was.making.blocks f.evicted q
           (subst (λ (ps : List ℕ). is_among q ps ≡ true) c.apply_entry.ensures.evicted evicted) c.requires.here
           (c.count.ensures.beyond (length f.leaves + 1) (omega arith))
           (was.logged q (subst (λ (ps : List ℕ). is_among q ps ≡ true) c.apply_entry.ensures.evicted evicted));
@@ -73,18 +67,18 @@ file-requires-clause-page g c =
 pub returns-clause-sound : goal.returns-clause-sound
 returns-clause-sound g c =
     let e = enters_at c.args.page c.requires.sound c.requires.next c.key.ensures.lawful c.requires.page c.requires.back c.requires.blocks c.requires.fits in
-    let not : IsSpent c.args.self.now.leaves c.args.item → ⊥ = λ p. let x = c.in_ok-apply_entry.ensures.spent p in cc in
+    let not : IsSpent c.args.self.now.leaves c.args.item.now → ⊥ = λ p. let x = c.in_ok-apply_entry.ensures.spent p in cc in
     subst kept.IsSound
-    (sym (entered (alone c.args.item) e not c.args.lane c.args.page c.enter_alone.new.self.history.items (filed_of c.apply_entry.new.leaves)
+    (sym (entered (alone c.args.item.now) e not c.args.lane c.args.page c.enter_alone.new.self.history.items (filed_of c.apply_entry.new.leaves)
     c.file.new.newest.items c.file.new.making c.requires.page
     _ c.enter_alone.ensures.grows c.reserve.ensures.history (ap filed_of c.in_ok-apply_entry.ensures.ok)
     _ c.file.ensures.newest c.reserve-2.ensures.items c.file.ensures.making
     _ _ c.enter_alone.ensures.rings (ap (λ v. map ring_of_lane v.items) c.reserve.ensures.lanes)))
-    (entered_sound (alone c.args.item) e not c.args.lane (lane_inside _ _ c.requires.inside))
+    (entered_sound (alone c.args.item.now) e not c.args.lane (lane_inside _ _ c.requires.inside))
 
 pub returns-in_err-apply_entry-clause-refused : goal.returns-in_err-apply_entry-clause-refused
 returns-in_err-apply_entry-clause-refused g c =
     let p = err_from_is_err_and c.from_residual-in_err-apply_entry.result c.from_residual-in_err-apply_entry.ensures.1 in
-    rw (p.1, p.2) (one_wanting_of (kept_by c.args.self.now (λ z. (goal.Segment-dyn g z).holding z.1)) c.args.self.now.leaves c.args.item
+    rw (p.1, p.2) (one_wanting_of (kept_by c.args.self.now (λ z. (goal.Segment-dyn g z).holding z.1)) c.args.self.now.leaves c.args.item.now
     c.in_err-apply_entry.field-0.0 refl refl
     (λ e. c.in_err-apply_entry.ensures.only_spent (ap (λ (x : ApplyError). Err x) e)))

@@ -1,9 +1,5 @@
 use Rattle.std.proofs.Common.{ap, length}
-use Rattle.bw_core.proofs.Planned.{take_some}
 use Rattle.bw_core.proofs.store.Core.take_from.Goals as goal
 
 pub returns-in-Some-clause-leaves : goal.returns-in-Some-clause-leaves
 returns-in-Some-clause-leaves g c = let t = c.in_ok-take_item.ensures.leaves in (t.0, ap length t.1)
-
-pub returns-clause-leaves : goal.returns-clause-leaves
-returns-clause-leaves g c = take_some c.args.lane _ _ _ _ _ c.look.ensures.same c.in_ok-take_group.ensures.leaves c.len-records.ensures.value
