@@ -27,7 +27,7 @@ returns-clause-upper c =
     let pages = c.count.ensures.value in
     let made : c.in-Some.made ≡ length leaves + 1 = omega arith in
     let long : length (changed_pairs r c.home_on-leaf.result.now.pairs) ≡ length (result_of leaves r).pairs =
-        ap (λ (l : Leaf). length (changed r l).pairs) (home_is ∙ ap (λ (k : List ℕ). home k leaves) c.key.ensures.value) in
+    ap (λ (l : Leaf). length (changed r l).pairs) (home_is ∙ ap (λ (k : List ℕ). home k leaves) c.key.ensures.value) in
     let count : c.count_packed.result ≡ length (changed_pairs r c.home_on-leaf.result.now.pairs) = rw c.as_slice.ensures at counted in
     let over : m < length (result_of leaves r).pairs = omega arith in
     ap Some (c.in_ok-upper.ensures.upper ∙ ap (λ (n : ℕ). upper_of n c.in-Some.made c.change_packed.new.leaf) limit_is
