@@ -104,6 +104,17 @@ impl Taken {
         self.made = self.made.saturating_add(1);
         Ok(true)
     }
+
+    // Makes the next spare.
+    fn make<R: System>(&mut self, rt: &R, home: &mut Home) -> Result<bool, Fail>
+        requires { IsReady home.old holding }
+        ensures { IsReady home.new holding }
+    {
+        if self.made == 0 {
+            return self.begin(rt, home);
+        }
+        self.further(rt, home)
+    }
 }
 
 // Fills three segments, that of the first file among them.
@@ -123,12 +134,10 @@ impl<R: System> Legs<R> for Taken {
     type Answer = Result<bool, Fail>;
 
     fn leg(&mut self, rt: &R, home: &mut Home) -> Option<Result<bool, Fail>> {
-        let went = match self.made {
-            0 => self.begin(rt, home),
-            1 => self.further(rt, home),
-            _ => return Some(fill(rt, home)),
-        };
-        match went {
+        if self.made > 1 {
+            return Some(fill(rt, home));
+        }
+        match self.make(rt, home) {
             Ok(true) => None,
             went => Some(went),
         }
