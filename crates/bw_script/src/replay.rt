@@ -93,15 +93,15 @@ fn tell_added<O: Write>(added: Added, output: &mut O) -> Result<Met, Stop> {
 
 /// The lines of an input, over a store.
 #[derive(Drop)]
-struct Script<'a, 'b, I, O, W> {
+struct Script<'a, I, O, W> {
     manner: Manner,
     /// How many writers the store has.
     writers: usize,
     /// Whether the file of what was given up is a spare again.
     reuse: bool,
-    lines: &'a mut Lines<I>,
+    lines: Lines<I>,
     output: &'a mut O,
-    watch: &'b mut W,
+    watch: &'a mut W,
     /// How the store is tended.
     tending: Tending,
     /// What came of the last line; none before the first leg.
@@ -116,7 +116,7 @@ struct Script<'a, 'b, I, O, W> {
     end: Result<Met, Stop>,
 }
 
-impl<I: Read + Drop, O: Write, W: Watch> Script<'_, '_, I, O, W> {
+impl<I: Read + Drop, O: Write, W: Watch> Script<'_, I, O, W> {
     /// Reads the next line, and says whether there was one. Whoever writes the lines may wait for
     /// an answer before the next one ends: so what was printed is written out before more of the
     /// input is asked for.
@@ -382,7 +382,7 @@ impl<I: Read + Drop, O: Write, W: Watch> Script<'_, '_, I, O, W> {
     }
 }
 
-impl<R: System, I: Read + Drop, O: Write, W: Watch> Legs<R> for Script<'_, '_, I, O, W> {
+impl<R: System, I: Read + Drop, O: Write, W: Watch> Legs<R> for Script<'_, I, O, W> {
     type Answer = Result<Met, Stop>;
 
     fn leg(&mut self, rt: &R, home: &mut Home) -> Option<Result<Met, Stop>> {
@@ -412,7 +412,7 @@ fn run_lines<R: System, I: Read + Drop, O: Write, W: Watch>(
     rt: &R,
     options: &Options<'_>,
     manner: Manner,
-    lines: &mut Lines<I>,
+    lines: Lines<I>,
     output: &mut O,
     watch: &mut W,
 ) -> Result<Met, Stop> {
@@ -422,7 +422,7 @@ fn run_lines<R: System, I: Read + Drop, O: Write, W: Watch>(
         manner,
         writers: options.store.writers,
         reuse: options.reuse,
-        lines: &mut *lines,
+        lines,
         output: &mut *output,
         watch: &mut *watch,
         tending: Tending::new(options),
@@ -448,6 +448,6 @@ pub fn replay<R: System, I: Read, O: Write, W: Watch>(
     output: &mut O,
     watch: &mut W,
 ) -> Result<Met, Stop> {
-    let mut lines = Lines::new(rt.alloc(), input, READS, LONGEST).map_err(no_input)?;
-    run_lines(rt, options, manner, &mut lines, output, watch)
+    let lines = Lines::new(rt.alloc(), input, READS, LONGEST).map_err(no_input)?;
+    run_lines(rt, options, manner, lines, output, watch)
 }
