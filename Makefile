@@ -9,7 +9,8 @@
 # make memory proves the tests of refused memory, and runs them and the program that make run built with each allocation refused in turn
 # make bench  times the store at a million keys, each subject in a process of its own, at other sizes and beside other stores, draws docs/speed.svg of
 #             that, and then times it over files (docs/MEASURED.md)
-# make peers  times other stores under the same load: LMDB and LevelDB, by their C libraries (liblmdb-dev, libleveldb-dev) and rustc
+# make peers  times other stores under the same load: LMDB and LevelDB, by their C libraries (liblmdb-dev, libleveldb-dev) and rustc; also with
+#             keys that share 24 bytes, values of 8 and 500, batches of 1 and 4,096, and readers beside
 # make crash  kills the program that make run built in mid-run, and looks at what its folder holds; then puts 10,000 folders together as a loss of
 #             power could leave them, from what a run asked of the system by a shim that cc makes, and looks at each
 # make fuzz   asks the program that make run built with hostile segments, scripts and folders; FUZZ="--cases 100000 --seed 7" says how many and which
@@ -73,7 +74,10 @@ bench:
 
 peers:
 	@folder=$$(mktemp -d /dev/shm/peers.XXXXXX) && trap "rm -rf $$folder" EXIT && \
-	rustc --edition 2021 -O -o $$folder/peers tools/peers.rs && $$folder/peers $$folder 1000000
+	rustc --edition 2021 -O -o $$folder/peers tools/peers.rs && $$folder/peers $$folder/all 1000000 && \
+	for more in "--shared 24" "--value 8" "--value 500" "--batch 1" "--batch 4096" "--readers 1" "--readers 2" "--readers 4"; do \
+	  rm -rf $$folder/more && $$folder/peers $$folder/more 200000 $$more || exit 1; \
+	done
 
 crash:
 	python3 tests/program/crash.py

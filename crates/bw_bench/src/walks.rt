@@ -1,16 +1,85 @@
-//! Walks over all pairs in the order of their keys: a pair a call, and by stretches of pairs that are
-//! copied, or that share their bytes with the pages.
+//! Walks over all pairs in the order of their keys, and ranges of pairs from scattered keys on: a
+//! pair a call, and by stretches of pairs that are copied, or that share their bytes with the pages.
 
 ghost use Rattle.bw_store.specs.Views.{IsSound};
 ghost use Rattle.bw_bench.specs.Lent.{Keeps};
 
 use crate::bench::Bench;
+use crate::shape::Shape;
 use crate::stop::Stop;
 use bw_codec::{Key, Pair, Value};
 use bw_store::Store;
 
-/// How many pairs a stretch has at most.
-const STRETCH: u64 = 64;
+/// How the pairs of a stretch are taken.
+#[derive(Clone, Copy)]
+enum Way {
+    PairByPair,
+    Copied,
+    Shared,
+}
+
+/// A walk, which is made of stretches.
+#[derive(Clone, Copy)]
+struct Walk {
+    name: &'static str,
+    way: Way,
+    /// How many pairs a stretch has at most.
+    most: u64,
+    /// Whether a stretch begins anywhere; else it begins where the one before it ended.
+    is_scattered: bool,
+}
+
+const WALKS: &[Walk] = &[
+    Walk {
+        name: "walk, a pair a call",
+        way: Way::PairByPair,
+        most: 1,
+        is_scattered: false,
+    },
+    Walk {
+        name: "walk, pairs copied",
+        way: Way::Copied,
+        most: 64,
+        is_scattered: false,
+    },
+    Walk {
+        name: "walk, pairs shared",
+        way: Way::Shared,
+        most: 64,
+        is_scattered: false,
+    },
+    Walk {
+        name: "ranges of 100, pairs shared",
+        way: Way::Shared,
+        most: 100,
+        is_scattered: true,
+    },
+];
+
+impl Walk {
+    /// How many lesser keys there are than the first of a stretch.
+    fn first(self, shape: Shape, stretch: u64) -> u64 {
+        if self.is_scattered {
+            shape.number(stretch)
+        } else {
+            stretch.saturating_mul(self.most)
+        }
+    }
+}
+
+/// Pairs that were found.
+#[derive(Drop)]
+struct Found {
+    copied: Vec<(Key, Value)>,
+    shared: Vec<Pair>,
+}
+
+/// How many pairs a walk has, and how many bytes their values.
+#[derive(Clone, Copy)]
+struct Walked {
+    pairs: u64,
+    bytes: u64,
+}
 
 fn bytes_of_copies(pairs: &[(Key, Value)]) -> u64 {
     let mut bytes = 0u64;
@@ -28,81 +97,116 @@ fn bytes_of_shared(pairs: &[Pair]) -> u64 {
     bytes
 }
 
-/// A pair a call: how many bytes all values have.
-fn walk_by_pairs(bench: &Bench, store: &mut Store) -> Option<u64>
+/// How many bytes the value of the first pair from a key on has.
+fn next_from(bench: &Bench, store: &mut Store, from: &Key) -> Option<u64>
+    requires { IsSound store.old holding }
+    ensures { Keeps store.old store.new holding }
+{
+    match store.next_at(from) {
+        Ok(Some((_, value))) => Some(value.as_slice().len() as u64),
+        Ok(None) => Some(0),
+        Err(fault) => bench.refused(fault),
+    }
+}
+
+/// How many bytes the values of so many pairs have, which are copied.
+fn copied_from(
+    bench: &Bench,
+    store: &mut Store,
+    from: &Key,
+    most: usize,
+    found: &mut Found,
+) -> Option<u64>
+    requires { IsSound store.old holding }
+    ensures { Keeps store.old store.new holding }
+{
+    match store.scan(from, most, &mut found.copied) {
+        Ok(()) => Some(bytes_of_copies(&found.copied)),
+        Err(fault) => bench.refused(fault),
+    }
+}
+
+/// The same of pairs that are shared.
+fn shared_from(
+    bench: &Bench,
+    store: &mut Store,
+    from: &Key,
+    most: usize,
+    found: &mut Found,
+) -> Option<u64>
+    requires { IsSound store.old holding }
+    ensures { Keeps store.old store.new holding }
+{
+    match store.scan_shared(from, most, &mut found.shared) {
+        Ok(()) => Some(bytes_of_shared(&found.shared)),
+        Err(fault) => bench.refused(fault),
+    }
+}
+
+/// The same of a stretch of a walk.
+fn stretch(
+    bench: &Bench,
+    store: &mut Store,
+    walk: Walk,
+    from: &Key,
+    found: &mut Found,
+) -> Option<u64>
+    requires { IsSound store.old holding }
+    ensures { Keeps store.old store.new holding }
+{
+    match walk.way {
+        Way::PairByPair => next_from(bench, store, from),
+        Way::Copied => copied_from(bench, store, from, walk.most as usize, found),
+        Way::Shared => shared_from(bench, store, from, walk.most as usize, found),
+    }
+}
+
+/// The stretches of a walk, one after the other: as many as all pairs fill.
+fn stretches(bench: &Bench, store: &mut Store, walk: Walk, found: &mut Found) -> Option<Walked>
     requires { IsSound store.old holding }
     ensures { Keeps store.old store.new holding }
 {
     let shape = bench.options.shape();
+    let mut pairs = 0u64;
     let mut bytes = 0u64;
-    'pairs: for number in 0..shape.keys {
-        match store.next_at(&shape.key_at(number)?) {
-            Ok(Some((_, value))) => bytes = bytes.saturating_add(value.as_slice().len() as u64),
-            Ok(None) => return Some(bytes),
-            Err(fault) => return bench.refused(fault),
-        }
+    'stretches: for i in 0..shape.keys.div_ceil(walk.most.max(1)) {
+        let first = walk.first(shape, i);
+        let from = shape.key_at(first)?;
+        bytes = bytes.saturating_add(stretch(bench, store, walk, &from, found)?);
+        pairs = pairs.saturating_add(walk.most.min(shape.keys.saturating_sub(first)));
     }
-    Some(bytes)
+    Some(Walked { pairs, bytes })
 }
 
-/// The same by stretches that are copied.
-fn walk_by_copies(bench: &Bench, store: &mut Store) -> Option<u64>
+/// Makes a walk and tells of it. It may leave nothing out.
+fn make(bench: &Bench, store: &mut Store, walk: Walk, found: &mut Found) -> Option<()>
     requires { IsSound store.old holding }
     ensures { Keeps store.old store.new holding }
 {
-    let shape = bench.options.shape();
-    let mut found = Vec::new(bench.alloc);
-    let mut bytes = 0u64;
-    'stretches: for before in 0..shape.keys.div_ceil(STRETCH) {
-        let from = shape.key_at(before.saturating_mul(STRETCH))?;
-        match store.scan(&from, STRETCH as usize, &mut found) {
-            Ok(()) => bytes = bytes.saturating_add(bytes_of_copies(&found)),
-            Err(fault) => return bench.refused(fault),
-        }
-    }
-    Some(bytes)
-}
-
-/// The same by stretches that are shared.
-fn walk_by_shared(bench: &Bench, store: &mut Store) -> Option<u64>
-    requires { IsSound store.old holding }
-    ensures { Keeps store.old store.new holding }
-{
-    let shape = bench.options.shape();
-    let mut found = Vec::new(bench.alloc);
-    let mut bytes = 0u64;
-    'stretches: for before in 0..shape.keys.div_ceil(STRETCH) {
-        let from = shape.key_at(before.saturating_mul(STRETCH))?;
-        match store.scan_shared(&from, STRETCH as usize, &mut found) {
-            Ok(()) => bytes = bytes.saturating_add(bytes_of_shared(&found)),
-            Err(fault) => return bench.refused(fault),
-        }
-    }
-    Some(bytes)
-}
-
-/// Tells of a walk, which may have left nothing out.
-fn tell_walk(bench: &Bench, name: &'static str, start: u64, bytes: u64) -> Option<()> {
-    let keys = u64::from(bench.options.keys);
-    bench.tell(name, keys, bench.since(start));
-    if bytes != keys.saturating_mul(u64::from(bench.options.value_length)) {
+    let start = bench.now();
+    let walked = stretches(bench, store, walk, found)?;
+    bench.tell(walk.name, walked.pairs, bench.since(start));
+    if walked.bytes
+        != walked
+            .pairs
+            .saturating_mul(u64::from(bench.options.value_length))
+    {
         return bench.stop(Stop::Wrong, "a walk that leaves something out");
     }
     Some(())
 }
 
-/// Walks over all pairs in each of the three ways.
+/// Makes each walk.
 pub fn walks(bench: &Bench, store: &mut Store) -> Option<()>
     requires { IsSound store.old holding }
     ensures { Keeps store.old store.new holding }
 {
-    let start = bench.now();
-    let bytes = walk_by_pairs(bench, store)?;
-    tell_walk(bench, "walk, a pair a call", start, bytes)?;
-    let start = bench.now();
-    let bytes = walk_by_copies(bench, store)?;
-    tell_walk(bench, "walk, pairs copied", start, bytes)?;
-    let start = bench.now();
-    let bytes = walk_by_shared(bench, store)?;
-    tell_walk(bench, "walk, pairs shared", start, bytes)
+    let mut found = Found {
+        copied: Vec::new(bench.alloc),
+        shared: Vec::new(bench.alloc),
+    };
+    'walks: for walk in WALKS {
+        make(bench, store, *walk, &mut found)?;
+    }
+    Some(())
 }

@@ -184,6 +184,9 @@ pub more_for : (f : Filling) (others : List Block) (b : Block)
     → size_of (with_all f (others ++ b ∷ [])) ≡ 20 + length (body_bytes (joined (added f.blocks others) b))
 more_for f others b = ap (λ (l : List Block). 20 + length (body_bytes l)) (added_more f.blocks others (b ∷ []))
 
+pub one_length : (item : Record) → length (flat_map op_bytes (item ∷ [])) ≡ length (op_bytes item)
+one_length item = ap length (append-nil (op_bytes item))
+
 -- how long the frame is with a Delta that joins this block, or none
 pub with_delta : (f : Filling) (p : ℕ) (back : Place) (ops : List Record) (o : Option ℕ) → joins_of (length ops) p f.blocks ≡ o
     → size_of (with_all f (Delta p back ops ∷ [])) ≡ size_of f + (front_length o + length (flat_map op_bytes ops))

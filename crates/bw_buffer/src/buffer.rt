@@ -23,7 +23,10 @@ use crate::layout::{copy_in, lay_out};
 use crate::mark::Mark;
 use crate::rows::{DELTA_HEAD, MIN_PIECE, Piece, Row};
 use bw_codec::limits::{HEAD_LEN, MAX_OPS, MIN_BLOCK};
-use bw_codec::{Block, Ops, Place, Record, block_length, ops_length, write_block, write_ops};
+use bw_codec::{
+    Block, Ops, Packed, Place, Record, block_length, ops_length, record_length, write_block,
+    write_ops,
+};
 use std::alloc::{AllocError, Global};
 use std::marker::Model;
 use std::slice;
@@ -159,7 +162,7 @@ impl Buffer {
     /// place: what `put_all` does with this block alone, but no block is made of the record. It
     /// joins, and is refused, as there. No memory is taken. Time is that of a look-up and of copying
     /// the record's bytes, whatever stands in the buffer.
-    pub fn put_record(&mut self, page: u32, back: &Place, item: &Record) -> Result<Place, PutError>
+    pub fn put_record(&mut self, page: u32, back: &Place, item: &Packed) -> Result<Place, PutError>
         requires lawful { IsBlock 32 (Delta page back.now (item.now ∷ [])) }
         ensures added { OnOk result
             (self.new ≡ with_all self.old (Delta page back.now (item.now ∷ []) ∷ [])) }
@@ -179,7 +182,7 @@ impl Buffer {
             return Err(PutError::Sealed);
         }
         let joins = self.joining(page, 1);
-        if (self.room() as usize) < length_of(joins, item) {
+        if (self.room() as usize) < length_of(joins, ops_length(slice::from_ref(item))) {
             return Err(PutError::NoRoom);
         }
         Ok(self.put_at(joins, page, back, item))
@@ -187,7 +190,7 @@ impl Buffer {
 
     // Adds a record that fits to the Delta that it joins, or a Delta of it behind all blocks.
     // Answers where that Delta stands.
-    fn put_at(&mut self, joins: Option<u32>, page: u32, back: &Place, item: &Record) -> Place
+    fn put_at(&mut self, joins: Option<u32>, page: u32, back: &Place, item: &Packed) -> Place
         requires joins { joins ≡ joins_of 1 page self.old.blocks }
         requires lawful { IsBlock 32 (Delta page back.now (item.now ∷ [])) }
         requires unsealed { self.old.is_sealed ≡ false }
@@ -283,7 +286,7 @@ impl Buffer {
             ↔ (size_of (with_all self.now (Delta page back (item.now ∷ []) ∷ []))
             ≤ self.now.limit) }
     {
-        length_of(self.joining(page, 1), item) <= self.room() as usize
+        length_of(self.joining(page, 1), record_length(item)) <= self.room() as usize
     }
 
     // How many bytes a block adds behind these others.
@@ -417,7 +420,7 @@ impl Buffer {
     }
 
     // Adds records to the last block of their page.
-    fn join(&mut self, page: u32, at: u32, back: &Place, ops: &[Record])
+    fn join(&mut self, page: u32, at: u32, back: &Place, ops: &[Packed])
         requires lawful { IsBlock 32 (Delta page back.now ops.now) }
         requires unsealed { self.old.is_sealed ≡ false }
         requires joins { joins_of (length ops.now) page self.old.blocks ≡ Some at }
@@ -441,7 +444,7 @@ impl Buffer {
     }
 
     // Adds a Delta behind all blocks.
-    fn put_new(&mut self, page: u32, back: &Place, ops: &[Record])
+    fn put_new(&mut self, page: u32, back: &Place, ops: &[Packed])
         requires lawful { IsBlock 32 (Delta page back.now ops.now) }
         requires unsealed { self.old.is_sealed ≡ false }
         requires none { joins_of (length ops.now) page self.old.blocks ≡ None }
@@ -589,11 +592,11 @@ impl Buffer {
     }
 }
 
-// How many bytes a record adds that joins this block, or of which a Delta is made.
-fn length_of(joins: Option<u32>, item: &Record) -> usize
-    ensures { result ≡ front_length joins + length (flat_map op_bytes (item.now ∷ [])) }
+// How many bytes a record of this length adds that joins this block, or of which a Delta is made.
+fn length_of(joins: Option<u32>, length: usize) -> usize
+    requires { length ≤ 644 }
+    ensures { result ≡ front_length joins + length }
 {
-    let length = ops_length(slice::from_ref(item));
     match joins {
         Some(_) => length,
         None => DELTA_HEAD as usize + length,

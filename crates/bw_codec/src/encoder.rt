@@ -5,12 +5,13 @@ ghost use Rattle.std.specs.Prelude.{◌≡◌, ◌≤◌, ◌<◌, ◌+◌, ◌*
 ghost use Rattle.std.specs.List.{flat_map};
 ghost use Rattle.bw_codec.specs.Bytes.{number_bytes, text, value_bytes};
 ghost use Rattle.bw_record.specs.Version.{latest};
+ghost use Rattle.bw_record.specs.declared.record.Record.TheVariants.{Put, Del};
 ghost use Rattle.bw_codec.specs.Grammar.{op_bytes, pair_bytes, place_bytes, pairs_bytes, ops_bytes, delta_front, upper_bytes, block_bytes, head_bytes, header_bytes, IsBase, IsBlock};
 ghost use Rattle.bw_codec.specs.Writing.{HasRoom, Adds};
 
 use crate::block::{Block, Header, Place};
 use crate::limits::{HEAD_LEN, HEADER_LEN};
-use bw_record::{Leaf, Pair, Record};
+use bw_record::{Leaf, Packed, Pair, Record};
 use byteorder::{ByteOrder, LittleEndian};
 use std::alloc::AllocError;
 
@@ -28,18 +29,29 @@ fn pairs_length(pairs: &[Pair]) -> usize
     total
 }
 
-fn op_length(op: &Record) -> usize
-    ensures value { result ≡ length (op_bytes op.now) }
+/// How many bytes a record is spelled in.
+pub fn record_length(item: &Record) -> usize
+    ensures value { result ≡ length (op_bytes item.now) }
     ensures small { result ≤ 644 }
 {
-    match op {
+    match item {
         Record::Put(key, value) => 4 + key.as_slice().len() + value.as_slice().len(),
         Record::Del(key) => 2 + key.as_slice().len(),
     }
 }
 
+fn op_length(op: &Packed) -> usize
+    ensures value { result ≡ length (op_bytes op.now) }
+    ensures small { result ≤ 644 }
+{
+    match op.pair() {
+        Ok(pair) => 4 + pair.key().len() + pair.value().len(),
+        Err(pair) => 2 + pair.key().len(),
+    }
+}
+
 /// How many bytes records are spelled in. Linear in their number.
-pub fn ops_length(ops: &[Record]) -> usize
+pub fn ops_length(ops: &[Packed]) -> usize
     requires { length ops.now < 2 ^ 16 }
     ensures value { result ≡ length (flat_map op_bytes ops.now) }
     ensures small { result ≤ 644 * length ops.now }
@@ -138,26 +150,41 @@ fn push_pairs(out: &mut Vec<u8>, pairs: &[Pair])
     }
 }
 
-fn push_op(out: &mut Vec<u8>, op: &Record)
+// A put of this key and this value.
+fn push_put(out: &mut Vec<u8>, key: &[u8], value: &[u8])
+    requires room { HasRoom out.old (4 + length key.now + length value.now) }
+    requires key { length key.now ≤ 128 }
+    requires value { length value.now ≤ 512 }
+    ensures { Adds out.old out.new (op_bytes (Put key.now value.now)) }
+{
+    push(out, &[1]);
+    push_text(out, key);
+    push_value(out, value);
+}
+
+// A delete of this key.
+fn push_del(out: &mut Vec<u8>, key: &[u8])
+    requires room { HasRoom out.old (2 + length key.now) }
+    requires key { length key.now ≤ 128 }
+    ensures { Adds out.old out.new (op_bytes (Del key.now)) }
+{
+    push(out, &[2]);
+    push_text(out, key);
+}
+
+fn push_op(out: &mut Vec<u8>, op: &Packed)
     requires { HasRoom out.old (length (op_bytes op.now)) }
     ensures { Adds out.old out.new (op_bytes op.now) }
 {
-    match op {
-        Record::Put(key, value) => {
-            push(out, &[1]);
-            push_text(out, key.as_slice());
-            push_value(out, value.as_slice());
-        }
-        Record::Del(key) => {
-            push(out, &[2]);
-            push_text(out, key.as_slice());
-        }
+    match op.pair() {
+        Ok(pair) => push_put(out, pair.key(), pair.value()),
+        Err(pair) => push_del(out, pair.key()),
     }
 }
 
 /// Appends the bytes of records, without their count, where there is room for them, as `ops_length`
 /// tells. No memory is taken.
-pub fn write_ops(ops: &[Record], out: &mut Vec<u8>)
+pub fn write_ops(ops: &[Packed], out: &mut Vec<u8>)
     requires { HasRoom out.old (length (flat_map op_bytes ops.now)) }
     ensures { Adds out.old out.new (flat_map op_bytes ops.now) }
 {
@@ -166,7 +193,7 @@ pub fn write_ops(ops: &[Record], out: &mut Vec<u8>)
     }
 }
 
-fn push_ops(out: &mut Vec<u8>, ops: &[Record])
+fn push_ops(out: &mut Vec<u8>, ops: &[Packed])
     requires room { HasRoom out.old (length (ops_bytes ops.now)) }
     requires few { length ops.now < 2 ^ 16 }
     ensures { Adds out.old out.new (ops_bytes ops.now) }

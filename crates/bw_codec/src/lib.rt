@@ -33,7 +33,7 @@ pub use bw_record::{
 pub use decoder::{read_block, read_frame, read_header};
 pub use encoder::{
     base_length, block_length, encode_block, encode_frame_head, encode_header, frame_cells,
-    header_cells, ops_length, write_block, write_delta_head, write_ops,
+    header_cells, ops_length, record_length, write_block, write_delta_head, write_ops,
 };
 pub use fault::CodecFault;
 pub use outline::Outline;

@@ -11,7 +11,7 @@ use crate::block::Place;
 use crate::fault::CodecFault;
 use crate::limits::{MIN_OP, MIN_PAIR};
 use crate::version::{key_limit, value_limit};
-use bw_record::{Key, Low, Ops, Pair, Pairs, Record, Value, ascend};
+use bw_record::{Low, Ops, Packed, Pair, Pairs, ascend};
 use byteorder::{ByteOrder, LittleEndian};
 use std::alloc::{AllocError, Global};
 
@@ -66,18 +66,18 @@ pub(crate) fn run_of(bytes: &[u8]) -> Result<(&[u8], &[u8]), CodecFault>
 }
 
 #[tactic(auto, unfolding(crate::specs::Reading::text_at))]
-pub(crate) fn key_at(version: u16, bytes: &[u8]) -> Result<(Key, &[u8]), CodecFault>
-    ensures gives { Gives (λ x. (x.0, x.1.now)) result (text_at 1 (key_limit version) bytes.now) }
+pub(crate) fn key_at(version: u16, bytes: &[u8]) -> Result<(&[u8], &[u8]), CodecFault>
+    ensures gives { Gives (λ x. (x.0.now, x.1.now)) result
+        (text_at 1 (key_limit version) bytes.now) }
+    ensures some { IfOk result (λ x. 1 ≤ length x.0.now) }
+    ensures short { IfOk result (λ x. length x.0.now ≤ 128) }
     ensures bad { IfErr result (λ fault. fault ≡ CodecFault.BadBytes) }
 {
     let (run, rest) = run_of(bytes)?;
-    if key_limit(version) < run.len() {
+    if run.is_empty() || key_limit(version) < run.len() {
         return Err(CodecFault::BadBytes);
     }
-    match Key::new(run) {
-        Ok(key) => Ok((key, rest)),
-        Err(_) => Err(CodecFault::BadBytes),
-    }
+    Ok((run, rest))
 }
 
 /// A number in one byte.
@@ -104,8 +104,9 @@ pub(crate) fn size_of(version: u16, bytes: &[u8]) -> Result<(u16, &[u8]), CodecF
 }
 
 #[tactic(auto, unfolding(crate::specs::Reading::value_at))]
-pub(crate) fn value_at(version: u16, bytes: &[u8]) -> Result<(Value, &[u8]), CodecFault>
-    ensures gives { Gives (λ x. (x.0, x.1.now)) result (value_at version bytes.now) }
+pub(crate) fn value_at(version: u16, bytes: &[u8]) -> Result<(&[u8], &[u8]), CodecFault>
+    ensures gives { Gives (λ x. (x.0.now, x.1.now)) result (value_at version bytes.now) }
+    ensures short { IfOk result (λ x. length x.0.now ≤ 512) }
     ensures bad { IfErr result (λ fault. fault ≡ CodecFault.BadBytes) }
 {
     let (size, rest) = size_of(version, bytes)?;
@@ -113,11 +114,7 @@ pub(crate) fn value_at(version: u16, bytes: &[u8]) -> Result<(Value, &[u8]), Cod
     if value_limit(version) < size || rest.len() < size {
         return Err(CodecFault::BadBytes);
     }
-    let (run, rest) = (&rest[..size], &rest[size..]);
-    match Value::new(run) {
-        Ok(value) => Ok((value, rest)),
-        Err(_) => Err(CodecFault::BadBytes),
-    }
+    Ok((&rest[..size], &rest[size..]))
 }
 
 #[tactic(auto, unfolding(crate::specs::Reading::text_at))]
@@ -134,9 +131,12 @@ pub(crate) fn low_of(alloc: Global, version: u16, bytes: &[u8]) -> Result<(Low, 
 
 /// One record behind its tag.
 #[tactic(auto, unfolding(crate::specs::Reading::op_at))]
-pub(crate) fn op_of(version: u16, bytes: &[u8]) -> Result<(Record, &[u8]), CodecFault>
-    ensures gives { Gives (λ x. (x.0, x.1.now)) result (op_at version bytes.now) }
-    ensures bad { IfErr result (λ fault. fault ≡ CodecFault.BadBytes) }
+pub(crate) fn op_of(
+    alloc: Global,
+    version: u16,
+    bytes: &[u8],
+) -> Result<(Packed, &[u8]), CodecFault>
+    ensures { Gives (λ x. (x.0, x.1.now)) result (op_at version bytes.now) }
 {
     match bytes {
         [] => Err(CodecFault::BadBytes),
@@ -144,10 +144,12 @@ pub(crate) fn op_of(version: u16, bytes: &[u8]) -> Result<(Record, &[u8]), Codec
             if *tag == 1 {
                 let (key, rest) = key_at(version, rest)?;
                 let (value, rest) = value_at(version, rest)?;
-                Ok((Record::Put(key, value), rest))
+                let pair = Pair::of_bytes(alloc, key, value)?;
+                Ok((Packed::put(pair), rest))
             } else if *tag == 2 {
                 let (key, rest) = key_at(version, rest)?;
-                Ok((Record::Del(key), rest))
+                let pair = Pair::of_bytes(alloc, key, &[])?;
+                Ok((Packed::del(pair), rest))
             } else {
                 Err(CodecFault::BadBytes)
             }
@@ -155,14 +157,19 @@ pub(crate) fn op_of(version: u16, bytes: &[u8]) -> Result<(Record, &[u8]), Codec
     }
 }
 
+/// A key and its value.
 #[tactic(auto, unfolding(crate::specs::Reading::pair_at))]
-pub(crate) fn pair_of(version: u16, bytes: &[u8]) -> Result<((Key, Value), &[u8]), CodecFault>
-    ensures gives { Gives (λ x. (x.0, x.1.now)) result (pair_at version bytes.now) }
-    ensures bad { IfErr result (λ fault. fault ≡ CodecFault.BadBytes) }
+pub(crate) fn pair_of(
+    alloc: Global,
+    version: u16,
+    bytes: &[u8],
+) -> Result<(Pair, &[u8]), CodecFault>
+    ensures { Gives (λ x. (x.0, x.1.now)) result (pair_at version bytes.now) }
 {
     let (key, rest) = key_at(version, bytes)?;
     let (value, rest) = value_at(version, rest)?;
-    Ok(((key, value), rest))
+    let pair = Pair::of_bytes(alloc, key, value)?;
+    Ok((pair, rest))
 }
 
 /// Room for so many things, or for as many as can stand in the bytes where these are fewer: each has
@@ -191,19 +198,11 @@ pub(crate) fn some_pairs(
     let mut items = room_for(alloc, count as usize, bytes, MIN_PAIR)?;
     let mut rest = bytes;
     for _i in 0..count {
-        let (read, others) = pair_of(version, rest)?;
-        let pair = Pair::of(alloc, &read.0, &read.1)?;
+        let (pair, others) = pair_of(alloc, version, rest)?;
         items.push(pair)?;
         rest = others;
     }
     Ok((Pairs::of(items), rest))
-}
-
-fn one_op(version: u16, bytes: &[u8]) -> Result<(Ops, &[u8]), CodecFault>
-    ensures { Gives (λ x. (x.0, x.1.now)) result (many_at (op_at version) 1 bytes.now) }
-{
-    let (op, rest) = op_of(version, bytes)?;
-    Ok((Ops::one(op), rest))
 }
 
 pub(crate) fn some_ops(
@@ -214,13 +213,10 @@ pub(crate) fn some_ops(
 ) -> Result<(Ops, &[u8]), CodecFault>
     ensures { Gives (λ x. (x.0, x.1.now)) result (many_at (op_at version) count bytes.now) }
 {
-    if count == 1 {
-        return one_op(version, bytes);
-    }
     let mut items = room_for(alloc, count as usize, bytes, MIN_OP)?;
     let mut rest = bytes;
     for _i in 0..count {
-        let (op, others) = op_of(version, rest)?;
+        let (op, others) = op_of(alloc, version, rest)?;
         items.push(op)?;
         rest = others;
     }

@@ -1,7 +1,7 @@
 -- A record that does not split its page: one Delta is all that it adds.
 
 use Rattle.std.proofs.Common.{◌≡◌, ◌∙◌, ℕ, ◌-◌, ◌≤◌, Bool, true, false, Some, List, [], ◌∷◌, length, refl, sym, ap, subst, arith, append-nil}
-use Rattle.std.specs.Prelude.{IsTrue, ◌↔◌, nat_lt}
+use Rattle.std.specs.Prelude.{IsTrue, ◌↔◌}
 use Rattle.std.specs.List.{slice_get}
 use Rattle.std.proofs.lemmas.Bool.{le-leb}
 use Rattle.bw_record.specs.Lawful.{IsOp}
@@ -13,10 +13,7 @@ use Rattle.bw_codec.specs.declared.block.Block.{Block}
 use Rattle.bw_codec.specs.declared.block.Block.TheVariants.{Delta}
 use Rattle.bw_codec.proofs.Lengths.{length-delta}
 use Rattle.bw_codec.proofs.Sizing.{largest_blocks}
-use Rattle.bw_record.specs.Record.{key_of}
-use Rattle.bw_leaf.specs.Changed.{changed}
-use Rattle.bw_page.specs.Leaves.{home, directed_at, leaf_at, result_of, AreLeaves}
-use Rattle.bw_page.proofs.PageByPage.{home_there}
+use Rattle.bw_page.specs.Leaves.{directed_at, result_of}
 use Rattle.bw_buffer.specs.Filling.{frame_of, size_of, with_all}
 use Rattle.bw_buffer.proofs.Sizes.{pushed_size}
 use Rattle.bw_making.specs.Adding.{blocks_for, here_for}
@@ -43,16 +40,6 @@ enters_whole {s} {item} {back} page sound next op at last whole fits =
 -- the block of its page before it is the last one
 pub last_is_back : (s : Kept) (item : Record) (back : Place) → slice_get s.newest (directed_at s.filed.leaves item - 1) ≡ Some back → back ≡ back_for s item
 last_is_back s item back last = sym (back_at s.newest (directed_at s.filed.leaves item - 1) back last)
-
-some_same : {A : Type 0} {a b : A} → Some a ≡ Some b → a ≡ b
-some_same e = cc
-
--- the leaf of its page tells whether it splits it
-pub splits_is : (m : ℕ) (leaves : List Leaf) (item : Record) (page n : ℕ) (leaf : Leaf) → AreLeaves m leaves → page ≡ directed_at leaves item
-    → Some leaf ≡ leaf_at page leaves → n ≡ m → nat_lt n (length (changed item leaf).pairs) ≡ nat_lt m (length (result_of leaves item).pairs)
-splits_is m leaves item page n leaf a at there same =
-    let is : leaf ≡ home (key_of item) leaves = some_same (there ∙ ap (λ p. leaf_at p leaves) at ∙ home_there m leaves (key_of item) a) in
-    ap (λ (k : ℕ). nat_lt k (length (changed item leaf).pairs)) same ∙ ap (λ (l : Leaf). nat_lt m (length (changed item l).pairs)) is
 
 -- ---- whether it fits
 

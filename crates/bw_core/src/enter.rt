@@ -12,6 +12,7 @@ ghost use Rattle.std.specs.Vec.{vec_capacity};
 ghost use Rattle.bw_codec.specs.Grammar.{IsBlock};
 ghost use Rattle.bw_codec.specs.declared.block.Block.TheVariants.{Delta};
 ghost use Rattle.bw_record.specs.Record.{key_of};
+ghost use Rattle.bw_page.specs.Aim.{IsFound};
 ghost use Rattle.bw_page.specs.Leaves.{directed_at, result_of};
 ghost use Rattle.bw_page.specs.Shown.{IsHere};
 ghost use Rattle.bw_ring.specs.Ends.{given};
@@ -26,8 +27,8 @@ ghost use Rattle.bw_core.specs.Taking.{IsWanting};
 use crate::fault::StoreFault;
 use crate::store::Core;
 use bw_buffer::Buffer;
-use bw_codec::{Block, Place, Record};
-use bw_making::apply_entry;
+use bw_codec::{Block, Packed, Place, Record};
+use bw_making::{apply_entry, apply_found};
 
 impl Core {
     ghost use Rattle.bw_core.specs.Views.{kept_by, noted_of, IsSound};
@@ -79,12 +80,14 @@ impl Core {
     }
 
     // Enters a record that does not split its page, and whose Delta fits the frame in the making.
-    // No block is made of it, and no last place is added.
+    // No block is made of it, and no last place is added. The search for its key on that page ended
+    // so.
     pub(crate) fn enter_delta(
         &mut self,
         lane: usize,
         item: &Record,
         page: u32,
+        found: Result<usize, usize>,
     ) -> Result<(), StoreFault>
         requires sound { IsSound self.old holding }
         requires inside { lane < length self.old.intake.lanes.items }
@@ -93,6 +96,7 @@ impl Core {
         requires next { (kept_by self.old holding).log.next ≡ Some self.old.making.frame }
         requires unsealed { self.old.making.is_sealed ≡ false }
         requires page { page ≡ directed_at self.old.leaves.leaves item.now }
+        requires found { IsFound self.old.leaves.leaves (key_of item.now) found }
         requires whole { length (result_of self.old.leaves.leaves item.now).pairs
             ≤ self.old.leaves.m }
         requires fits { FitsDelta self.old.making page item.now }
@@ -117,8 +121,8 @@ impl Core {
         let back = self.newest[page as usize - 1];
         let entry = self.intake.packed_alone(lane, item, page)?;
         self.intake.reserve()?;
-        let _ = apply_entry(&mut self.leaves, page, item, &entry)?;
-        file_delta(&mut self.making, &mut self.newest, page, back, item);
+        let _ = apply_found(&mut self.leaves, page, found, item, &entry)?;
+        file_delta(&mut self.making, &mut self.newest, page, back, entry.item());
         self.intake.enter_alone(lane, item, entry);
         Ok(())
     }
@@ -157,7 +161,7 @@ fn file(making: &mut Buffer, newest: &mut Vec<Place>, page: u32, blocks: &[Block
 
 // Puts a record into the frame in the making, and notes where its Delta stands: where the one that
 // it joined does, or behind all blocks.
-fn file_delta(making: &mut Buffer, newest: &mut Vec<Place>, page: u32, back: Place, item: &Record)
+fn file_delta(making: &mut Buffer, newest: &mut Vec<Place>, page: u32, back: Place, item: &Packed)
     requires unsealed { making.old.is_sealed ≡ false }
     requires fits { FitsDelta making.old page item.now }
     requires lawful { IsBlock 32 (Delta page back (item.now ∷ [])) }

@@ -3,7 +3,7 @@
 //! Nearly no record does, and none of the others is planned: what it adds is one Delta, which the
 //! frame takes by the record alone (`enter.rt`).
 
-ghost use Rattle.std.specs.Prelude.{◌≡◌, ◌≤◌, ◌<◌, ◌+◌, ◌-◌, ◌^◌, Some, length, nat_lt, slice_get, IfOk, IfErr, OnOk};
+ghost use Rattle.std.specs.Prelude.{◌≡◌, ◌≤◌, ◌<◌, ◌+◌, ◌-◌, ◌^◌, Some, length, slice_get, IfOk, IfErr, OnOk};
 ghost use Rattle.bw_record.specs.Record.{key_of};
 ghost use Rattle.bw_leaf.specs.Changed.{changed};
 ghost use Rattle.bw_page.specs.Leaves.{directed_at, result_of, HasPage};
@@ -52,21 +52,6 @@ fn upper_of(
     Ok(Some(upper))
 }
 
-/// Whether a record makes its page, which is in memory, too long: the page is cut in two then.
-pub(crate) fn splits(leaves: &Leaves, page: u32, item: &Record) -> bool
-    requires here { IsHere (key_of item.now) leaves.now }
-    requires page { page ≡ directed_at leaves.now.leaves item.now }
-    requires within { (1 ≤ page) × (page ≤ length leaves.now.leaves) }
-    ensures { result ≡ nat_lt leaves.now.m (length (result_of leaves.now.leaves item.now).pairs) }
-{
-    let _ = item.key();
-    let _ = leaves.count();
-    let Some(leaf) = leaves.page(page) else {
-        unreachable!();
-    };
-    usize::from(leaves.limit()) < count_after(leaf, item)
-}
-
 /// What a record of this page adds, the first of its blocks here.
 pub(crate) fn planned_for(
     alloc: Global,
@@ -95,6 +80,6 @@ pub(crate) fn planned_for(
         unreachable!();
     };
     let upper = upper_of(alloc, leaves.limit(), leaf, item, pages)?;
-    let blocks = blocks_of(page, back, here, item, upper);
+    let blocks = blocks_of(alloc, page, back, here, item, upper)?;
     Ok(Plan { page, back, blocks })
 }

@@ -21,7 +21,7 @@ ghost use Rattle.bw_making.specs.Share.{ops_at};
 
 use crate::fault::StoreFault;
 use crate::store::Core;
-use bw_codec::{Key, Leaf, Record, Value};
+use bw_codec::{Key, Leaf, Packed, Value};
 use bw_making::tail_of;
 use bw_page::{Word, change_all, word_in_records};
 use std::alloc::AllocError;
@@ -164,7 +164,7 @@ impl Core {
 
     // The records that the frame in the making has of a page, in order. Where the frame has no
     // block of the page, it is not looked through, and no memory is taken.
-    fn tail(&self, page: u32) -> Result<Vec<Record>, AllocError>
+    fn tail(&self, page: u32) -> Result<Vec<Packed>, AllocError>
         requires sound { IsSound self.now holding }
         requires inside { (1 ≤ page) × (page ≤ length self.now.leaves.leaves) }
         ensures { IfOk result (λ records. records.items ≡ ops_at page self.now.making.blocks) }

@@ -17,6 +17,7 @@ ghost use Rattle.std.specs.List.{AllByRecursion};
 ghost use Rattle.bw_record.specs.Lawful.{IsOp};
 ghost use Rattle.bw_codec.specs.Grammar.{body_bytes, IsBlock};
 ghost use Rattle.bw_record.specs.Record.{key_of};
+ghost use Rattle.bw_page.specs.Aim.{IsFound};
 ghost use Rattle.bw_page.specs.Batch.{AreHere};
 ghost use Rattle.bw_page.specs.Leaves.{directed_at, result_of, HasPages};
 ghost use Rattle.bw_page.specs.Shown.{IsHere};
@@ -31,7 +32,7 @@ ghost use Rattle.bw_making.specs.Planning.{listed};
 ghost use Rattle.bw_core.specs.Taking.{TakeLeaves, WaitingLeaves, GroupLeaves, IsPlan, IsStopped, IsUnplanned};
 
 use crate::fault::StoreFault;
-use crate::plan::{Plan, planned_for, splits};
+use crate::plan::{Plan, planned_for};
 use crate::store::Core;
 use bw_codec::Record;
 use bw_history::PackedEntry;
@@ -187,20 +188,29 @@ impl Core {
             (kept_by self.old holding) result (kept_by self.new holding) }
         ensures noted { noted_of self.new ≡ noted_of self.old }
     {
-        if splits(&self.leaves, page, item) {
+        let found = self.leaves.place_on(page, item.key().as_slice());
+        if self.leaves.is_cut_by(page, found, item) {
             return self.take_cut(lane, item, page);
         }
-        self.take_delta(lane, item, page)
+        self.take_delta(lane, item, page, found)
     }
 
-    // The same, where the record does not split that page: no block is made of it, and it is moved
-    // nowhere.
-    fn take_delta(&mut self, lane: usize, item: &Record, page: u32) -> Result<(), StoreFault>
+    // The same, where the record does not split that page, and the search for its key there ended
+    // so: no block is made of it, and it is moved nowhere. A frame that is appended changes no page,
+    // so the place stays right behind it.
+    fn take_delta(
+        &mut self,
+        lane: usize,
+        item: &Record,
+        page: u32,
+        found: Result<usize, usize>,
+    ) -> Result<(), StoreFault>
         requires sound { IsSound self.old holding }
         requires inside { lane < length self.old.intake.lanes.items }
         requires comes { IsNext self.old.intake.lanes.items lane (item.now ∷ []) }
         requires here { IsHere (key_of item.now) self.old.leaves }
         requires page { page ≡ directed_at self.old.leaves.leaves item.now }
+        requires found { IsFound self.old.leaves.leaves (key_of item.now) found }
         requires whole { length (result_of self.old.leaves.leaves item.now).pairs
             ≤ self.old.leaves.m }
         ensures sound { IsSound self.new holding }
@@ -218,11 +228,11 @@ impl Core {
         let _ = item.key();
         self.goes_on()?;
         if self.making.has_room_for(page, item) {
-            return self.enter_delta(lane, item, page);
+            return self.enter_delta(lane, item, page, found);
         }
         self.flush_making(false)?;
         self.goes_on()?;
-        self.enter_delta(lane, item, page)
+        self.enter_delta(lane, item, page, found)
     }
 
     // The same, where it does: its blocks are planned.

@@ -7,33 +7,8 @@ use Rattle.bw_core.specs.Counting.{CountsClean}
 use Rattle.bw_core.specs.Kept.{Kept}
 use Rattle.bw_core.specs.Noted.{Noted}
 use Rattle.bw_core.specs.declared.fault.StoreFault.{StoreFault}
-use Rattle.bw_core.specs.declared.fault.StoreFault.TheVariants as store
-use Rattle.bw_home.specs.declared.fault.HomeFault.{HomeFault}
-use Rattle.bw_home.specs.declared.fault.HomeFault.TheVariants.{NoMemory, Folder, Made, Lease, Recovery, Store}
-
--- ---- faults
-
--- why the store was refused, as a home tells it
-abbrev pub fault_of_store : StoreFault → HomeFault
-fault_of_store store.NoMemory = NoMemory
-fault_of_store store.BadConfig = Store store.BadConfig
-fault_of_store store.NoSegment = Store store.NoSegment
-fault_of_store (store.Device lease) = Store (store.Device lease)
-fault_of_store store.Failed = Store store.Failed
-fault_of_store store.Spent = Store store.Spent
-fault_of_store store.NoPage = Store store.NoPage
-fault_of_store store.NothingOld = Store store.NothingOld
-
--- a file was not emptied, or a segment not made in its place
-abbrev pub IsOfSite : HomeFault → Type 0
-IsOfSite NoMemory = Unit {0}
-IsOfSite (Folder fault) = Unit {0}
-IsOfSite (Made fault) = Unit {0}
-IsOfSite (Lease fault) = Unit {0}
-IsOfSite (Recovery cause) = ⊥
-IsOfSite (Store fault) = ⊥
-
--- ---- a cleaning
+use Rattle.bw_site.specs.Faults.{fault_of_store, IsOfSite}
+use Rattle.bw_site.specs.declared.fault.HomeFault.{HomeFault}
 
 -- what a store says of its own cleaning, by its answer
 pub record StoreCleans (old : Kept) (was : Noted) (result : Result Cleaned StoreFault) (new : Kept) (now : Noted) : Type 0 where

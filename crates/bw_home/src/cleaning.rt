@@ -4,16 +4,14 @@
 ghost use Rattle.std.specs.Prelude.{◌≡◌, IfErr};
 ghost use Rattle.bw_core.specs.Following.{Continues};
 ghost use Rattle.bw_core.specs.Kept.{EachCutStands};
-ghost use Rattle.bw_home.specs.Renewing.{HomeCleans, IsOfSite};
+ghost use Rattle.bw_home.specs.Renewing.{HomeCleans};
+ghost use Rattle.bw_site.specs.Faults.{IsOfSite};
 
-use crate::fault::HomeFault;
 use crate::home::Home;
-use crate::site::Made;
-use crate::stock::Added;
-use crate::system::System;
 use bw_core::{Cleaned, StoreFault, Upgraded};
 use bw_device::Segment;
 use bw_file::FolderFault;
+use bw_site::{Added, HomeFault, Made, System};
 use std::alloc::AllocError;
 
 // Why a spare was not added.

@@ -21,17 +21,14 @@ ghost use Rattle.bw_core.specs.Settling.{SettleRefuses};
 ghost use Rattle.bw_home.specs.Putting.{Added, AddedGroup};
 ghost use Rattle.bw_home.specs.Reasons.{IsWaitRefused};
 
-use crate::fault::{GroupNotPut, HomeFault, NotPut};
-use crate::found::Found;
+use crate::fault::{GroupNotPut, NotPut};
 use crate::options::Options;
-use crate::site::Site;
-use crate::stock::Stock;
-use crate::system::System;
 use bw_care::Recovered;
 use bw_codec::{Key, Pair, Record, Value};
 use bw_core::{Core, StoreFault, TurnFault};
 use bw_device::Segment;
 use bw_ring::{Feed, FullGroup, Group, Items};
+use bw_site::{Found, HomeFault, Site, Stock, System};
 
 /// A store, the feeds of its writers, and where its segments stand and have their leases from.
 ///

@@ -4,14 +4,10 @@ ghost use Rattle.std.specs.Prelude.{◌≡◌, IfOk, IfSome, IsNone};
 
 use crate::begun::{NotBegun, begin};
 use crate::course::{Course, Legs, Whole};
-use crate::fault::HomeFault;
-use crate::folder_look::look;
-use crate::found::Found;
 use crate::options::Options;
-use crate::site::{Made, Site};
-use crate::system::System;
 use bw_care::RecoverCause;
 use bw_device::{MAX_LEASES, Segment};
+use bw_site::{Found, HomeFault, Made, Site, System, look};
 
 /// Where the segments of a store stand, and how many it begins with. A folder is looked at before:
 /// what would be refused is refused before anything is written there.

@@ -3,13 +3,11 @@
 ghost use Rattle.std.specs.Prelude.{IfOk};
 
 use crate::course::Course;
-use crate::fault::HomeFault;
 use crate::home::Home;
 use crate::options::Options;
-use crate::site::Site;
-use crate::system::System;
 use bw_care::recover;
 use bw_device::{Desk, MemSegment, Segment};
+use bw_site::{HomeFault, Site, System};
 
 // Goes on from what these boxes hold, runs the course over it, and ends the store.
 fn go_on<R: System, C: Course<R>>(

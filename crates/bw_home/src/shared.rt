@@ -5,18 +5,14 @@ ghost use Rattle.bw_ring.specs.Ends.{ring_of_feed};
 ghost use Rattle.bw_care.specs.Found.{IsRecovered};
 ghost use Rattle.bw_home.specs.Sharing.{IsShared, IsSharedBeside};
 
-use crate::begun::{NotBegun, clear};
-use crate::fault::HomeFault;
-use crate::found::Found;
+use crate::begun::NotBegun;
 use crate::opened::site_of;
 use crate::options::Options;
-use crate::site::{Made, Site};
-use crate::stock::Stock;
-use crate::system::System;
 use bw_care::{RecoverCause, Recovered, recover};
 use bw_device::Segment;
 use bw_file::FolderFault;
 use bw_ring::Feed;
+use bw_site::{Found, HomeFault, Made, Site, Stock, System, clear};
 use bw_store::{Cleaned, Config, Store};
 use std::alloc::{AllocError, Global};
 

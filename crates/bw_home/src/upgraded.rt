@@ -1,13 +1,11 @@
 //! The store in a folder is brought to format 2, where it stands.
 
 use crate::course::Legs;
-use crate::fault::HomeFault;
-use crate::folder_look::{Old, look_for_old};
 use crate::home::Home;
 use crate::opened::with_store_at;
 use crate::options::Options;
-use crate::system::System;
 use bw_core::{StoreFault, Upgraded};
+use bw_site::{HomeFault, Old, System, look_for_old};
 
 /// An upgrade, one try a leg: where the spares do not suffice, a further one is asked for.
 #[derive(Drop)]

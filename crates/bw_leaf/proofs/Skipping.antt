@@ -2,11 +2,11 @@
 
 use Rattle.std.proofs.Common.{◌≡◌, ℕ, zero, suc, ◌+◌, ◌≤◌, true, Result, Ok, Err, [], ◌∷◌, length, take, drop, refl, sym, ap, ◌∙◌, arith, zero-add}
 use Rattle.std.proofs.Common.{◌-◌, take_all, length-drop}
-use Rattle.std.specs.Ordering.{is_gt}
+use Rattle.std.specs.Ordering.{is_lt, is_gt}
 use Rattle.std.specs.FinMap.Entries.{by_order}
 use Rattle.std.specs.declared.cmp.Ordering.{Ordering}
 use Rattle.std.specs.declared.cmp.Ordering.TheVariants.{Less, Equal, Greater}
-use Rattle.bw_record.specs.Heads.{AreBelow}
+use Rattle.bw_record.specs.Heads.{AreBelow, BeginAbove}
 use Rattle.bw_leaf.specs.Changed.{Bytes, Pairs, order}
 use Rattle.bw_leaf.specs.Seek.{seek_of, passed}
 use Rattle.bw_leaf.proofs.Order.{greater_is_below}
@@ -36,3 +36,19 @@ skipped_search key (p ∷ ps) (suc n) within below =
     let first : order key p.0 ≡ Greater = above (order key p.0) (greater_is_below key p.0 ∙ below.0) in
     passed_again n (seek_of key (drop n ps)) ∙ ap (passed 1) (skipped_search key ps n (omega arith) below.1)
     ∙ sym (ap (λ (o : Ordering). by_order o (Err 0) (Ok 0) (passed 1 (seek_of key ps))) first)
+
+under : (r : Ordering) → is_lt r ≡ true → r ≡ Less
+under Less h = refl
+under Equal h = cc
+under Greater h = cc
+
+first_above : (key : Bytes) (pairs : Pairs) → BeginAbove key pairs → seek_of key pairs ≡ Err 0
+first_above key [] above = absurd above
+first_above key (p ∷ ps) above = ap (λ (o : Ordering). by_order o (Err 0) (Ok 0) (passed 1 (seek_of key ps))) (under (order key p.0) above)
+
+-- where the first pair that is not skipped is above the key, the key stands before it
+pub above_search : (key : Bytes) (pairs : Pairs) (n : ℕ) → n ≤ length pairs → AreBelow key (take n pairs) → BeginAbove key (drop n pairs)
+    → Err n ≡ seek_of key pairs
+above_search key pairs n within below above =
+    let same : n ≡ n + 0 = omega arith in
+    ap Err same ∙ sym (ap (passed n) (first_above key (drop n pairs) above)) ∙ skipped_search key pairs n within below

@@ -15,15 +15,19 @@ use std::cmp::Ordering;
 
 /// The index of a key, or where it would stand. Eight bytes of keys, behind those that all of them
 /// share, are compared as numbers, and whole keys as bytes from the first pair on that these do not
-/// tell apart.
+/// tell apart: a search for a key that is not there mostly looks at no pair, whose bytes stand
+/// elsewhere in memory.
 pub fn find_key(pairs: &Pairs, key: &[u8]) -> Result<usize, usize>
     ensures found { result ≡ seek_of key.now pairs.now }
     ensures within { IsWithin (length pairs.now) result }
 {
-    let from = pairs.skipped(key);
-    match find_whole(&pairs.as_slice()[from..], key) {
-        Ok(at) => Ok(from + at),
-        Err(at) => Err(from + at),
+    let skip = pairs.skip_for(key);
+    if skip.is_above {
+        return Err(skip.count);
+    }
+    match find_whole(&pairs.as_slice()[skip.count..], key) {
+        Ok(at) => Ok(skip.count + at),
+        Err(at) => Err(skip.count + at),
     }
 }
 
@@ -55,7 +59,7 @@ pub fn count_after(leaf: &Leaf, change: &Record) -> usize
 }
 
 /// How many pairs there are after a record, where the search for its key ended so.
-pub(crate) fn count_found(pairs: &[Pair], found: Result<usize, usize>, change: &Record) -> usize
+pub fn count_found(pairs: &[Pair], found: Result<usize, usize>, change: &Record) -> usize
     requires found { found ≡ seek_of (key_of change.now) pairs.now }
     requires within { IsWithin (length pairs.now) found }
     ensures { result ≡ length (changed_pairs change.now pairs.now) }

@@ -13,7 +13,7 @@ ghost use Rattle.bw_leaf.specs.Forwards.{after, kept_below};
 use crate::room::fitted;
 use crate::tree::{change_tree, cut_tree, row_of, tree_of};
 use crate::{changes, replay};
-use bw_codec::{Block, Key, Leaf, Pairs, Record, Value, ascend};
+use bw_codec::{Block, Key, Leaf, Packed, Pairs, Value, ascend};
 use std::alloc::AllocError;
 use std::collections::BTreeMap;
 use std::marker::Model;
@@ -42,7 +42,7 @@ impl Model for Draft {
 }
 
 // The records of a Delta, where the page was set.
-fn change_some(was: Option<Draft>, records: &[Record]) -> Result<Option<Draft>, AllocError>
+fn change_some(was: Option<Draft>, records: &[Packed]) -> Result<Option<Draft>, AllocError>
     ensures { IfOk result (λ draft. draft ≡ option_map (all_changed records.now) was) }
 {
     match was {
@@ -109,14 +109,14 @@ impl Draft {
     }
 
     // The page after a record, where its pairs stand.
-    fn change(self, change: &Record) -> Result<Draft, AllocError>
+    fn change(self, change: &Packed) -> Result<Draft, AllocError>
         ensures { IfOk result (λ draft. draft ≡ changed change.now self) }
     {
         let Draft { leaf, tree } = self;
         match tree {
             None => {
                 let mut leaf = leaf;
-                changes::change(&mut leaf, change)?;
+                changes::change_packed(&mut leaf, change)?;
                 Ok(Draft { leaf, tree: None })
             }
             Some(tree) => {
@@ -130,9 +130,9 @@ impl Draft {
         }
     }
 
-    /// The page after records, one after the other. A refused growth is the only error; the page is
-    /// then dropped.
-    pub fn change_all(self, records: &[Record]) -> Result<Draft, AllocError>
+    /// The page after records, one after the other, whose bytes it then shares. A refused growth is
+    /// the only error; the page is then dropped.
+    pub fn change_all(self, records: &[Packed]) -> Result<Draft, AllocError>
         ensures { IfOk result (λ draft. draft ≡ all_changed records.now self) }
     {
         let mut draft = self;

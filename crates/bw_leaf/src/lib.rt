@@ -21,8 +21,8 @@ mod words;
 
 pub use chain::{Chain, End, Link};
 pub use changes::{
-    add_pairs, change, change_found, change_packed, count_after, count_packed, empty_page,
-    find_key, pair_from, removes, take_back, value_in,
+    add_pairs, change, change_found, change_packed, count_after, count_found, count_packed,
+    empty_page, find_key, pair_from, removes, take_back, value_in,
 };
 pub use draft::Draft;
 pub use replay::{change_all, keep_below, read_block, read_blocks};

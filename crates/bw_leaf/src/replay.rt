@@ -6,12 +6,12 @@ ghost use Rattle.bw_leaf.specs.Changed.{all_changed};
 ghost use Rattle.bw_leaf.specs.Forwards.{after, kept_below};
 
 use crate::draft::Draft;
-use bw_codec::{Block, Leaf, Pairs, Record};
+use bw_codec::{Block, Leaf, Packed, Pairs};
 use std::alloc::AllocError;
 
-/// The leaf after records, one after the other. A refused growth is the only error; the leaf is
-/// then dropped.
-pub fn change_all(leaf: Leaf, records: &[Record]) -> Result<Leaf, AllocError>
+/// The leaf after records, one after the other, whose bytes it then shares. A refused growth is the
+/// only error; the leaf is then dropped.
+pub fn change_all(leaf: Leaf, records: &[Packed]) -> Result<Leaf, AllocError>
     ensures { IfOk result (λ l. l ≡ all_changed records.now leaf) }
 {
     Draft::of(leaf).change_all(records)?.into_leaf()

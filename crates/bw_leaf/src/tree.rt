@@ -5,7 +5,7 @@ ghost use Rattle.std.specs.List.{filter};
 ghost use Rattle.bw_record.specs.Keys.{ascends, is_below};
 ghost use Rattle.bw_leaf.specs.Changed.{Bytes, Pairs, changed_pairs};
 
-use bw_codec::{Key, Pair, Record, Value, is_before};
+use bw_codec::{Key, Packed, Pair, Value, is_before};
 use std::alloc::AllocError;
 use std::collections::BTreeMap;
 
@@ -39,18 +39,18 @@ pub(crate) fn row_of(row: Vec<Pair>, tree: BTreeMap<Key, Value>) -> Result<Vec<P
 /// Changes the pairs by a record. A refusal changes nothing.
 pub(crate) fn change_tree(
     tree: &mut BTreeMap<Key, Value>,
-    change: &Record,
+    change: &Packed,
 ) -> Result<(), AllocError>
     ensures { OnOk result (tree.new.entries ≡ changed_pairs change.now tree.old.entries) }
 {
     // Tells the proof that the keys ascend; so below.
     let _ = tree.len();
-    match change {
-        Record::Put(key, value) => {
-            let _ = tree.insert(key.copy(), value.copy())?;
+    match change.pair() {
+        Ok(pair) => {
+            let _ = tree.insert(pair.to_key(), pair.to_value())?;
         }
-        Record::Del(key) => {
-            let _ = tree.remove(key);
+        Err(pair) => {
+            let _ = tree.remove(&pair.to_key());
         }
     }
     Ok(())

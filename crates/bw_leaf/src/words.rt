@@ -10,7 +10,7 @@ ghost use Rattle.bw_leaf.specs.Words.{newer, told_by, record_word, records_word,
 ghost use Rattle.bw_leaf.specs.Words.{word_of as word_of_value};
 
 use crate::changes::value_in;
-use bw_codec::{Block, Key, Leaf, Low, Packed, Record, Value};
+use bw_codec::{Block, Key, Leaf, Low, Packed, Value};
 use std::cmp::Ordering;
 
 /// What records or blocks say of a key.
@@ -48,20 +48,6 @@ impl Word {
     }
 }
 
-/// What a record says of a key.
-pub(crate) fn word_of(item: &Record, key: &Key) -> Word
-    ensures { result ≡ record_word key.now item.now }
-{
-    match key.as_slice().cmp(item.key().as_slice()) {
-        Ordering::Less => Word::Silent,
-        Ordering::Greater => Word::Silent,
-        Ordering::Equal => match item {
-            Record::Put(_, value) => Word::Holds(value.copy()),
-            Record::Del(_) => Word::Gone,
-        },
-    }
-}
-
 /// What a packed record says of a key.
 pub(crate) fn word_packed(item: &Packed, key: &Key) -> Word
     ensures { result ≡ record_word key.now item.now }
@@ -77,12 +63,12 @@ pub(crate) fn word_packed(item: &Packed, key: &Key) -> Word
 }
 
 /// What the newest of these records that speaks of a key says, oldest first. No memory is taken.
-pub fn word_in_records(records: &[Record], key: &Key) -> Word
+pub fn word_in_records(records: &[Packed], key: &Key) -> Word
     ensures { result ≡ records_word key.now records.now }
 {
     let mut word = Word::Silent;
     for item in records {
-        word = word.then(word_of(item, key));
+        word = word.then(word_packed(item, key));
     }
     word
 }

@@ -15,7 +15,7 @@ ghost use Rattle.bw_lines.specs.Reading.{place_in, at_in, leaf_in, changed_by, l
 ghost use Rattle.bw_codec.specs.declared.block.Place.{Place as PlaceValue};
 ghost use Rattle.bw_codec.specs.declared.block.Block.{Block as BlockValue};
 
-use bw_codec::{Block, Leaf, Place, Record};
+use bw_codec::{Block, Leaf, Packed, Place};
 use bw_log::PageAt;
 use bw_page::Draft;
 use std::alloc::{AllocError, Global};
@@ -58,7 +58,7 @@ impl DraftLine {
     }
 
     // The line after the records of a Delta at a place.
-    fn change(&mut self, place: Place, records: &[Record]) -> Result<(), AllocError>
+    fn change(&mut self, place: Place, records: &[Packed]) -> Result<(), AllocError>
         ensures { OnOk result (self.new ≡ changed_by place records.now (Some self.old)) }
     {
         let draft = self.draft.take();
@@ -69,7 +69,7 @@ impl DraftLine {
 }
 
 // The records of a Delta, where the page was set.
-fn change_some(draft: Option<Draft>, records: &[Record]) -> Result<Option<Draft>, AllocError>
+fn change_some(draft: Option<Draft>, records: &[Packed]) -> Result<Option<Draft>, AllocError>
     ensures { IfOk result (λ d. d ≡ option_map (all_changed records.now) draft) }
 {
     match draft {
@@ -121,7 +121,7 @@ fn change_there(
     lines: &mut BTreeMap<u32, DraftLine>,
     page: u32,
     place: Place,
-    records: &[Record],
+    records: &[Packed],
 ) -> Result<bool, AllocError>
     ensures known { IfOk result (λ known. known ≡ is_some (tree.get nat_cmp lines.old page)) }
     ensures value { result ≡ Ok true → (p : ℕ) → tree.get nat_cmp lines.new p
@@ -144,7 +144,7 @@ fn read_delta(
     lines: &mut BTreeMap<u32, DraftLine>,
     page: u32,
     place: Place,
-    records: &[Record],
+    records: &[Packed],
 ) -> Result<(), AllocError>
     ensures { (p : ℕ) → OnOk result (tree.get nat_cmp lines.new p
         ≡ (if nat_eq page p

@@ -3,7 +3,7 @@
 use crate::frames::{Frames, Step};
 use crate::image::Image;
 use crate::printer::Printer;
-use crate::words::{write_leaf, write_record};
+use crate::words::{write_leaf, write_packed};
 use bw_codec::limits::{HEAD_LEN, HEADER_LEN};
 use bw_codec::{Block, Frame, Header, HeaderRead, Outline, Place, read_header};
 use std::alloc::{AllocError, Global};
@@ -21,7 +21,7 @@ fn write_block<O: Write>(out: &mut Printer<'_, O>, block: &Block) {
             out.named(" delta page ", *page);
             write_place(out, " back ", *back);
             for item in ops.as_slice() {
-                write_record(out, item);
+                write_packed(out, item);
             }
         }
         Block::Base(leaf) => {

@@ -1,7 +1,7 @@
 //! Keys, values, records and pages as words. No memory is taken.
 
 use crate::printer::Printer;
-use bw_codec::{Key, Leaf, Record, Value};
+use bw_codec::{Key, Leaf, Packed, Record, Value};
 use std::io::Write;
 
 /// Bytes as lower-case hex digits.
@@ -64,15 +64,27 @@ pub fn write_page<O: Write>(out: &mut Printer<'_, O>, leaf: &Leaf) {
 /// A record, behind a space: what it does, its key, and its value if it has one.
 pub fn write_record<O: Write>(out: &mut Printer<'_, O>, item: &Record) {
     match item {
-        Record::Put(key, value) => {
-            out.text(b" put ");
-            write_word(out, key.as_slice());
-            out.text(b" ");
-            write_word(out, value.as_slice());
-        }
-        Record::Del(key) => {
-            out.text(b" del ");
-            write_word(out, key.as_slice());
-        }
+        Record::Put(key, value) => write_put(out, key.as_slice(), value.as_slice()),
+        Record::Del(key) => write_del(out, key.as_slice()),
     }
+}
+
+/// The same of a packed record.
+pub fn write_packed<O: Write>(out: &mut Printer<'_, O>, item: &Packed) {
+    match item.pair() {
+        Ok(pair) => write_put(out, pair.key(), pair.value()),
+        Err(pair) => write_del(out, pair.key()),
+    }
+}
+
+fn write_put<O: Write>(out: &mut Printer<'_, O>, key: &[u8], value: &[u8]) {
+    out.text(b" put ");
+    write_word(out, key);
+    out.text(b" ");
+    write_word(out, value);
+}
+
+fn write_del<O: Write>(out: &mut Printer<'_, O>, key: &[u8]) {
+    out.text(b" del ");
+    write_word(out, key);
 }

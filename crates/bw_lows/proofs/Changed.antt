@@ -1,7 +1,7 @@
 -- What a change at a place leaves.
 
 use Rattle.std.proofs.Common.{◌≡◌, ℕ, zero, suc, ◌+◌, ◌<◌, Bool, true, false, cond, Some, None, List, [], ◌∷◌, ◌++◌, length, get_or, take, drop, refl, sym, ap, ◌∙◌, subst, arith, append_assoc}
-use Rattle.std.proofs.lemmas.List.{get_or_read, set_split, length-set, length-append}
+use Rattle.std.proofs.lemmas.List.{set_split, length-set, length-append}
 use Rattle.std.specs.Prelude.{slice_set, insert, remove}
 use Rattle.std.specs.Ordering.{is_eq}
 use Rattle.bw_lows.specs.LowHeads.{Bytes, order, page_of_low}
@@ -173,21 +173,6 @@ module _ (key : Bytes) (blocks : List (List Low)) (a : AreBlocks blocks) (i n : 
 -- ---- what code reads of a block
 
 -- whether the last low up to a key is the key, as a block that was read says it
-pub tie_read : (key : Bytes) (blocks : List (List Low)) (i m : ℕ) (read : List Low) (b answer : Bool) → i < length blocks → read ≡ get_or blocks i read
+pub tie_read : (key : Bytes) (blocks : List (List Low)) (i m : ℕ) (read : List Low) (b answer : Bool) → read ≡ block_at blocks i
     → b ≡ is_eq (order key (low_at read m)) → b ≡ answer → is_eq (order key (low_at (block_at blocks i) m)) ≡ answer
-tie_read key blocks i m read b answer inside is e a =
-    ap (λ (r : List Low). is_eq (order key (low_at r m))) (sym (get_or_read blocks i read inside is [])) ∙ sym e ∙ a
-
--- a block that was read and written
-pub set_read : (blocks : List (List Low)) (i m page : ℕ) (read new : List Low) → i < length blocks → read ≡ get_or blocks i read
-    → new ≡ slice_set read m (low_at read m, page)
-    → slice_set blocks i (slice_set (block_at blocks i) m (low_at (block_at blocks i) m, page)) ≡ slice_set blocks i new
-set_read blocks i m page read new inside is e =
-    ap (λ (r : List Low). slice_set blocks i (slice_set r m (low_at r m, page))) (sym (get_or_read blocks i read inside is []))
-    ∙ ap (λ (b : List Low). slice_set blocks i b) (sym e)
-
-pub added_read : (blocks : List (List Low)) (i n : ℕ) (p : Low) (read new : List Low) → i < length blocks → read ≡ get_or blocks i read
-    → new ≡ insert read n p → slice_set blocks i (insert (block_at blocks i) n p) ≡ slice_set blocks i new
-added_read blocks i n p read new inside is e =
-    ap (λ (r : List Low). slice_set blocks i (insert r n p)) (sym (get_or_read blocks i read inside is []))
-    ∙ ap (λ (b : List Low). slice_set blocks i b) (sym e)
+tie_read key blocks i m read b answer is e a = ap (λ (r : List Low). is_eq (order key (low_at r m))) (sym is) ∙ sym e ∙ a

@@ -28,7 +28,7 @@ drop_next [] m h = absurd (omega arith)
 drop_next (p ∷ ps) zero h = refl
 drop_next (p ∷ ps) (suc m) h = drop_next ps m (omega arith)
 
-first_of_both : (front back : List Low) → 0 < length front → low_at (front ++ back) 0 ≡ low_at front 0
+pub first_of_both : (front back : List Low) → 0 < length front → low_at (front ++ back) 0 ≡ low_at front 0
 first_of_both [] back h = absurd (omega arith)
 first_of_both (p ∷ ps) back h = refl
 

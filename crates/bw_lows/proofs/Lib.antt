@@ -1,6 +1,7 @@
 pub mod Order
 pub mod Shorts
-pub mod Cuts
 pub mod Ascending
 pub mod Flattened
+pub mod HeadBounds
+pub mod FirstHeads
 pub mod Changed

@@ -1,15 +1,19 @@
 -- Rows of lows, one behind the other, as one row.
 
-use Rattle.std.specs.Prelude.{ℕ, suc, ◌≡◌, ◌<◌, ◌≤◌, List, [], ◌++◌, get_or, length, take, drop}
+use Rattle.std.specs.Prelude.{ℕ, suc, ◌≡◌, ◌<◌, ◌≤◌, List, [], ◌++◌, get_or, length, map, take, drop}
 use Rattle.std.specs.List.{AllByRecursion, flat_map}
 use Rattle.bw_lows.specs.LowHeads.{Bytes}
-use Rattle.bw_lows.specs.Rows.{Low, AllUpTo, AllAbove, Ascends}
+use Rattle.bw_lows.specs.Rows.{Low, nothing, AllUpTo, AllAbove, Ascends}
 
 abbrev pub flat : List (List Low) → List Low
 flat blocks = flat_map (λ b. b) blocks
 
 abbrev pub block_at : List (List Low) → ℕ → List Low
 block_at blocks i = get_or blocks i []
+
+-- the first low of each block
+abbrev pub firsts : List (List Low) → List Low
+firsts blocks = map (λ b. get_or b 0 nothing) blocks
 
 -- the lows before the n-th of a block, and those from it on
 abbrev pub lows_before : List (List Low) → ℕ → ℕ → List Low

@@ -2,8 +2,7 @@
 
 use Rattle.std.specs.Prelude.{ℕ, ◌≡◌, ◌<◌, ◌≤◌, suc, Bool, true, false, IsTrue, List, [], ◌∷◌, get_or}
 use Rattle.std.specs.List.{AllByRecursion}
-use Rattle.bw_record.specs.Keys.{is_below, IsBytes}
-use Rattle.bw_record.specs.Heads.{head}
+use Rattle.bw_record.specs.Keys.{is_below}
 use Rattle.bw_lows.specs.LowHeads.{Bytes}
 
 abbrev pub Low : Type 0
@@ -38,7 +37,9 @@ pub record IsCut (is_above : ℕ → Bool) (count n : ℕ) : Type 0 where
   pub before : (i : ℕ) → suc i ≡ n → is_above i ≡ false
   pub behind : n < count → is_above n ≡ true
 
--- the head of the first low; 0 where there is none
-pub record IsFirst (first : ℕ) (lows : List Low) : Type 0 where
-  pub its : first ≡ head (low_at lows 0)
-  pub bytes : IsBytes (low_at lows 0)
+-- what a search by halves keeps: the place before `from` is not above, and the place at `to` is
+pub record IsBetween (is_above : ℕ → Bool) (count from to : ℕ) : Type 0 where
+  pub order : from ≤ to
+  pub within : to ≤ count
+  pub before : (i : ℕ) → suc i ≡ from → is_above i ≡ false
+  pub behind : to < count → is_above to ≡ true

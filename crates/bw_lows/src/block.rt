@@ -1,39 +1,36 @@
 //! A block: lows with their pages, in the order of the lows where the index holds them.
 
-ghost use Rattle.std.specs.Prelude.{◌≡◌, ◌≤◌, ◌<◌, [], ◌∷◌, ◌++◌, length, insert, remove, slice_set, vec_len, OnOk, OnErr, IfOk};
+ghost use Rattle.std.specs.Prelude.{◌≡◌, ◌≤◌, ◌<◌, [], ◌∷◌, ◌++◌, length, insert, remove, slice_set, OnOk, OnErr, IfOk, IfSome};
 ghost use Rattle.std.specs.Ordering.{is_eq};
 ghost use Rattle.bw_record.specs.Keys.{is_below, IsBytes};
 ghost use Rattle.bw_record.specs.Heads.{head};
 ghost use Rattle.bw_lows.specs.LowHeads.{order};
-ghost use Rattle.bw_lows.specs.Rows.{low_at, page_at, IsCut, IsFirst};
+ghost use Rattle.bw_lows.specs.Rows.{low_at, page_at, IsCut};
+ghost use Rattle.bw_lows.specs.LowRow.{IsHeadBehind};
 
 use crate::entry::Entry;
+use crate::row::{Row, make_room};
 use bw_record::Key;
 use std::alloc::{AllocError, Global};
 use std::cmp::Ordering;
 use std::marker::Model;
 
-/// For how many more lows a block takes room at a time: few, since each block has such room.
-const STEP: usize = 16;
-
 /// Lows with their pages.
 #[derive(Drop)]
 pub(crate) struct Block {
-    /// The head of the first low, which a search among blocks reads in place of the low; 0 where
-    /// there is no low.
-    first: u64,
     entries: Vec<Entry>,
+    row: Row,
 }
 
 impl Model for Block {
     ghost use Rattle.std.specs.Prelude.{List, ℕ};
-    ghost use Rattle.bw_lows.specs.Rows.{IsFirst};
+    ghost use Rattle.bw_lows.specs.LowRow.{IsRow};
 
     ghost Value = { List (List ℕ × ℕ) };
 
     ghost view = { λ b. b.entries.items };
 
-    ghost invariant = { λ b. IsFirst b.first b.entries.items };
+    ghost invariant = { λ b. IsRow b.row.shared.items b.row.heads.items b.entries.items };
 }
 
 impl Block {
@@ -41,10 +38,10 @@ impl Block {
     pub(crate) fn of(alloc: Global, entry: Entry) -> Result<Block, AllocError>
         ensures { IfOk result (λ block. block ≡ entry ∷ []) }
     {
-        let first = entry.head();
         let mut entries = Vec::new(alloc);
         entries.push(entry)?;
-        Ok(Block { first, entries })
+        let row = Row::of(alloc, entries.as_slice());
+        Ok(Block { entries, row })
     }
 
     /// How many lows it has.
@@ -82,7 +79,7 @@ impl Block {
     }
 
     /// Whether the low at an index is above a key with this head.
-    fn is_above(&self, at: usize, start: u64, key: &Key) -> bool
+    pub(crate) fn is_above(&self, at: usize, start: u64, key: &Key) -> bool
         requires within { at < length self.now }
         requires start { start ≡ head key.now }
         requires bytes { IsBytes key.now }
@@ -92,20 +89,14 @@ impl Block {
         self.entries[at].is_above(start, key)
     }
 
-    /// Whether the first low is above a key with this head.
-    pub(crate) fn begins_above(&self, start: u64, key: &Key) -> bool
-        requires filled { 0 < length self.now }
-        requires start { start ≡ head key.now }
-        requires bytes { IsBytes key.now }
-        ensures { result ≡ is_below key.now (low_at self.now 0) }
+    /// The head of what stands in the first low behind these bytes, if it begins with them.
+    pub(crate) fn head_behind(&self, shared: &[u8]) -> Option<u64>
+        ensures { IfSome result (λ h. IsHeadBehind shared.now (low_at self.now 0) h) }
     {
-        if start < self.first {
-            return true;
+        match self.entries.as_slice().first() {
+            Some(entry) => entry.head_behind(shared),
+            None => None,
         }
-        if start > self.first {
-            return false;
-        }
-        self.is_above(0, start, key)
     }
 
     /// How many lows are not above a key with this head, where lows ascend.
@@ -114,8 +105,7 @@ impl Block {
         requires bytes { IsBytes key.now }
         ensures { IsCut (λ i. is_below key.now (low_at self.now i)) (length self.now) result }
     {
-        let mut from = 0;
-        let mut to = self.len();
+        let (mut from, mut to) = self.row.bounds(self.len(), key);
         while from < to {
             let middle = from + (to - from) / 2;
             if self.is_above(middle, start, key) {
@@ -134,9 +124,14 @@ impl Block {
         ensures err { OnErr result (self.new ≡ self.old) }
     {
         let _ = self.entries.as_slice().len();
+        let count = self.len();
         make_room(&mut self.entries)?;
+        let head = self.row.head(&entry);
         self.entries.insert(at, entry)?;
-        self.first = first_of(self.entries.as_slice());
+        self.row.insert(count, at, head);
+        if self.row.is_missing() {
+            self.row = Row::of(*self.entries.allocator(), self.entries.as_slice());
+        }
         Ok(())
     }
 
@@ -156,7 +151,7 @@ impl Block {
     {
         let _ = self.entries.as_slice().len();
         let _ = self.entries.remove(at);
-        self.first = first_of(self.entries.as_slice());
+        self.row.remove(at);
     }
 
     /// Takes off the upper half of the lows. What stays keeps no more room than it needs. A refusal
@@ -171,29 +166,9 @@ impl Block {
         let half = self.entries.as_slice().len() / 2;
         let entries = self.entries.split_off(half)?;
         self.entries.shrink_to_fit();
-        self.first = first_of(self.entries.as_slice());
-        let first = first_of(entries.as_slice());
-        Ok(Block { first, entries })
+        let alloc = *self.entries.allocator();
+        self.row = Row::of(alloc, self.entries.as_slice());
+        let row = Row::of(alloc, entries.as_slice());
+        Ok(Block { entries, row })
     }
-}
-
-// The head of the first low; 0 where there is none.
-fn first_of(entries: &[Entry]) -> u64
-    ensures { IsFirst result entries.now }
-{
-    match entries.first() {
-        Some(entry) => entry.head(),
-        None => 0,
-    }
-}
-
-// Makes room for one more low, and a few others.
-fn make_room(entries: &mut Vec<Entry>) -> Result<(), AllocError>
-    ensures items { entries.new.items ≡ entries.old.items }
-    ensures len { vec_len entries.new ≡ vec_len entries.old }
-{
-    if entries.len() == entries.capacity() {
-        entries.reserve_exact(STEP)?;
-    }
-    Ok(())
 }

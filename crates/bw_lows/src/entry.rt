@@ -1,12 +1,13 @@
 //! A low key with its page, in no more room than they take.
 
-ghost use Rattle.std.specs.Prelude.{◌≡◌, ◌≤◌, length, IfOk};
+ghost use Rattle.std.specs.Prelude.{◌≡◌, ◌≤◌, length, IfOk, IfSome};
 ghost use Rattle.bw_record.specs.Keys.{is_below, IsBytes};
 ghost use Rattle.bw_record.specs.Heads.{head};
 ghost use Rattle.bw_lows.specs.LowHeads.{order};
+ghost use Rattle.bw_lows.specs.LowRow.{IsHeadBehind};
 ghost use Rattle.bw_lows.specs.Packing.{eight_bytes};
 
-use bw_record::Key;
+use bw_record::{Key, behind, head_of};
 use std::alloc::{AllocError, Global};
 use std::cmp::Ordering;
 use std::marker::Model;
@@ -76,12 +77,21 @@ impl Entry {
         }
     }
 
-    /// The low's head.
-    pub(crate) fn head(&self) -> u64
-        ensures value { result ≡ head self.now.0 }
-        ensures bytes { IsBytes self.now.0 }
+    /// The head of what stands in the low behind these bytes, if it begins with them.
+    pub(crate) fn head_behind(&self, shared: &[u8]) -> Option<u64>
+        ensures { IfSome result (λ h. IsHeadBehind shared.now self.now.0 h) }
     {
-        self.first
+        if self.short {
+            let first = bytes_of(self.first);
+            head_behind(&first[..usize::from(self.count)], shared)
+        } else {
+            head_behind(self.whole.as_slice(), shared)
+        }
+    }
+
+    /// Whether the low has more than eight bytes, so that its head does not tell it.
+    pub(crate) fn is_long(&self) -> bool {
+        !self.short
     }
 
     /// The low's page.
@@ -131,6 +141,16 @@ fn bytes_of(x: u64) -> [u8; 8]
     ensures { result ≡ eight_bytes x }
 {
     x.to_be_bytes()
+}
+
+// The head of what stands behind these bytes in a low, if it begins with them.
+fn head_behind(low: &[u8], shared: &[u8]) -> Option<u64>
+    ensures { IfSome result (λ h. IsHeadBehind shared.now low.now h) }
+{
+    match behind(low, shared) {
+        Some(rest) => Some(head_of(rest)),
+        None => None,
+    }
 }
 
 // The key of these bytes.

@@ -5,13 +5,18 @@
 //! of at most eight bytes is told by its head, which is its first eight bytes as a number, and its
 //! length; it takes forty bytes, and none beside them. A longer one has a run of its own.
 //!
-//! A search halves the row of blocks, and then a block. It compares heads, and whole lows only where
-//! a head is the key's own: so lows with one head are halved as all others are.
+//! Lows that stand next to each other often begin with the same bytes, and their heads are all one
+//! then. So a block of longer lows has a row of other heads, from behind the bytes that its lows
+//! share, at eight bytes a low; and so have the first lows of all blocks.
+//!
+//! A search halves the row of the blocks' first lows, and then that of one block. It reads whole
+//! lows only where a head is the key's own, and halves these too; so it does where there is no row.
 #![tactic(auto)]
 
 mod block;
+mod blocks;
 mod entry;
 mod lows;
-mod place;
+mod row;
 
 pub use lows::LowIndex;

@@ -5,9 +5,8 @@ ghost use Rattle.std.specs.Bool.{OnTrue, OnFalse};
 ghost use Rattle.std.specs.Ordering.{eq_by_cmp};
 ghost use Rattle.bw_lows.specs.LowHeads.{Bytes, order, page_of_low, IsGreatestLow, HasNoLow, IsLeastLow, HasNoHigher};
 
-use crate::block::Block;
+use crate::blocks::Blocks;
 use crate::entry::Entry;
-use crate::place::{cut, place, take_out};
 use bw_record::Key;
 use std::alloc::{AllocError, Global};
 use std::marker::Model;
@@ -19,7 +18,7 @@ const MOST: usize = 256;
 /// Low keys with their pages.
 #[derive(Drop)]
 pub struct LowIndex {
-    blocks: Vec<Block>,
+    blocks: Blocks,
 }
 
 impl Model for LowIndex {
@@ -29,9 +28,9 @@ impl Model for LowIndex {
 
     ghost Value = { List (Bytes × ℕ) };
 
-    ghost view = { λ a. flat a.blocks.items };
+    ghost view = { λ a. flat a.blocks };
 
-    ghost invariant = { λ a. AreBlocks a.blocks.items };
+    ghost invariant = { λ a. AreBlocks a.blocks };
 }
 
 impl LowIndex {
@@ -40,7 +39,7 @@ impl LowIndex {
         ensures { result ≡ [] }
     {
         LowIndex {
-            blocks: Vec::new(alloc),
+            blocks: Blocks::new(alloc),
         }
     }
 
@@ -49,11 +48,11 @@ impl LowIndex {
         ensures some { IfSome result (λ p. IsGreatestLow (page_of_low self.now) key.now p) }
         ensures none { result ≡ None → HasNoLow (page_of_low self.now) key.now }
     {
-        let (at, within) = place(self.blocks.as_slice(), key);
+        let (at, within) = self.blocks.place(key);
         if within == 0 {
             return None;
         }
-        Some(self.blocks[at].page(within - 1))
+        Some(self.blocks.block(at).page(within - 1))
     }
 
     /// The least low that is above a key, if there is one.
@@ -61,16 +60,16 @@ impl LowIndex {
         ensures some { IfSome result (λ low. IsLeastLow (page_of_low self.now) key.now low) }
         ensures none { result ≡ None → HasNoHigher (page_of_low self.now) key.now }
     {
-        let (at, within) = place(self.blocks.as_slice(), key);
+        let (at, within) = self.blocks.place(key);
         if at >= self.blocks.len() {
             return None;
         }
-        let block = &self.blocks[at];
+        let block = self.blocks.block(at);
         if within < block.len() {
             return Some(block.low(within));
         }
         if at + 1 < self.blocks.len() {
-            return Some(self.blocks[at + 1].low(0));
+            return Some(self.blocks.block(at + 1).low(0));
         }
         None
     }
@@ -95,15 +94,14 @@ impl LowIndex {
         ensures same { OnFalse result (self.new ≡ self.old) }
         ensures absent { OnFalse result (page_of_low self.old low.now ≡ None) }
     {
-        let (at, within) = place(self.blocks.as_slice(), low);
+        let (at, within) = self.blocks.place(low);
         if within == 0 {
             return false;
         }
-        let block = &mut self.blocks[at];
-        if !block.is_at(within - 1, low) {
+        if !self.blocks.block(at).is_at(within - 1, low) {
             return false;
         }
-        block.set_page(within - 1, page);
+        self.blocks.set_page(at, within - 1, page);
         true
     }
 
@@ -111,11 +109,11 @@ impl LowIndex {
     fn make_room(&mut self, low: &Key) -> Result<(), AllocError>
         ensures { self.new ≡ self.old }
     {
-        let (at, _) = place(self.blocks.as_slice(), low);
-        if at >= self.blocks.len() || self.blocks[at].len() < MOST {
+        let (at, _) = self.blocks.place(low);
+        if at >= self.blocks.len() || self.blocks.block(at).len() < MOST {
             return Ok(());
         }
-        cut(&mut self.blocks, at)
+        self.blocks.cut(at)
     }
 
     // Adds a low that has no page yet.
@@ -125,14 +123,12 @@ impl LowIndex {
             ≡ (if eq_by_cmp order q low.now then Some page else page_of_low self.old q)) }
         ensures unchanged { OnErr result (self.new ≡ self.old) }
     {
-        let alloc = *self.blocks.allocator();
-        let entry = Entry::of(alloc, low, page)?;
-        let (at, within) = place(self.blocks.as_slice(), low);
+        let entry = Entry::of(self.blocks.allocator(), low, page)?;
+        let (at, within) = self.blocks.place(low);
         if at >= self.blocks.len() {
-            self.blocks.push(Block::of(alloc, entry)?)?;
-            return Ok(());
+            return self.blocks.begin(entry);
         }
-        self.blocks[at].insert(within, entry)
+        self.blocks.insert(at, within, entry)
     }
 
     /// Drops a low. No memory is taken.
@@ -140,13 +136,13 @@ impl LowIndex {
         ensures { (q : Bytes) → page_of_low self.new q
             ≡ (if eq_by_cmp order q low.now then None else page_of_low self.old q) }
     {
-        let (at, within) = place(self.blocks.as_slice(), low);
+        let (at, within) = self.blocks.place(low);
         if within == 0 {
             return;
         }
-        if !self.blocks[at].is_at(within - 1, low) {
+        if !self.blocks.block(at).is_at(within - 1, low) {
             return;
         }
-        take_out(&mut self.blocks, at, within - 1);
+        self.blocks.take_out(at, within - 1);
     }
 }

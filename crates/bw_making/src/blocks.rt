@@ -1,15 +1,15 @@
 //! The blocks of one record.
 
-ghost use Rattle.std.specs.Prelude.{◌≡◌};
+ghost use Rattle.std.specs.Prelude.{◌≡◌, IfOk};
 ghost use Rattle.bw_buffer.specs.Filling.{frame_of};
 ghost use Rattle.bw_making.specs.Adding.{here_for, planned};
 ghost use Rattle.bw_making.specs.Planning.{listed};
 
 use bw_buffer::Buffer;
 use bw_codec::{Block, Leaf, Ops, Place, Record};
+use std::alloc::{AllocError, Global};
 
-/// The blocks of one record: its Delta, and a Split where its page is cut. They take no memory of
-/// their own.
+/// The blocks of one record: its Delta, and a Split where its page is cut.
 #[derive(Drop)]
 pub enum Blocks {
     One([Block; 1]),
@@ -27,24 +27,32 @@ impl Blocks {
     }
 }
 
-/// The blocks of a record of a page. No memory is taken.
-pub fn blocks_of(page: u32, back: Place, here: Place, item: &Record, upper: Option<Leaf>) -> Blocks
-    ensures { listed result ≡ planned page back here item.now upper }
+/// The blocks of a record of a page. It takes memory for the record, whose refusal is the only
+/// error.
+pub fn blocks_of(
+    alloc: Global,
+    page: u32,
+    back: Place,
+    here: Place,
+    item: &Record,
+    upper: Option<Leaf>,
+) -> Result<Blocks, AllocError>
+    ensures { IfOk result (λ blocks. listed blocks ≡ planned page back here item.now upper) }
 {
     let delta = Block::Delta {
         page,
         back,
-        ops: Ops::one(item.copy()),
+        ops: Ops::one(alloc, item)?,
     };
     let Some(upper) = upper else {
-        return Blocks::One([delta]);
+        return Ok(Blocks::One([delta]));
     };
     let split = Block::Split {
         page,
         back: here,
         upper,
     };
-    Blocks::Two([delta, split])
+    Ok(Blocks::Two([delta, split]))
 }
 
 /// Where the Delta of a record of this page goes: into the block that it joins, or to the end.

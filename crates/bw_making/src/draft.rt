@@ -78,6 +78,7 @@ impl Draft {
         ensures { OnOk result
             (Added self.old making.now newest.now item.now page upper self.new) }
     {
+        let alloc = *self.blocks.allocator();
         let back = self.back(newest, page);
         let joins = self.open(making, page);
         let here = place_of(making, joins, self.count);
@@ -87,7 +88,8 @@ impl Draft {
         let count = count_behind(&upper, count);
         self.rows.reserve(1)?;
         self.blocks.reserve(2)?;
-        push_blocks(&mut self.blocks, blocks_of(page, back, here, item, upper));
+        let blocks = blocks_of(alloc, page, back, here, item, upper)?;
+        push_blocks(&mut self.blocks, blocks);
         self.rows.push_reserved(row);
         self.count = count;
         Ok(())

@@ -15,5 +15,5 @@ mod tails;
 pub use blocks::{Blocks, blocks_of, place_for};
 pub use draft::{Draft, Row};
 pub use filing::file_all;
-pub use sharing::{apply_entries, apply_entry, copy_of, guessed, steps_in};
+pub use sharing::{apply_entries, apply_entry, apply_found, copy_of, guessed, steps_in};
 pub use tails::{makes, tail_of};

@@ -3,6 +3,7 @@
 ghost use Rattle.std.specs.Prelude.{◌≡◌, ◌<◌, Err, length, IfOk, OnOk, OnErr};
 ghost use Rattle.bw_record.specs.Record.{key_of};
 ghost use Rattle.bw_history.specs.Entries.{records as records_of};
+ghost use Rattle.bw_page.specs.Aim.{IsFound};
 ghost use Rattle.bw_page.specs.Batch.{AreHere, SomeIsSpent, steps_of};
 ghost use Rattle.bw_page.specs.Leaves.{directed_at, HasPages};
 ghost use Rattle.bw_page.specs.Shown.{IsHere, IsSpent, after_record, run};
@@ -30,6 +31,27 @@ pub fn apply_entry(
     ensures unchanged { OnErr result (leaves.new ≡ leaves.old) }
 {
     leaves.apply_on(page, entry.item())
+}
+
+/// The same, where the search for the record's key on that page ended so.
+pub fn apply_found(
+    leaves: &mut Leaves,
+    page: u32,
+    found: Result<usize, usize>,
+    _item: &Record,
+    entry: &PackedEntry,
+) -> Result<Applied, ApplyError>
+    requires same { entry.now.item ≡ _item.now }
+    requires here { IsHere (key_of _item.now) leaves.old }
+    requires page { page ≡ directed_at leaves.old.leaves _item.now }
+    requires found { IsFound leaves.old.leaves (key_of _item.now) found }
+    ensures ok { OnOk result (leaves.new ≡ after_record leaves.old _item.now) }
+    ensures evicted { leaves.new.evicted ≡ leaves.old.evicted }
+    ensures spent { IsSpent leaves.old _item.now → result ≡ Err ApplyError.Spent }
+    ensures only_spent { result ≡ Err ApplyError.Spent → IsSpent leaves.old _item.now }
+    ensures unchanged { OnErr result (leaves.new ≡ leaves.old) }
+{
+    leaves.apply_found(page, found, entry.item())
 }
 
 /// What each of these records does, one after the other: they stand in entries.

@@ -10,7 +10,7 @@ ghost use Rattle.bw_making.specs.Share.{ops_at, ops_of};
 ghost use Rattle.bw_making.specs.Tails.{is_made, changed_by, made_by};
 
 use bw_buffer::{Buffer, Mark};
-use bw_codec::{Block, Record};
+use bw_codec::{Block, Packed};
 use std::alloc::{AllocError, Global};
 
 /// Whether the frame makes a page or cuts it. It costs a look at each block, and takes no memory.
@@ -49,7 +49,7 @@ fn mark_changes(mark: Mark, page: u32) -> bool
 
 /// The records that the frame has of a page, in order. It costs a look at each block, and a reading
 /// of the page's Deltas; where there is none, no memory is taken.
-pub fn tail_of(alloc: Global, making: &Buffer, page: u32) -> Result<Vec<Record>, AllocError>
+pub fn tail_of(alloc: Global, making: &Buffer, page: u32) -> Result<Vec<Packed>, AllocError>
     ensures { IfOk result (λ records. records.items ≡ ops_at page making.now.blocks) }
 {
     let mut records = Vec::new(alloc);
@@ -61,7 +61,7 @@ pub fn tail_of(alloc: Global, making: &Buffer, page: u32) -> Result<Vec<Record>,
 
 // Adds the records that one block has of the page.
 fn add_block(
-    records: &mut Vec<Record>,
+    records: &mut Vec<Packed>,
     making: &Buffer,
     i: u32,
     page: u32,
@@ -78,7 +78,7 @@ fn add_block(
 }
 
 // The same of a block that was read.
-fn add_ops(records: &mut Vec<Record>, block: &Block, page: u32) -> Result<(), AllocError>
+fn add_ops(records: &mut Vec<Packed>, block: &Block, page: u32) -> Result<(), AllocError>
     ensures { OnOk result (records.new.items ≡ records.old.items ++ ops_of page block.now) }
 {
     match block {
@@ -95,11 +95,11 @@ fn add_ops(records: &mut Vec<Record>, block: &Block, page: u32) -> Result<(), Al
 }
 
 // Adds copies of all these records.
-fn add_all(records: &mut Vec<Record>, ops: &[Record]) -> Result<(), AllocError>
+fn add_all(records: &mut Vec<Packed>, ops: &[Packed]) -> Result<(), AllocError>
     ensures { OnOk result (records.new.items ≡ records.old.items ++ ops.now) }
 {
     for item in ops {
-        records.push(item.copy())?;
+        records.push(item.copy()?)?;
     }
     Ok(())
 }

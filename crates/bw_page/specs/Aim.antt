@@ -1,12 +1,18 @@
 -- Where a record changes leaves.
 
-use Rattle.std.specs.Prelude.{ℕ, ◌+◌, ◌<◌, ◌≡◌, Result, length}
+use Rattle.std.specs.Prelude.{ℕ, ◌+◌, ◌<◌, ◌≡◌, List, Result, length}
 use Rattle.bw_record.specs.Lawful.{IsOp}
 use Rattle.bw_record.specs.Record.{key_of}
+use Rattle.bw_record.specs.declared.leaf.Leaf.{Leaf}
 use Rattle.bw_record.specs.declared.record.Record.{Record}
+use Rattle.bw_leaf.specs.Changed.{Bytes}
 use Rattle.bw_page.specs.Leaves.{home, result_of}
 use Rattle.bw_page.specs.Shown.{Shown, IsHere}
 use Rattle.bw_leaf.specs.Seek.{seek_of, IsWithin}
+
+-- a search for a key among the pairs of its page ended so
+abbrev pub IsFound : List Leaf → Bytes → Result ℕ ℕ → Type 0
+IsFound leaves key found = (found ≡ seek_of key (home key leaves).pairs) × IsWithin (length (home key leaves).pairs) found
 
 -- the leaf that a record changes is in memory, at this index; it would have so many pairs, and the search for the
 -- record's key ended so in it

@@ -3,7 +3,7 @@
 //! A record changes the page with the greatest low key not above its key. A page that then has too
 //! many pairs is cut in two, and its upper part is a new page behind all others, so no page moves.
 
-ghost use Rattle.std.specs.Prelude.{ℕ, ◌≡◌, ◌==◌, ◌<◌, ◌≤◌, ◌+◌, ◌-◌, ◌^◌, [], ◌∷◌, length, true, false, Some, None, is_some, if◌then◌else◌, IfSome, IfOk, OnOk, OnErr, IsTrue};
+ghost use Rattle.std.specs.Prelude.{ℕ, ◌≡◌, ◌==◌, ◌<◌, ◌≤◌, ◌+◌, ◌-◌, ◌^◌, [], ◌∷◌, length, nat_lt, true, false, Some, None, is_some, if◌then◌else◌, IfSome, IfOk, OnOk, OnErr, IsTrue};
 ghost use Rattle.std.specs.Option.{option_copied};
 ghost use Rattle.std.specs.FinMap as finite;
 ghost use Rattle.std.specs.FinMap.Entries.{find};
@@ -12,9 +12,9 @@ ghost use Rattle.bw_codec.specs.Grammar.{block_bytes};
 ghost use Rattle.bw_record.specs.Record.{key_of};
 ghost use Rattle.bw_codec.specs.declared.block.Block.TheVariants.{Base};
 ghost use Rattle.bw_leaf.specs.Changed.{order, empty_leaf, changed_map};
-ghost use Rattle.bw_page.specs.Leaves.{home, leaf_at, directed_at, AreLeaves, union};
+ghost use Rattle.bw_page.specs.Leaves.{home, leaf_at, directed_at, result_of, AreLeaves, union};
 ghost use Rattle.bw_page.specs.Shown.{TakesKey, IsSpent, after_record, is_evicted_page, leaf_here, IsHere, applied_by};
-ghost use Rattle.bw_page.specs.Aim.{IsAim};
+ghost use Rattle.bw_page.specs.Aim.{IsAim, IsFound};
 ghost use Rattle.bw_page.specs.Journal.{displaced_by};
 ghost use Rattle.bw_leaf.specs.Seek.{back_of};
 ghost use Rattle.bw_page.specs.Ahead.{HasNoLowAbove, IsNextLow};
@@ -30,8 +30,8 @@ use crate::index::{copy_all, index_of};
 use crate::journal::Displaced;
 use crate::seats::Seats;
 pub use batch::{HasRecord, Step};
-use bw_codec::{Key, Leaf, Packed, Value};
-use bw_leaf::{count_packed, empty_page, find_key};
+use bw_codec::{Key, Leaf, Packed, Record, Value};
+use bw_leaf::{count_found, count_packed, empty_page, find_key};
 use bw_lows::LowIndex;
 use std::alloc::{AllocError, Global};
 use std::marker::Model;
@@ -259,8 +259,55 @@ impl Leaves {
         ensures only_spent { result ≡ Err ApplyError.Spent → IsSpent self.old change.now }
         ensures unchanged { OnErr result (self.new ≡ self.old) }
     {
-        let (at, count, found) = self.aim(page, change);
+        let found = self.place_on(page, change.key());
+        self.apply_found(page, found, change)
+    }
+
+    /// The same, where the search for the record's key on that page ended so: it costs no search at
+    /// all.
+    pub fn apply_found(
+        &mut self,
+        page: u32,
+        found: Result<usize, usize>,
+        change: &Packed,
+    ) -> Result<Applied, ApplyError>
+        requires here { IsHere (key_of change.now) self.old }
+        requires page { page ≡ directed_at self.old.leaves change.now }
+        requires found { IsFound self.old.leaves (key_of change.now) found }
+        ensures ok { OnOk result (self.new ≡ after_record self.old change.now) }
+        ensures plain { OnOk result (union self.new.leaves
+            ≡ changed_map (union self.old.leaves) change.now) }
+
+        ensures applied { IfOk result (λ a. a ≡ applied_by self.old change.now) }
+        ensures evicted { self.new.evicted ≡ self.old.evicted }
+
+        // The page number is looked for before memory is.
+        ensures spent { IsSpent self.old change.now → result ≡ Err ApplyError.Spent }
+        ensures only_spent { result ≡ Err ApplyError.Spent → IsSpent self.old change.now }
+        ensures unchanged { OnErr result (self.new ≡ self.old) }
+    {
+        let (at, count) = self.aim_found(page, found, change);
         self.apply_at(at, count, found, change)
+    }
+
+    /// Where a search for a key on its page ends, which is known.
+    pub fn place_on(&self, page: u32, key: &[u8]) -> Result<usize, usize>
+        requires here { IsHere key.now self.now }
+        requires page { page ≡ (home key.now self.now.leaves).page }
+        ensures { IsFound self.now.leaves key.now result }
+    {
+        find_key(&self.home_on(page, key).pairs, key)
+    }
+
+    /// Whether a record cuts its page in two, where the search for its key there ended so.
+    pub fn is_cut_by(&self, page: u32, found: Result<usize, usize>, item: &Record) -> bool
+        requires here { IsHere (key_of item.now) self.now }
+        requires page { page ≡ directed_at self.now.leaves item.now }
+        requires found { IsFound self.now.leaves (key_of item.now) found }
+        ensures { result ≡ nat_lt self.now.m (length (result_of self.now.leaves item.now).pairs) }
+    {
+        let leaf = self.home_on(page, item.key().as_slice());
+        usize::from(self.m) < count_found(leaf.pairs.as_slice(), found, item)
     }
 
     /// Where the leaf of this page stands, which the record changes, how many pairs it would have,
@@ -270,11 +317,21 @@ impl Leaves {
         requires page { page ≡ directed_at self.now.leaves change.now }
         ensures { IsAim self.now change.now result.0 result.1 result.2 }
     {
+        let found = self.place_on(page, change.key());
+        let (at, count) = self.aim_found(page, found, change);
+        (at, count, found)
+    }
+
+    /// The same, where the search ended so.
+    fn aim_found(&self, page: u32, found: Result<usize, usize>, change: &Packed) -> (usize, usize)
+        requires here { IsHere (key_of change.now) self.now }
+        requires page { page ≡ directed_at self.now.leaves change.now }
+        requires found { IsFound self.now.leaves (key_of change.now) found }
+        ensures { IsAim self.now change.now result.0 result.1 found }
+    {
         let leaf = self.home_on(page, change.key());
-        let pairs = leaf.pairs.as_slice();
-        let found = find_key(&leaf.pairs, change.key());
-        let count = count_packed(pairs, found, change);
-        (leaf.page as usize - 1, count, found)
+        let count = count_packed(leaf.pairs.as_slice(), found, change);
+        (leaf.page as usize - 1, count)
     }
 
     /// Applies a record where `aim` says.

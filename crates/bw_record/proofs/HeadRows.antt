@@ -1,6 +1,6 @@
 -- Heads tell an order of keys, and a row of them goes along with its pairs.
 
-use Rattle.std.proofs.Common.{◌≡◌, ◌≢◌, ℕ, zero, suc, ◌*◌, ◌^◌, ◌<◌, ◌≤◌, inl, inr, List, [], ◌∷◌, ◌++◌, length, take, drop, map, insert, remove}
+use Rattle.std.proofs.Common.{◌≡◌, ◌≢◌, ℕ, zero, suc, ◌*◌, ◌^◌, ◌<◌, ◌≤◌, false, inl, inr, get_or, List, [], ◌∷◌, ◌++◌, length, take, drop, map, insert, remove}
 use Rattle.std.proofs.Common.{refl, sym, ap, ◌∙◌, subst, arith, Less, Equal, Greater}
 use Rattle.std.proofs.lemmas.List.{length-map, map-append, take-map, drop-map, map-set}
 use Rattle.std.proofs.Math.Nat.{mul-le-mul_right}
@@ -14,7 +14,7 @@ use Rattle.std.specs.Cmp.Lexicographic.{slice_cmp}
 use Rattle.byteorder.specs.Endian.{big_from}
 use Rattle.byteorder.specs.Numbers.{big_from-cons, big_from-lt}
 use Rattle.bw_record.specs.Keys.{is_below, IsBytes}
-use Rattle.bw_record.specs.Heads.{PairList, head, heads, BeginsWith, Share, IsRow, AreBelow}
+use Rattle.bw_record.specs.Heads.{PairList, head, heads, BeginsWith, Share, IsRow, AreBelow, BeginAbove}
 
 -- ---- the order
 
@@ -39,7 +39,7 @@ below_by_head (suc n) (x ∷ xs) (y ∷ ys) fits h =
     ] (ranked x y (nat_cmp x y) refl)
 
 -- what is the same in front of two keys does not change their order
-below_behind : (s a b : List ℕ) → IsTrue (is_below a b) → IsTrue (is_below (s ++ a) (s ++ b))
+pub below_behind : (s a b : List ℕ) → IsTrue (is_below a b) → IsTrue (is_below (s ++ a) (s ++ b))
 below_behind [] a b below = below
 below_behind (x ∷ s) a b below =
     elim (nat_cmp x x) as (λ o. MatchOrdering o (x < x) (x ≡ x) (x < x) → IsTrue (is_lt (ordering_then o (slice_cmp nat_cmp (s ++ a) (s ++ b))))) [
@@ -49,7 +49,7 @@ below_behind (x ∷ s) a b below =
     ] (ranked x x (nat_cmp x x) refl)
 
 -- a key above bytes that it does not begin with is above each key that does
-above_beginning : (s a key : List ℕ) → IsTrue (is_below s key) → ((rest : List ℕ) → key ≢ s ++ rest) → IsTrue (is_below (s ++ a) key)
+pub above_beginning : (s a key : List ℕ) → IsTrue (is_below s key) → ((rest : List ℕ) → key ≢ s ++ rest) → IsTrue (is_below (s ++ a) key)
 above_beginning [] a key below other = absurd (other key refl)
 above_beginning (x ∷ s) a [] below other = cc
 above_beginning (x ∷ s) a (y ∷ ys) below other =
@@ -60,13 +60,41 @@ above_beginning (x ∷ s) a (y ∷ ys) below other =
       | Greater ↦ λ more under. cc
     ] (ranked x y (nat_cmp x y) refl) below
 
+same_first : (x y : ℕ) (s ys : List ℕ) → y ≡ x → is_below (x ∷ s) (y ∷ ys) ≡ false → is_below s ys ≡ false
+same_first x y s ys same up =
+    elim (nat_cmp x y) as (λ o. MatchOrdering o (x < y) (x ≡ y) (y < x) → is_lt (ordering_then o (slice_cmp nat_cmp s ys)) ≡ false
+    → is_below s ys ≡ false) [
+      | Less ↦ λ less not. absurd (omega (arith, same))
+      | Equal ↦ λ equal not. not
+      | Greater ↦ λ more not. absurd (omega (arith, same))
+    ] (ranked x y (nat_cmp x y) refl) up
+
+greater_first : {X : Type 0} (x y : ℕ) (s ys : List ℕ) → x < y → is_below (x ∷ s) (y ∷ ys) ≡ false → X
+greater_first {X = X} x y s ys under up =
+    elim (nat_cmp x y) as (λ o. MatchOrdering o (x < y) (x ≡ y) (y < x) → is_lt (ordering_then o (slice_cmp nat_cmp s ys)) ≡ false → X) [
+      | Less ↦ λ less not. cc
+      | Equal ↦ λ equal not. absurd (omega arith)
+      | Greater ↦ λ more not. absurd (omega arith)
+    ] (ranked x y (nat_cmp x y) refl) up
+
+-- a key that does not begin with bytes, and is not above them, is below each key that begins with them
+below_beginning : (s a key : List ℕ) → is_below s key ≡ false → ((rest : List ℕ) → key ≢ s ++ rest) → IsTrue (is_below key (s ++ a))
+below_beginning [] a key up other = absurd (other key refl)
+below_beginning (x ∷ s) a [] up other = refl
+below_beginning (x ∷ s) a (y ∷ ys) up other =
+    elim (nat_cmp y x) as (λ o. MatchOrdering o (y < x) (y ≡ x) (x < y) → IsTrue (is_lt (ordering_then o (slice_cmp nat_cmp ys (s ++ a))))) [
+      | Less ↦ λ less. refl
+      | Equal ↦ λ same. below_beginning s a ys (same_first x y s ys same up) (λ rest e. other rest cc)
+      | Greater ↦ λ more. greater_first x y s ys more up
+    ] (ranked y x (nat_cmp y x) refl)
+
 all_below : (s rest : List ℕ) → IsBytes rest → (pairs : PairList) (n : ℕ) → Share s pairs
     → AllByRecursion (λ h. h < head rest) (take n (heads (length s) pairs)) → AreBelow (s ++ rest) (take n pairs)
 all_below s rest fits [] zero share all = tt
 all_below s rest fits [] (suc n) share all = tt
 all_below s rest fits (p ∷ ps) zero share all = tt
 all_below s rest fits (p ∷ ps) (suc n) share all = (
-  subst (λ k. IsTrue (is_below k (s ++ rest))) (sym share.0)
+  subst (λ k. IsTrue (is_below k (s ++ rest))) (sym share.0.0)
       (below_behind s (drop (length s) p.0) rest (below_by_head 8 (drop (length s) p.0) rest fits all.0)),
   all_below s rest fits ps n share.1 all.1,
 )
@@ -88,7 +116,7 @@ all_above s key below other [] zero share = tt
 all_above s key below other [] (suc n) share = tt
 all_above s key below other (p ∷ ps) zero share = tt
 all_above s key below other (p ∷ ps) (suc n) share = (
-  subst (λ k. IsTrue (is_below k key)) (sym share.0) (above_beginning s (drop (length s) p.0) key below other),
+  subst (λ k. IsTrue (is_below k key)) (sym share.0.0) (above_beginning s (drop (length s) p.0) key below other),
   all_above s key below other ps n share.1,
 )
 
@@ -103,13 +131,54 @@ skipped_all shared key row pairs (inr whole) below other = (
   all_above shared key below other pairs (length row) whole.0,
 )
 
+above_at : (s rest : List ℕ) (pairs : PairList) (at : ℕ) → Share s pairs → at < length (heads (length s) pairs)
+    → head rest < get_or (heads (length s) pairs) at 0 → BeginAbove (s ++ rest) (drop at pairs)
+above_at s rest [] at share inside above = absurd (omega arith)
+above_at s rest (p ∷ ps) zero share inside above =
+    subst (λ k. IsTrue (is_below (s ++ rest) k)) (sym share.0.0)
+    (below_behind s rest (drop (length s) p.0) (below_by_head 8 rest (drop (length s) p.0) share.0.1 above))
+above_at s rest (p ∷ ps) (suc at) share inside above = above_at s rest ps at share.1 (omega arith) above
+
+-- the key begins with the bytes that are shared, and its rest has a head below the one at an index
+pub skip_above : (shared rest row : List ℕ) (pairs : PairList) (at : ℕ) → IsRow shared row pairs → at < length row
+    → head rest < get_or row at 0 → BeginAbove (shared ++ rest) (drop at pairs)
+skip_above shared rest row pairs at (inl missing) inside above = absurd (omega (arith, ap length missing))
+skip_above shared rest row pairs at (inr whole) inside above =
+    above_at shared rest pairs at whole.0 (subst (λ (r : List ℕ). at < length r) whole.1 inside)
+    (subst (λ (r : List ℕ). head rest < get_or r at 0) whole.1 above)
+
+-- the key does not begin with the bytes that are shared, and is below them
+pub all_skip_above : (shared key row : List ℕ) (pairs : PairList) → IsRow shared row pairs → 1 ≤ length row → is_below shared key ≡ false
+    → ((rest : List ℕ) → key ≢ shared ++ rest) → BeginAbove key pairs
+all_skip_above shared key row pairs (inl missing) some up other = absurd (omega (arith, ap length missing))
+all_skip_above shared key row [] (inr whole) some up other = absurd (omega (arith, ap length whole.1))
+all_skip_above shared key row (p ∷ ps) (inr whole) some up other =
+    subst (λ k. IsTrue (is_below key k)) (sym whole.0.0.0) (below_beginning shared (drop (length shared) p.0) key up other)
+
 -- ---- what keys share
 
 pub rest_is : (shared key rest : List ℕ) → key ≡ shared ++ rest → drop (length shared) key ≡ rest
 rest_is shared key rest e = ap (drop (length shared)) e ∙ drop-append_seam shared rest
 
-pub begins : (shared key rest : List ℕ) → key ≡ shared ++ rest → BeginsWith shared key
-begins shared key rest e = e ∙ ap (λ (r : List ℕ). shared ++ r) (sym (rest_is shared key rest e))
+pub begins : (shared key rest : List ℕ) → key ≡ shared ++ rest → IsBytes rest → BeginsWith shared key × IsBytes (drop (length shared) key)
+begins shared key rest e fits = (
+  e ∙ ap (λ (r : List ℕ). shared ++ r) (sym (rest_is shared key rest e)),
+  subst IsBytes (sym (rest_is shared key rest e)) fits,
+)
+
+-- one more pair from the front
+pub share_more : (s : List ℕ) (pairs : PairList) (i : ℕ) (p : List ℕ × List ℕ) → i < length pairs → p ≡ get_or pairs i p
+    → Share s (take i pairs) → BeginsWith s p.0 × IsBytes (drop (length s) p.0) → Share s (take (suc i) pairs)
+share_more s [] i p inside is share one = absurd (omega arith)
+share_more s (q ∷ qs) zero p inside is share one =
+    (subst (λ (r : List ℕ × List ℕ). BeginsWith s r.0 × IsBytes (drop (length s) r.0)) is one, tt)
+share_more s (q ∷ qs) (suc i) p inside is share one = (share.0, share_more s qs i p (omega arith) is share.1 one)
+
+pub heads_more : (skip : ℕ) (pairs : PairList) (i : ℕ) (p : List ℕ × List ℕ) → i < length pairs → p ≡ get_or pairs i p
+    → heads skip (take i pairs) ++ head (drop skip p.0) ∷ [] ≡ heads skip (take (suc i) pairs)
+heads_more skip [] i p inside is = absurd (omega arith)
+heads_more skip (q ∷ qs) zero p inside is = ap (λ (r : List ℕ × List ℕ). head (drop skip r.0) ∷ []) is
+heads_more skip (q ∷ qs) (suc i) p inside is = ap (λ (l : List ℕ). head (drop skip q.0) ∷ l) (heads_more skip qs i p (omega arith) is)
 
 share_append : (s : List ℕ) (xs ys : PairList) → Share s xs → Share s ys → Share s (xs ++ ys)
 share_append s [] ys front back = back
@@ -125,7 +194,7 @@ share_drop s zero pairs share = share
 share_drop s (suc n) [] share = tt
 share_drop s (suc n) (p ∷ ps) share = share_drop s n ps share.1
 
-share_set : (s : List ℕ) (pairs : PairList) (at : ℕ) (k v : List ℕ) → BeginsWith s k → Share s pairs → Share s (slice_set pairs at (k, v))
+share_set : (s : List ℕ) (pairs : PairList) (at : ℕ) (k v : List ℕ) → BeginsWith s k × IsBytes (drop (length s) k) → Share s pairs → Share s (slice_set pairs at (k, v))
 share_set s [] at k v one share = share
 share_set s (p ∷ ps) zero k v one share = (one, share.1)
 share_set s (p ∷ ps) (suc at) k v one share = (share.0, share_set s ps at k v one share.1)
@@ -149,12 +218,12 @@ heads_inserted skip row pairs at k v e =
     ∙ sym (map-append (λ p. head (drop skip p.0)) (take at pairs) ((k, v) ∷ drop at pairs))
 
 pub row_inserted : (shared row : List ℕ) (pairs : PairList) (at : ℕ) (k v rest : List ℕ) → IsRow shared row pairs
-    → length row ≡ length pairs → k ≡ shared ++ rest → IsRow shared (insert row at (head rest)) (insert pairs at (k, v))
-row_inserted shared row pairs at k v rest is long e =
+    → length row ≡ length pairs → k ≡ shared ++ rest → IsBytes rest → IsRow shared (insert row at (head rest)) (insert pairs at (k, v))
+row_inserted shared row pairs at k v rest is long e fits =
     let whole : Share shared pairs × (row ≡ heads (length shared) pairs) = whole_row shared row pairs is long in
     inr (
       share_append shared (take at pairs) ((k, v) ∷ drop at pairs) (share_take shared at pairs whole.0)
-          (begins shared k rest e, share_drop shared at pairs whole.0),
+          (begins shared k rest e fits, share_drop shared at pairs whole.0),
       ap (λ (r : List ℕ). insert row at (head r)) (sym (rest_is shared k rest e)) ∙ heads_inserted (length shared) row pairs at k v whole.1,
     )
 
@@ -164,11 +233,11 @@ heads_removed skip pairs at =
     ∙ ap (λ (r : List ℕ). map (λ p. head (drop skip p.0)) (take at pairs) ++ r) (drop-map (λ p. head (drop skip p.0)) (suc at) pairs)
     ∙ sym (map-append (λ p. head (drop skip p.0)) (take at pairs) (drop (suc at) pairs))
 
-pub row_set : (shared row : List ℕ) (pairs : PairList) (at : ℕ) (k v rest : List ℕ) → IsRow shared row pairs → k ≡ shared ++ rest
+pub row_set : (shared row : List ℕ) (pairs : PairList) (at : ℕ) (k v rest : List ℕ) → IsRow shared row pairs → k ≡ shared ++ rest → IsBytes rest
     → IsRow shared (slice_set row at (head rest)) (slice_set pairs at (k, v))
-row_set shared row pairs at k v rest (inl missing) e = inl (ap (λ (r : List ℕ). slice_set r at (head rest)) missing)
-row_set shared row pairs at k v rest (inr whole) e = inr (
-  share_set shared pairs at k v (begins shared k rest e) whole.0,
+row_set shared row pairs at k v rest (inl missing) e fits = inl (ap (λ (r : List ℕ). slice_set r at (head rest)) missing)
+row_set shared row pairs at k v rest (inr whole) e fits = inr (
+  share_set shared pairs at k v (begins shared k rest e fits) whole.0,
   ap (λ (r : List ℕ). slice_set row at (head r)) (sym (rest_is shared k rest e))
       ∙ ap (λ (r : List ℕ). slice_set r at (head (drop (length shared) k))) whole.1
       ∙ sym (map-set (λ p. head (drop (length shared) p.0)) pairs at (k, v)),

@@ -1,10 +1,10 @@
 -- Heads of keys, beside which a search seldom reads whole keys.
 
-use Rattle.std.specs.Prelude.{ℕ, ◌≡◌, ◌⊎◌, List, [], ◌++◌, map, drop, length}
+use Rattle.std.specs.Prelude.{ℕ, ◌≡◌, ◌⊎◌, List, [], ◌∷◌, ◌++◌, map, drop, length}
 use Rattle.std.specs.List.{AllByRecursion}
 use Rattle.std.specs.Bool.{IsTrue}
 use Rattle.byteorder.specs.Endian.{big_number}
-use Rattle.bw_record.specs.Keys.{is_below}
+use Rattle.bw_record.specs.Keys.{is_below, IsBytes}
 
 -- the first eight bytes of a key as one number, the highest first; for those that it lacks stand zeros
 abbrev pub head : List ℕ → ℕ
@@ -17,9 +17,9 @@ PairList = List (List ℕ × List ℕ)
 abbrev pub BeginsWith : List ℕ → List ℕ → Type 0
 BeginsWith shared key = key ≡ shared ++ drop (length shared) key
 
--- each key begins with these bytes
+-- each key begins with these bytes, and bytes stand behind them
 abbrev pub Share : List ℕ → PairList → Type 0
-Share shared pairs = AllByRecursion (λ p. BeginsWith shared p.0) pairs
+Share shared pairs = AllByRecursion (λ p. BeginsWith shared p.0 × IsBytes (drop (length shared) p.0)) pairs
 
 -- the heads of keys from behind so many bytes
 abbrev pub heads : ℕ → PairList → List ℕ
@@ -32,3 +32,8 @@ IsRow shared row pairs = (row ≡ []) ⊎ (Share shared pairs × (row ≡ heads 
 -- the key of each of these pairs is below another
 abbrev pub AreBelow : List ℕ → PairList → Type 0
 AreBelow key pairs = AllByRecursion (λ p. IsTrue (is_below p.0 key)) pairs
+
+-- there are pairs, and the key of the first is above another
+abbrev pub BeginAbove : List ℕ → PairList → Type 0
+BeginAbove key [] = ⊥
+BeginAbove key (p ∷ ps) = IsTrue (is_below key p.0)

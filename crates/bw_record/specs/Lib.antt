@@ -5,6 +5,5 @@ pub mod Record
 pub mod Lawful
 pub mod Heads
 -- what private functions say
-pub mod Items
 pub mod Paired
 pub mod Packed

@@ -5,10 +5,10 @@
 //! begins behind them: were all its heads the same, each step of a search would read a whole key,
 //! which stands elsewhere in memory.
 
-ghost use Rattle.std.specs.Prelude.{◌≡◌, ◌≢◌, ℕ, List, ◌≤◌, ◌<◌, ◌++◌, MatchOption, get_or, length, take, insert, remove, slice_set};
+ghost use Rattle.std.specs.Prelude.{◌≡◌, ◌≢◌, ℕ, List, ◌≤◌, ◌<◌, ◌++◌, MatchOption, IsTrue, get_or, length, take, drop, insert, remove, slice_set};
 ghost use Rattle.std.specs.List.{AllByRecursion};
 ghost use Rattle.bw_record.specs.Keys.{IsBytes};
-ghost use Rattle.bw_record.specs.Heads.{PairList, head, AreBelow, BeginsWith, IsRow};
+ghost use Rattle.bw_record.specs.Heads.{PairList, head, AreBelow, BeginAbove, BeginsWith, IsRow};
 
 use crate::key::is_before;
 use crate::pair::Pair;
@@ -42,7 +42,7 @@ fn short_head(key: &[u8]) -> u64
 }
 
 /// The head of a key.
-pub(crate) fn head_of(key: &[u8]) -> u64
+pub fn head_of(key: &[u8]) -> u64
     ensures value { result ≡ head key.now }
     ensures bytes { IsBytes key.now }
 {
@@ -50,6 +50,15 @@ pub(crate) fn head_of(key: &[u8]) -> u64
         [a, b, c, d, e, f, g, h, ..] => u64::from_be_bytes([*a, *b, *c, *d, *e, *f, *g, *h]),
         _ => short_head(key),
     }
+}
+
+/// What a search for a key steps over, as far as heads tell.
+#[derive(Drop)]
+pub struct Skip {
+    /// So many pairs from the first on have a key below the sought one. There may be more.
+    pub count: usize,
+    /// Whether there is a pair behind these, and its key is above: then the sought one is not there.
+    pub is_above: bool,
 }
 
 /// How many shared bytes a row steps over at most.
@@ -150,31 +159,40 @@ impl Row {
         self.heads.truncate(count);
     }
 
-    /// How many pairs from the first on have a key below this one, as far as the heads tell. A key
-    /// that does not share what these keys do is above all of them or below all.
-    pub(crate) fn skipped(&self, key: &[u8]) -> usize
-        ensures { (pairs : PairList) → IsRow self.now.shared.items self.now.heads.items pairs
-            → (result ≤ length pairs) × AreBelow key.now (take result pairs) }
+    /// What a search for this key steps over. A key that does not share what these keys do is above
+    /// all of them or below all.
+    pub(crate) fn skip_for(&self, key: &[u8]) -> Skip
+        ensures below { (pairs : PairList) → IsRow self.now.shared.items self.now.heads.items pairs
+            → (result.count ≤ length pairs) × AreBelow key.now (take result.count pairs) }
+        ensures above { (pairs : PairList) → IsRow self.now.shared.items self.now.heads.items pairs
+            → IsTrue result.is_above → BeginAbove key.now (drop result.count pairs) }
     {
         let shared = self.shared.as_slice();
+        let heads = self.heads.as_slice();
         match behind(key, shared) {
-            Some(rest) => count_below(self.heads.as_slice(), head_of(rest)),
-            None if is_before(shared, key) => self.heads.as_slice().len(),
-            None => 0,
+            Some(rest) => skip_among(heads, head_of(rest)),
+            None if is_before(shared, key) => Skip {
+                count: heads.len(),
+                is_above: false,
+            },
+            None => Skip {
+                count: 0,
+                is_above: !heads.is_empty(),
+            },
         }
     }
 }
 
-// What stands in a key behind these bytes, or none where it does not begin with them.
-fn behind<'a>(key: &'a [u8], shared: &[u8]) -> Option<&'a [u8]>
+/// What stands in a key behind these bytes, or none where it does not begin with them.
+pub fn behind<'a>(key: &'a [u8], shared: &[u8]) -> Option<&'a [u8]>
     ensures { MatchOption result ((rest : List ℕ) → key.now ≢ shared.now ++ rest)
         (λ rest. key.now ≡ shared.now ++ rest.now) }
 {
     key.strip_prefix(shared)
 }
 
-// The bytes with which both keys begin, as far as there is room.
-fn beginning(a: &[u8], b: &[u8]) -> ArrayVec<u8, MOST>
+/// The bytes with which both keys begin, as far as there is room.
+pub fn beginning(a: &[u8], b: &[u8]) -> ArrayVec<u8, MOST>
     ensures { BeginsWith result.items b.now }
 {
     let mut shared = ArrayVec::new();
@@ -262,15 +280,23 @@ fn remove_head(row: &mut Vec<u64>, at: usize)
     }
 }
 
-// How many heads from the first on are below this one.
-fn count_below(row: &[u64], head: u64) -> usize
-    ensures within { result ≤ length row.now }
-    ensures below { AllByRecursion (λ h. h < head) (take result row.now) }
+// What a search for this head steps over among others.
+fn skip_among(row: &[u64], head: u64) -> Skip
+    ensures within { result.count ≤ length row.now }
+    ensures below { AllByRecursion (λ h. h < head) (take result.count row.now) }
+    ensures above { IsTrue result.is_above
+        → (result.count < length row.now) × (head < get_or row.now result.count 0) }
 {
     for (i, other) in row.iter().enumerate() {
         if *other >= head {
-            return i;
+            return Skip {
+                count: i,
+                is_above: *other > head,
+            };
         }
     }
-    row.len()
+    Skip {
+        count: row.len(),
+        is_above: false,
+    }
 }

@@ -1,10 +1,10 @@
 //! A leaf: a page's low key and its pairs in the order of their keys.
 
-ghost use Rattle.std.specs.Prelude.{◌≡◌, ℕ, List, ◌<◌, ◌≤◌, ◌-◌, [], length, reverse, vec_len, insert, remove, take, drop, slice_set, slice_index_or, OnOk, OnErr, IfOk};
+ghost use Rattle.std.specs.Prelude.{◌≡◌, ℕ, List, ◌<◌, ◌≤◌, ◌-◌, [], length, reverse, vec_len, insert, remove, take, drop, slice_set, slice_index_or, OnOk, OnErr, IfOk, IsTrue};
 ghost use Rattle.std.specs.Vec.{vec_capacity};
-ghost use Rattle.bw_record.specs.Heads.{AreBelow, IsRow};
+ghost use Rattle.bw_record.specs.Heads.{AreBelow, BeginAbove, IsRow};
 
-use crate::heads::Row;
+use crate::heads::{Row, Skip};
 use crate::pair::Pair;
 use std::alloc::{AllocError, Global};
 use std::marker::Model;
@@ -189,7 +189,16 @@ impl Pairs {
         ensures within { result ≤ length self.now }
         ensures below { AreBelow key.now (take result self.now) }
     {
-        self.row.skipped(key)
+        self.row.skip_for(key).count
+    }
+
+    /// The same, and whether the heads tell that the key is not there. No pair is looked at.
+    pub fn skip_for(&self, key: &[u8]) -> Skip
+        ensures within { result.count ≤ length self.now }
+        ensures below { AreBelow key.now (take result.count self.now) }
+        ensures above { IsTrue result.is_above → BeginAbove key.now (drop result.count self.now) }
+    {
+        self.row.skip_for(key)
     }
 
     /// Eight bytes of each key as a number, the first behind those that all keys share; or none at

@@ -12,12 +12,15 @@ mod heads;
 mod key;
 mod leaf;
 pub mod limits;
+mod ops;
 mod packed;
 mod pair;
 mod record;
 
+pub use heads::{Skip, beginning, behind, head_of};
 pub use key::{Key, LengthError, Value, is_before};
 pub use leaf::{Leaf, Low, Pairs};
+pub use ops::Ops;
 pub use packed::Packed;
 pub use pair::{Pair, ascend};
-pub use record::{Ops, Record};
+pub use record::Record;

@@ -31,8 +31,17 @@ impl Pair {
     pub fn of(alloc: Global, key: &Key, value: &Value) -> Result<Pair, AllocError>
         ensures { IfOk result (λ pair. pair ≡ (key.now, value.now)) }
     {
-        let key = key.as_slice();
-        let value = value.as_slice();
+        Pair::of_bytes(alloc, key.as_slice(), value.as_slice())
+    }
+
+    /// The key and the value of these bytes, which have their lengths. It takes memory, whose refusal
+    /// is the only error.
+    pub fn of_bytes(alloc: Global, key: &[u8], value: &[u8]) -> Result<Pair, AllocError>
+        requires some { 1 ≤ length key.now }
+        requires key { length key.now ≤ 128 }
+        requires value { length value.now ≤ 512 }
+        ensures { IfOk result (λ pair. pair ≡ (key.now, value.now)) }
+    {
         let mut bytes = Vec::with_capacity(alloc, 1 + key.len() + value.len())?;
         bytes.push(key.len() as u8)?;
         bytes.extend_from_slice(key)?;

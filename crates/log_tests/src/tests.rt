@@ -18,7 +18,6 @@ mod failing;
 mod filled;
 mod memory;
 mod page;
-mod readme;
 mod spares;
 mod splits;
 mod walking;

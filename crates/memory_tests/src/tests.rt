@@ -144,10 +144,10 @@ fn packed_put(alloc: Global, key: &[u8], value: &[u8]) -> Option<Packed> {
 }
 
 /// One letter a put, without values.
-fn lettered(alloc: Global, letters: &[u8]) -> Option<Vec<Record>> {
+fn lettered(alloc: Global, letters: &[u8]) -> Option<Vec<Packed>> {
     let mut records = Vec::new(alloc);
     for letter in letters {
-        records.push(put(&[*letter], b"")?).ok()?;
+        records.push(packed_put(alloc, &[*letter], b"")?).ok()?;
     }
     Some(records)
 }

@@ -94,6 +94,15 @@ fn records(alloc: Global, changes: &[(&str, Option<&str>)]) -> Option<Vec<Record
     Some(records)
 }
 
+/// The same, as pages apply them.
+fn all_packed(alloc: Global, changes: &[(&str, Option<&str>)]) -> Option<Vec<Packed>> {
+    let mut all = Vec::new(alloc);
+    for record in records(alloc, changes)?.as_slice() {
+        all.push(packed(alloc, record)?).ok()?;
+    }
+    Some(all)
+}
+
 /// Whether a page is shown so; no text where there is none, or it is not in memory.
 fn is_shown(leaf: Option<&Leaf>, text: &str) -> bool {
     match leaf {

@@ -1,8 +1,8 @@
 //! Pages that are about to change are read ahead.
 //!
-//! A record waits for its page's seat, for the row of heads there, and for one pair, each of which may
-//! be far away in memory. Where many records are to come, these loops ask for all of their pages one
-//! after the other, and the processor waits for many at once.
+//! A record waits for its page's seat, for the row of heads there, and mostly for one pair, each of
+//! which may be far away in memory. Where many records are to come, these loops ask for all of their
+//! pages one after the other, and the processor waits for many at once.
 //!
 //! What they answer is of no use; but the reads are made only where it is used.
 
@@ -55,13 +55,16 @@ impl Leaves {
         }
     }
 
-    /// The length of the key on a page at which a search for this key begins, or 0.
+    /// The length of the first key on a page that a search for this key will look at, or 0.
     fn length_at(&self, page: u32, key: &[u8]) -> u64 {
         let Some(leaf) = self.page(page) else {
             return 0;
         };
-        let from = leaf.pairs.skipped(key);
-        match leaf.pairs.as_slice().get(from) {
+        let skip = leaf.pairs.skip_for(key);
+        if skip.is_above {
+            return 0;
+        }
+        match leaf.pairs.as_slice().get(skip.count) {
             Some(pair) => pair.key().len() as u64,
             None => 0,
         }

@@ -4,7 +4,7 @@ ghost use Rattle.std.specs.Prelude.{◌≡◌, ◌∷◌, ◌++◌, [], IfSome, 
 ghost use Rattle.log_tests.specs.Examples.{last_put, long_put};
 ghost use Rattle.log_tests.specs.OnePage.{Opens};
 
-use super::page::{first_frame, record_of};
+use super::page::{first_frame, packed_of, record_of};
 use bw_buffer::Buffer;
 use bw_codec::{Leaf, Ops};
 use bw_page::{change, empty_page};
@@ -19,11 +19,11 @@ fn puts(alloc: Global) -> Option<Ops>
 {
     let mut ops = Vec::new(alloc);
     for _ in 0..126usize {
-        let Ok(()) = ops.push(record_of(b"k", &LONG)?) else {
+        let Ok(()) = ops.push(packed_of(alloc, b"k", &LONG)?) else {
             return None;
         };
     }
-    match ops.push(record_of(b"k", &LAST)?) {
+    match ops.push(packed_of(alloc, b"k", &LAST)?) {
         Ok(()) => Some(Ops::of(ops)),
         Err(_) => None,
     }

@@ -12,7 +12,7 @@ ghost use Rattle.log_tests.specs.OnePage.{Counts, HoldsOne, Opens, first_with, p
 
 use super::{Fuse, Yard, sealed, taken_out, yard_of};
 use bw_buffer::Buffer;
-use bw_codec::{Block, Key, Leaf, Ops, Place, Record, Value};
+use bw_codec::{Block, Key, Leaf, Ops, Packed, Place, Record, Value};
 use bw_device::Segment;
 use bw_log::{Log, LogFault};
 use bw_page::{change, count_after, empty_page};
@@ -31,6 +31,13 @@ pub(crate) fn record_of(key: &[u8], value: &[u8]) -> Option<Record>
     Some(Record::Put(key, value))
 }
 
+/// The same, as a Delta has it.
+pub(crate) fn packed_of(alloc: Global, key: &[u8], value: &[u8]) -> Option<Packed>
+    ensures { IfSome result (λ r. r ≡ Put key.now value.now) }
+{
+    Packed::of(alloc, &record_of(key, value)?).ok()
+}
+
 // A put of one byte at one byte.
 fn one_put(key: u8, value: u8) -> Option<Record>
     ensures { IfSome result (λ r. r ≡ put_of key value) }
@@ -38,10 +45,10 @@ fn one_put(key: u8, value: u8) -> Option<Record>
     record_of(&[key], &[value])
 }
 
-pub(crate) fn ops_of(key: u8, value: u8) -> Option<Ops>
+pub(crate) fn ops_of(alloc: Global, key: u8, value: u8) -> Option<Ops>
     ensures { IfSome result (λ ops. ops ≡ put_of key value ∷ []) }
 {
-    Some(Ops::one(one_put(key, value)?))
+    Ops::one(alloc, &one_put(key, value)?).ok()
 }
 
 // A sealed frame of one Delta of page 1.
@@ -61,7 +68,7 @@ pub(crate) fn put_frame(
       is_sealed = true;
     }) }
 {
-    let ops = ops_of(key, value)?;
+    let ops = ops_of(alloc, key, value)?;
     let block = Block::Delta { page: 1, back, ops };
     sealed(alloc, number, &[block])
 }
@@ -185,7 +192,7 @@ pub(crate) fn log_over(alloc: Global, more: u32, fuse: Fuse) -> Option<(Log, Yar
 pub(crate) fn opening(alloc: Global) -> Option<(Buffer, Leaf)>
     ensures { IfSome result (λ o. Opens o.0 o.1) }
 {
-    let frame = first_frame(alloc, ops_of(b'k', b'v')?)?;
+    let frame = first_frame(alloc, ops_of(alloc, b'k', b'v')?)?;
     let mut leaf = empty_page(alloc);
     let change_of = one_put(b'k', b'v')?;
     match change(&mut leaf, &change_of) {

@@ -61,7 +61,7 @@ fn fifth(alloc: Global) -> Option<Buffer>
         Block::Delta {
             page: 1,
             back: Place { frame: 4, index: 0 },
-            ops: ops_of(b'e', b'5')?,
+            ops: ops_of(alloc, b'e', b'5')?,
         },
         Block::Split {
             page: 1,
@@ -82,7 +82,7 @@ fn frame_of(alloc: Global, number: u64) -> Option<Buffer>
     }) }
 {
     match number {
-        1 => first_frame(alloc, ops_of(b'a', b'1')?),
+        1 => first_frame(alloc, ops_of(alloc, b'a', b'1')?),
         2 => put_frame(alloc, 2, Place { frame: 1, index: 1 }, b'b', b'2'),
         3 => put_frame(alloc, 3, Place { frame: 2, index: 0 }, b'c', b'3'),
         4 => put_frame(alloc, 4, Place { frame: 3, index: 0 }, b'd', b'4'),

@@ -7,7 +7,7 @@ use super::{
     Ask, Row, Try, all_went, asked_again, changed, lettered, packed_put, put, then, tried,
     wrong_row,
 };
-use bw_codec::{Block, Key, Leaf, Ops, Packed, Place, Record};
+use bw_codec::{Block, Key, Leaf, Ops, Packed, Place};
 use bw_history::PackedEntry;
 use bw_page::{
     Applied, ApplyError, Chain, Draft, Leaves, Start, change, change_all, cut_in_two, empty_page,
@@ -316,10 +316,10 @@ fn is_changed(alloc: Global) -> Option<Try> {
 }
 
 /// So many keys of one byte.
-fn numbered(alloc: Global, count: u8) -> Option<Vec<Record>> {
+fn numbered(alloc: Global, count: u8) -> Option<Vec<Packed>> {
     let mut records = Vec::new(alloc);
     for at in 0..count {
-        records.push(put(&[at], b"")?).ok()?;
+        records.push(packed_put(alloc, &[at], b"")?).ok()?;
     }
     Some(records)
 }
@@ -406,7 +406,7 @@ fn draft_each(blocks: Vec<Block>) -> Result<Option<Leaf>, AllocError> {
 }
 
 /// A draft with these records, as a leaf without the last one.
-fn drafted(leaf: Leaf, records: &[Record], end: &[u8]) -> Result<Option<Leaf>, AllocError> {
+fn drafted(leaf: Leaf, records: &[Packed], end: &[u8]) -> Result<Option<Leaf>, AllocError> {
     let draft = Draft::of(leaf).change_all(records)?;
     Ok(Some(draft.keep_below(end).into_leaf()?))
 }

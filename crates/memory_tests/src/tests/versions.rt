@@ -4,7 +4,7 @@ ghost use Rattle.std.specs.Prelude.{◌≡◌, ◌≤◌, [], IfOk, IfSome};
 ghost use mathlib.Core.List.{IsPrefix};
 ghost use Rattle.bw_versions.specs.Batches.{entries_of};
 
-use super::{Ask, Row, Try, all_went, asked_again, lettered, put, then, tried, wrong_row};
+use super::{Ask, Row, Try, all_went, asked_again, put, then, tried, wrong_row};
 use bw_codec::Key;
 use bw_history::{Entry, PackedEntry};
 use bw_page::Leaves;
@@ -47,8 +47,9 @@ fn start(alloc: Global) -> Result<Leaves, AllocError>
 /// One writer's puts of these letters, without values.
 pub(super) fn entries(alloc: Global, letters: &[u8]) -> Option<Vec<PackedEntry>> {
     let mut entries = Vec::new(alloc);
-    for item in lettered(alloc, letters)?.as_slice() {
-        let entry = PackedEntry::of(alloc, 0, false, item).ok()?;
+    for letter in letters {
+        let item = put(&[*letter], b"")?;
+        let entry = PackedEntry::of(alloc, 0, false, &item).ok()?;
         entries.push(entry).ok()?;
     }
     Some(entries)

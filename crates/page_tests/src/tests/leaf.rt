@@ -3,7 +3,7 @@
 ghost use Rattle.std.specs.Prelude.{IsTrue};
 ghost use Rattle.bw_record.specs.Keys.{ascends};
 
-use super::{Row, del, is_shown, put, records, rows_go, went};
+use super::{Row, all_packed, del, is_shown, put, rows_go, went};
 use bw_codec::{Key, Leaf, Record};
 use bw_page::{Cut, change, change_all, count_after, cut_in_two, empty_page, keep_below, value_in};
 use std::alloc::Global;
@@ -178,7 +178,7 @@ const CHANGES: &[(&str, Option<&str>)] = &[
 
 /// Whether an empty page is shown so after these changes.
 fn becomes(alloc: Global, text: &str) -> Option<bool> {
-    let records = records(alloc, CHANGES)?;
+    let records = all_packed(alloc, CHANGES)?;
     let after = change_all(empty_page(alloc), records.as_slice()).ok()?;
     Some(is_shown(Some(&after), text))
 }

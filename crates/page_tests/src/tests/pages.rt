@@ -3,7 +3,7 @@
 ghost use Rattle.std.specs.Prelude.{◌≤◌, ◌≡◌, []};
 
 use super::evicted::two_pages;
-use super::{Table, del, is_shown, leads, packed, put, records, tables_go, went};
+use super::{Table, all_packed, del, is_shown, leads, packed, put, records, tables_go, went};
 use bw_codec::{Key, Packed};
 use bw_history::PackedEntry;
 use bw_page::{Applied, Leaves};
@@ -97,11 +97,7 @@ fn filled(alloc: Global, leaves: &mut Leaves, count: u16) -> bool
 
 /// The records of `TEN`, packed.
 fn ten(alloc: Global) -> Option<Vec<Packed>> {
-    let mut all = Vec::new(alloc);
-    for record in records(alloc, TEN)?.as_slice() {
-        all.push(packed(alloc, record)?).ok()?;
-    }
-    Some(all)
+    all_packed(alloc, TEN)
 }
 
 /// The same as entries, each with the page at its index as a guess.

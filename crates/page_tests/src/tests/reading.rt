@@ -1,6 +1,6 @@
 //! One page, read forwards over blocks.
 
-use super::{Row, del, is_shown, put, records, rows_go};
+use super::{Row, all_packed, del, is_shown, packed, put, rows_go};
 use bw_codec::{Block, Ops, Place};
 use bw_page::{empty_page, read_blocks};
 use std::alloc::Global;
@@ -13,7 +13,7 @@ fn delta(alloc: Global) -> Option<Block> {
     Some(Block::Delta {
         page: 1,
         back: BACK,
-        ops: Ops::of(records(alloc, &[("a", Some("1")), ("b", Some("2"))])?),
+        ops: Ops::of(all_packed(alloc, &[("a", Some("1")), ("b", Some("2"))])?),
     })
 }
 
@@ -57,9 +57,9 @@ fn blocks_are_read_page_by_page(rt: HostRuntime) {
 fn long_delta(alloc: Global, count: u8) -> Option<Block> {
     let mut ops = Vec::new(alloc);
     for at in 0..count {
-        ops.push(put(&[count - at], b"")?).ok()?;
+        ops.push(packed(alloc, &put(&[count - at], b"")?)?).ok()?;
     }
-    ops.push(del(&[1])?).ok()?;
+    ops.push(packed(alloc, &del(&[1])?)?).ok()?;
     Some(Block::Delta {
         page: 1,
         back: BACK,

@@ -4,9 +4,8 @@ use Rattle.bw_codec.specs.Bytes.{text, value_bytes}
 use Rattle.bw_codec.proofs.Lengths.{length-value}
 use Rattle.bw_codec.proofs.encoder.op_length.Goals as goal
 
-pub returns-in-Put-clause-value : goal.returns-in-Put-clause-value
-returns-in-Put-clause-value c =
-    let key = c.in-Put.key in
-    let value = c.in-Put.value in
-    rw (c.as_slice.ensures.value, c.as_slice-in-Put.ensures.value, c.in-Put.is)
-    (omega (arith, length-value value, length-append (text key) (value_bytes latest value)))
+pub returns-in-Ok-clause-value : goal.returns-in-Ok-clause-value
+returns-in-Ok-clause-value c =
+    let pair = c.in-Ok.pair.now in
+    rw (c.key.ensures.value, c.value.ensures.value, c.in-Ok.ensures)
+    (omega (arith, length-value pair.1, length-append (text pair.0) (value_bytes latest pair.1)))

@@ -7,14 +7,9 @@ use Rattle.bw_record.specs.declared.record.Record.{Record}
 use Rattle.bw_codec.proofs.Lengths.{length-value}
 use Rattle.bw_codec.proofs.encoder.push_op.Goals as goal
 
-pub push_value-requires-clause-room : goal.push_value-requires-clause-room
-push_value-requires-clause-room c =
-    let key = c.in-Put.key in
-    let value = c.in-Put.value in
-    let room = subst (λ (o : Record). HasRoom c.args.out.now (length (op_bytes o))) c.in-Put.is c.requires in
-    let tagged = c.push.ensures.len in
-    let tagged_room = c.push.ensures.capacity in
-    let first = rw c.as_slice.ensures.value at c.push_text.ensures.len in
-    let grown = c.push_text.ensures.capacity in
-    rw c.as_slice-in-Put.ensures.value
-    (omega (arith, room, length-value value, length-append (text key) (value_bytes latest value), tagged, tagged_room, first, grown))
+pub push_put-requires-clause-room : goal.push_put-requires-clause-room
+push_put-requires-clause-room c =
+    let pair = c.in-Ok.pair.now in
+    let room = subst (λ (o : Record). HasRoom c.args.out.now (length (op_bytes o))) c.in-Ok.ensures c.requires in
+    rw (c.key.ensures.value, c.value.ensures.value)
+    (omega (arith, room, length-value pair.1, length-append (text pair.0) (value_bytes latest pair.1)))

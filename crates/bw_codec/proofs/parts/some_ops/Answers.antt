@@ -13,13 +13,13 @@ returns-in_err-op c =
     let stops = λ (none : (op_at c.args.version) c.loop-i.rest.now ≡ None). sym c.loop-i.invariant
     ∙ many_stops (op_at c.args.version) c.args.count c.loop-i._i c.loop-i.items.items c.loop-i.rest.now c.loop-i-test.true none in
     rw (p.1, p.2) (fault_goes_on c.in_err-op.field-0.0 ((op_at c.args.version) c.loop-i.rest.now)
-    (many_at (op_at c.args.version) c.args.count c.args.bytes.now) stops c.in_err-op.ensures.gives)
+    (many_at (op_at c.args.version) c.args.count c.args.bytes.now) stops c.in_err-op.ensures)
 
 pub loop-i-preserved : goal.loop-i-preserved
 loop-i-preserved c =
     rw c.in_ok-push.ensures.items (sym (many_goes_on (op_at c.args.version) c.args.count c.loop-i._i c.loop-i.items.items c.loop-i.rest.now
     c.in_ok-op.op c.in_ok-op.others.now
-    c.loop-i-test.true c.in_ok-op.ensures.gives) ∙ c.loop-i.invariant)
+    c.loop-i-test.true c.in_ok-op.ensures) ∙ c.loop-i.invariant)
 
 pub returns : goal.returns
 returns c =

@@ -1,4 +1,4 @@
-use Rattle.std.proofs.Common.{◌≡◌, ◌-◌, None, Some, ap, sym, ◌∙◌, append-nil, subst, arith, refl}
+use Rattle.std.proofs.Common.{◌≡◌, ◌-◌, None, sym, ◌∙◌, append-nil, subst, arith, refl}
 use Rattle.std.proofs.lemmas.Result.{err_from_is_err_and}
 use Rattle.bw_codec.specs.Reading.{many_at, pair_at}
 use Rattle.bw_codec.proofs.Many.{prefixed, many_goes_on, many_stops, many_ends, many_begins, fault_goes_on}
@@ -7,21 +7,19 @@ use Rattle.bw_codec.proofs.parts.some_pairs.Goals as goal
 pub loop-i-init : goal.loop-i-init
 loop-i-init c = rw c.in_ok-items.ensures.items (many_begins (pair_at c.args.version) c.args.count c.args.bytes.now)
 
-pub returns-in_err-read : goal.returns-in_err-read
-returns-in_err-read c =
-    let p = err_from_is_err_and c.from_residual-in_err-read.result c.from_residual-in_err-read.ensures.1 in
+pub returns-in_err-pair : goal.returns-in_err-pair
+returns-in_err-pair c =
+    let p = err_from_is_err_and c.from_residual-in_err-pair.result c.from_residual-in_err-pair.ensures.1 in
     let stops = λ (none : (pair_at c.args.version) c.loop-i.rest.now ≡ None). sym c.loop-i.invariant
     ∙ many_stops (pair_at c.args.version) c.args.count c.loop-i._i c.loop-i.items.items c.loop-i.rest.now c.loop-i-test.true none in
-    rw (p.1, p.2) (fault_goes_on c.in_err-read.field-0.0 ((pair_at c.args.version) c.loop-i.rest.now)
+    rw (p.1, p.2) (fault_goes_on c.in_err-pair.field-0.0 ((pair_at c.args.version) c.loop-i.rest.now)
     (many_at (pair_at c.args.version) c.args.count c.args.bytes.now) stops
-    c.in_err-read.ensures.gives)
+    c.in_err-pair.ensures)
 
 pub loop-i-preserved : goal.loop-i-preserved
 loop-i-preserved c =
-    let given : pair_at c.args.version c.loop-i.rest.now ≡ Some (c.in_ok-pair.pair, c.in_ok-read.others.now) =
-    c.in_ok-read.ensures.gives ∙ ap (λ p. Some (p, c.in_ok-read.others.now)) (sym c.in_ok-pair.ensures) in
     rw c.in_ok-push.ensures.items (sym (many_goes_on (pair_at c.args.version) c.args.count c.loop-i._i c.loop-i.items.items c.loop-i.rest.now c.in_ok-pair.pair
-    c.in_ok-read.others.now c.loop-i-test.true given) ∙ c.loop-i.invariant)
+    c.in_ok-pair.others.now c.loop-i-test.true c.in_ok-pair.ensures) ∙ c.loop-i.invariant)
 
 pub returns : goal.returns
 returns c =
@@ -30,4 +28,4 @@ returns c =
     (pair_at c.args.version) c.args.count c.args.bytes.now)
     all c.loop-i.invariant in
     sym last ∙ many_ends (pair_at c.args.version) c.args.count c.loop-i.items.items c.loop-i.rest.now
-    ∙ rw (append-nil c.loop-i.items.items, c.of-2.ensures) refl
+    ∙ rw (append-nil c.loop-i.items.items, c.of.ensures) refl

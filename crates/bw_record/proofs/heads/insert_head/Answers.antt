@@ -8,4 +8,4 @@ returns-in-Ok c pairs v long is =
     let as_long : length c.args.row.now.items ≡ length pairs = grind (arith, c.as_slice.ensures.value, c.as_slice.ensures.len) in
     let added : c.insert.new.self.items ≡ insert c.args.row.now.items c.args.at (head c.in-Some.rest.now) = grind arith in
     subst (λ r. IsRow c.args.shared.now r (insert pairs c.args.at (c.args.key.now, v))) (sym added)
-    (row_inserted c.args.shared.now _ pairs c.args.at c.args.key.now v c.in-Some.rest.now is as_long c.in-Some.ensures)
+    (row_inserted c.args.shared.now _ pairs c.args.at c.args.key.now v c.in-Some.rest.now is as_long c.in-Some.ensures c.head_of.ensures.bytes)

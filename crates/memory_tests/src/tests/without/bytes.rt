@@ -43,14 +43,13 @@ fn is_record() -> bool {
     let Some(record) = put(b"k", b"v") else {
         return false;
     };
-    let ops = Ops::one(record.copy());
-    is(record.key().as_slice(), b"k") && ops.as_slice().len() == 1
+    record == record.copy() && is(record.key().as_slice(), b"k")
 }
 
 /// Records of a list.
 fn listed(alloc: Global) -> Option<bool> {
     let mut items = Vec::new(alloc);
-    items.push(put(b"k", b"v")?).ok()?;
+    items.push(packed_put(alloc, b"k", b"v")?).ok()?;
     begin_without(alloc);
     let ops = Ops::of(items);
     let is_so = ops.as_slice().len() == 1;

@@ -2,7 +2,7 @@
 
 use super::is_text;
 use super::told::{Kind, are_pairs, is_one, says};
-use crate::tests::{Row, all_hold, put, records, rows_go};
+use crate::tests::{Row, all_hold, all_packed, put, rows_go};
 use bw_buffer::PutError;
 use bw_codec::{
     Block, Blocks, CodecFault, Head, Header, Key, Leaf, LengthError, Low, Ops, Pair, Pairs, Place,
@@ -161,8 +161,8 @@ fn puts_k(alloc: Global, ops: Ops) -> Option<bool> {
 fn records_go_through(alloc: Global) -> Option<bool> {
     let put = put(b"k", b"v")?;
     let same = put.copy() == put && is_one(put.key().as_slice(), b'k');
-    let one = puts_k(alloc, Ops::one(put));
-    let all = puts_k(alloc, Ops::of(records(alloc, &[("k", Some("v"))])?));
+    let one = puts_k(alloc, Ops::one(alloc, &put).ok()?);
+    let all = puts_k(alloc, Ops::of(all_packed(alloc, &[("k", Some("v"))])?));
     Some(same && one? && all?)
 }
 

@@ -3,7 +3,7 @@
 use super::hex::bytes_of;
 use crate::tests::{self, rows_go};
 use bw_codec::{
-    Block, Frame, FrameRead, Header, HeaderRead, Outline, Pair, Place, Record, read_frame,
+    Block, Frame, FrameRead, Header, HeaderRead, Outline, Packed, Pair, Place, read_frame,
     read_header,
 };
 use std::alloc::Global;
@@ -43,11 +43,12 @@ pub(crate) fn are_pairs(pairs: &[Pair], keys: &[u8], values: &[u8]) -> bool {
 }
 
 /// Whether records are one put of this key and value, of one byte each.
-fn are_put(ops: &[Record], keys: &[u8], values: &[u8]) -> bool {
+fn are_put(ops: &[Packed], keys: &[u8], values: &[u8]) -> bool {
     match (ops, keys, values) {
-        ([Record::Put(key, value)], [k], [v]) => {
-            is_one(key.as_slice(), *k) && is_one(value.as_slice(), *v)
-        }
+        ([op], [k], [v]) => match op.pair() {
+            Ok(pair) => is_one(pair.key(), *k) && is_one(pair.value(), *v),
+            Err(_) => false,
+        },
         _ => false,
     }
 }

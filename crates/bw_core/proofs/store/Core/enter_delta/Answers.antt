@@ -1,5 +1,8 @@
 use Rattle.std.proofs.Common.{◌≡◌, [], ◌∷◌, ◌∙◌, ◌+◌, ◌++◌, ◌-◌, ℕ, refl, List, true, length, map, ap, subst, sym, arith}
-use Rattle.bw_buffer.specs.Filling.{Filling, frame_of}
+use Rattle.bw_record.specs.declared.record.Record.{Record}
+use Rattle.bw_codec.specs.Grammar.{IsBlock}
+use Rattle.bw_codec.specs.declared.block.Block.TheVariants.{Delta}
+use Rattle.bw_buffer.specs.Filling.{Filling, frame_of, with_all}
 use Rattle.bw_buffer.proofs.Holding.{got}
 use Rattle.bw_page.specs.Seats.{is_among}
 use Rattle.bw_page.specs.Shown.{IsSpent}
@@ -37,7 +40,9 @@ file_delta-requires-clause-lawful g c =
     let back = c.index-back.result.now in
     let last = got c.args.self.now.newest.items (c.args.page - 1) back (omega arith) c.index-back.ensures in
     let e = enters_whole c.args.page c.requires.sound c.requires.next c.key.ensures.lawful c.requires.page last c.requires.whole c.requires.fits in
-    (file_lawful e (λ p. let x = c.in_ok-apply_entry.ensures.spent p in cc)).0
+    let same = c.item.ensures ∙ ap (λ (e : Entry). e.item) c.in_ok-entry.ensures in
+    subst (λ (r : Record). IsBlock 32 (Delta c.args.page back (r ∷ []))) (sym same)
+    (file_lawful e (λ p. let x = c.in_ok-apply_found.ensures.spent p in cc)).0
 
 pub file_delta-requires-clause-page : goal.file_delta-requires-clause-page
 file_delta-requires-clause-page g c =
@@ -50,9 +55,11 @@ invariant_of-self-2 g c =
     let was = c.args.self.now in
     let f = was.leaves in
     let back = c.index-back.result.now in
+    let same = c.item.ensures ∙ ap (λ (e : Entry). e.item) c.in_ok-entry.ensures in
+    let filed = c.file_delta.ensures.making ∙ ap (λ (r : Record). with_all c.args.self.now.making (Delta c.args.page back (r ∷ []) ∷ [])) same in
     let here = here_for (frame_of was.making) c.args.page in
     let made : c.file_delta.new.making.blocks ≡ added was.making.blocks (blocks_for f.m f.leaves back here c.args.item.now) =
-    ap (λ (b : Filling). b.blocks) c.file_delta.ensures.making
+    ap (λ (b : Filling). b.blocks) filed
     ∙ ap (added was.making.blocks) (delta_blocks f.m f.leaves back here c.args.item.now c.args.page c.requires.page c.requires.whole) in
     record {
       whole = whole_entered was.cuts.items was.intake.history.items c.enter_alone.new.self.history.items c.args.lane (c.args.item.now ∷ [])
@@ -61,9 +68,9 @@ invariant_of-self-2 g c =
       logged = λ q evicted.
           ap (is_made q) made
           ∙ evicted_entered f.m f.leaves back here c.args.item.now was.making.blocks f.evicted q
-          (subst (λ (ps : List ℕ). is_among q ps ≡ true) c.apply_entry.ensures.evicted evicted) c.requires.here
+          (subst (λ (ps : List ℕ). is_among q ps ≡ true) c.apply_found.ensures.evicted evicted) c.requires.here
           (c.count.ensures.beyond (length f.leaves + 1) (omega arith))
-          (was.logged q (subst (λ (ps : List ℕ). is_among q ps ≡ true) c.apply_entry.ensures.evicted evicted));
+          (was.logged q (subst (λ (ps : List ℕ). is_among q ps ≡ true) c.apply_found.ensures.evicted evicted));
       began = was.began;
       forgotten = (let entered = c.enter_alone.ensures.gone in let reserved = c.reserve.ensures.gone in let known = was.forgotten in omega arith);
     }
@@ -73,14 +80,16 @@ returns-clause-sound g c =
     let w = page_within (kept_by c.args.self.now (λ z. (goal.Segment-dyn g z).holding z.1)) c.requires.sound c.args.item.now c.args.page c.requires.page in
     let count = c.requires.sound.grown.count in
     let back = c.index-back.result.now in
+    let same = c.item.ensures ∙ ap (λ (e : Entry). e.item) c.in_ok-entry.ensures in
+    let filed = c.file_delta.ensures.making ∙ ap (λ (r : Record). with_all c.args.self.now.making (Delta c.args.page back (r ∷ []) ∷ [])) same in
     let last = got c.args.self.now.newest.items (c.args.page - 1) back (omega arith) c.index-back.ensures in
     let e = enters_whole c.args.page c.requires.sound c.requires.next c.key.ensures.lawful c.requires.page last c.requires.whole c.requires.fits in
-    let not : IsSpent c.args.self.now.leaves c.args.item.now → ⊥ = λ p. let x = c.in_ok-apply_entry.ensures.spent p in cc in
+    let not : IsSpent c.args.self.now.leaves c.args.item.now → ⊥ = λ p. let x = c.in_ok-apply_found.ensures.spent p in cc in
     subst kept.IsSound
-    (sym (entered (alone c.args.item.now) e not c.args.lane c.args.page c.enter_alone.new.self.history.items (filed_of c.apply_entry.new.leaves)
+    (sym (entered (alone c.args.item.now) e not c.args.lane c.args.page c.enter_alone.new.self.history.items (filed_of c.apply_found.new.leaves)
     c.file_delta.new.newest.items c.file_delta.new.making c.requires.page
-    _ c.enter_alone.ensures.grows c.reserve.ensures.history (ap filed_of c.in_ok-apply_entry.ensures.ok)
-    _ c.file_delta.ensures.newest refl c.file_delta.ensures.making
+    _ c.enter_alone.ensures.grows c.reserve.ensures.history (ap filed_of c.in_ok-apply_found.ensures.ok)
+    _ c.file_delta.ensures.newest refl filed
     _ _ c.enter_alone.ensures.rings (ap (λ v. map ring_of_lane v.items) c.reserve.ensures.lanes)))
     (entered_sound (alone c.args.item.now) e not c.args.lane (lane_inside _ _ c.requires.inside))
 
@@ -89,13 +98,15 @@ returns-clause-ok g c =
     let w = page_within (kept_by c.args.self.now (λ z. (goal.Segment-dyn g z).holding z.1)) c.requires.sound c.args.item.now c.args.page c.requires.page in
     let count = c.requires.sound.grown.count in
     let back = c.index-back.result.now in
+    let same = c.item.ensures ∙ ap (λ (e : Entry). e.item) c.in_ok-entry.ensures in
+    let filed = c.file_delta.ensures.making ∙ ap (λ (r : Record). with_all c.args.self.now.making (Delta c.args.page back (r ∷ []) ∷ [])) same in
     let last = got c.args.self.now.newest.items (c.args.page - 1) back (omega arith) c.index-back.ensures in
     let e = enters_whole c.args.page c.requires.sound c.requires.next c.key.ensures.lawful c.requires.page last c.requires.whole c.requires.fits in
-    let not : IsSpent c.args.self.now.leaves c.args.item.now → ⊥ = λ p. let x = c.in_ok-apply_entry.ensures.spent p in cc in
+    let not : IsSpent c.args.self.now.leaves c.args.item.now → ⊥ = λ p. let x = c.in_ok-apply_found.ensures.spent p in cc in
     let s = kept_by c.args.self.now (λ z. (goal.Segment-dyn g z).holding z.1) in
-    entered (alone c.args.item.now) e not c.args.lane c.args.page c.enter_alone.new.self.history.items (filed_of c.apply_entry.new.leaves)
+    entered (alone c.args.item.now) e not c.args.lane c.args.page c.enter_alone.new.self.history.items (filed_of c.apply_found.new.leaves)
     c.file_delta.new.newest.items c.file_delta.new.making c.requires.page
-    _ c.enter_alone.ensures.grows c.reserve.ensures.history (ap filed_of c.in_ok-apply_entry.ensures.ok)
-    _ c.file_delta.ensures.newest refl c.file_delta.ensures.making
+    _ c.enter_alone.ensures.grows c.reserve.ensures.history (ap filed_of c.in_ok-apply_found.ensures.ok)
+    _ c.file_delta.ensures.newest refl filed
     _ _ c.enter_alone.ensures.rings (ap (λ v. map ring_of_lane v.items) c.reserve.ensures.lanes)
     ∙ ap (taken s c.args.lane (alone c.args.item.now)) (last_is_back s c.args.item.now back e.last)

@@ -1,7 +1,6 @@
 use Rattle.std.proofs.Common.{◌-◌, length}
 use Rattle.bw_record.specs.Keys.{is_below}
-use Rattle.bw_lows.specs.Rows.{low_at}
-use Rattle.bw_lows.proofs.Cuts.{IsBetween}
+use Rattle.bw_lows.specs.Rows.{low_at, IsBetween}
 use Rattle.bw_lows.proofs.block.Block.count_upto.Given as goal
 
 abbrev pub invariant-loop-from : goal.invariant-loop-from

@@ -1,0 +1,7 @@
+-- A head for each low so far, each of which begins with the bytes.
+use Rattle.std.proofs.Common.{take}
+use Rattle.bw_lows.specs.LowRow.{IsWholeRow}
+use Rattle.bw_lows.proofs.row.fill.Given as goal
+
+abbrev pub invariant-loop-entry : goal.invariant-loop-entry
+invariant-loop-entry l = IsWholeRow l.shared l.row.items (take l.entry-index l.entries)
