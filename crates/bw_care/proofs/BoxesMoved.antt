@@ -7,9 +7,9 @@ use Rattle.bw_log.specs.Adopting.{adopted}
 use Rattle.bw_log.specs.declared.places.Tables.{Tables}
 use Rattle.bw_care.specs.Recovery.{number_in, live_in, spares_in}
 use Rattle.bw_care.specs.Parting.{Numbered, Parted, parted}
-use Rattle.bw_care.specs.Planned.{IsPlan}
-use Rattle.bw_care.specs.declared.parts.Kind.{Kind}
-use Rattle.bw_care.specs.declared.plan.Plan.{Plan}
+use Rattle.bw_care.specs.Planned.{AreFindings}
+use Rattle.bw_care.specs.declared.boxes.Kind.{Kind}
+use Rattle.bw_care.specs.declared.steps.Findings.{Findings}
 
 seconds : (hs : List Holding) → map (λ (p : Numbered). p.1) (map (λ (h : Holding). (number_in h.bytes, h)) hs) ≡ hs
 seconds [] = refl
@@ -20,21 +20,21 @@ second_of w u same [] = refl
 second_of w u same (y ∷ ys) = λ i. same y i ∷ second_of w u same ys i
 
 pub moved : {X Y : Type 0} (v : X → Holding) (w : Y → Numbered) (u : Y → Holding) (boxes now : List X) (slice : List Kind) (numbered ys : List Y)
-    (spares xs : List X) (p : Plan) → ((y : Y) → (w y).1 ≡ u y) → map v now ≡ map v boxes → slice ≡ p.kinds.items → numbered ≡ [] → spares ≡ []
-    → ◌≡◌ {A = Parted} (map w ys, map v xs) (parted (map v now) slice (map w numbered, map v spares)) → IsPlan (map v boxes) p
+    (spares xs : List X) (p : Findings) → ((y : Y) → (w y).1 ≡ u y) → map v now ≡ map v boxes → slice ≡ p.kinds.items → numbered ≡ [] → spares ≡ []
+    → ◌≡◌ {A = Parted} (map w ys, map v xs) (parted (map v now) slice (map w numbered, map v spares)) → AreFindings (map v boxes) p
     → (map u ys ≡ live_in (map v boxes)) × (map v xs ≡ spares_in (map v boxes))
-moved v w u boxes now slice numbered ys spares xs p same now_is slice_is none_numbered none_spares parts plan =
+moved v w u boxes now slice numbered ys spares xs p same now_is slice_is none_numbered none_spares parts findings =
     let all : ◌≡◌ {A = Parted} (map w ys, map v xs) (map (λ (h : Holding). (number_in h.bytes, h)) (live_in (map v boxes)), spares_in (map v boxes)) =
     parts ∙ ap (λ (l : List Holding). parted l slice (map w numbered, map v spares)) now_is
     ∙ ap (λ (k : List Kind). parted (map v boxes) k (map w numbered, map v spares)) slice_is
     ∙ ap (λ (n : List _). parted (map v boxes) p.kinds.items (map w n, map v spares)) none_numbered
-    ∙ ap (λ (n : List _). parted (map v boxes) p.kinds.items ([], map v n)) none_spares ∙ plan.kinds in
+    ∙ ap (λ (n : List _). parted (map v boxes) p.kinds.items ([], map v n)) none_spares ∙ findings.kinds in
     (sym (second_of w u same ys) ∙ ap (λ (q : Parted). map (λ (r : Numbered). r.1) q.0) all ∙ seconds (live_in (map v boxes)), ap (λ (q : Parted). q.1) all)
 
-pub few_moved : {X Y : Type 0} (v : X → Holding) (u : Y → Holding) (boxes : List X) (ys : List Y) (p : Plan) (room : ℕ) → map u ys ≡ live_in (map v boxes)
-    → IsPlan (map v boxes) p → length boxes ≤ room → length ys ≤ room
-few_moved v u boxes ys p room same plan within =
-    let few = plan.few in
+pub few_moved : {X Y : Type 0} (v : X → Holding) (u : Y → Holding) (boxes : List X) (ys : List Y) (p : Findings) (room : ℕ) → map u ys ≡ live_in (map v boxes)
+    → AreFindings (map v boxes) p → length boxes ≤ room → length ys ≤ room
+few_moved v u boxes ys p room same findings within =
+    let few = findings.few in
     let size = ap (λ (l : List Holding). length l) same in
     omega (arith, size, length-map ys u, length-map boxes v)
 

@@ -6,8 +6,8 @@ use Rattle.std.proofs.lemmas.List.{at_drop_more}
 use Rattle.bw_care.specs.Recovery.{placed_by}
 use Rattle.bw_device.specs.Holding.{Holding}
 use Rattle.bw_care.specs.Parting.{Numbered, number_of, Parted, parted_by, parted, place_among}
-use Rattle.bw_care.specs.declared.parts.Kind.{Kind}
-use Rattle.bw_care.specs.declared.parts.Kind.TheVariants.{Live}
+use Rattle.bw_care.specs.declared.boxes.Kind.{Kind}
+use Rattle.bw_care.specs.declared.boxes.Kind.TheVariants.{Live}
 
 -- one more number is not greater
 pub among_more : {X : Type 0} (v : X → ℕ) (n : ℕ) (xs : List X) (i : ℕ) (x : X) → i < length xs → x ≡ get_or xs i x → nat_lt n (v x) ≡ false

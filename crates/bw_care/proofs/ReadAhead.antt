@@ -20,7 +20,7 @@ use Rattle.bw_log.specs.Contents.{Contents, counted}
 use Rattle.bw_log.specs.Reads.{IsPage, segment_at}
 use Rattle.bw_care.specs.Ahead.{PageRead, IsBaseOf, IsWithin, Tells, AreSpots, IsPiece, IsNoted, IsOldest, Puts}
 use Rattle.bw_care.specs.Moving.{MovedBehind}
-use Rattle.bw_care.specs.declared.ahead.Spot.{Spot}
+use Rattle.bw_care.specs.declared.copies.Spot.{Spot}
 use Rattle.bw_care.proofs.BasesLeave.{frames_leave}
 use Rattle.bw_care.proofs.CleaningSteps.{each_of, rest_is}
 use Rattle.bw_care.proofs.PagesMoved.{same_some}

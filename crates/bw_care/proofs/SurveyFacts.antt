@@ -1,4 +1,4 @@
--- From what was scanned to a plan: rooms, causes, and a log that may be adopted.
+-- From what was scanned to a findings: rooms, causes, and a log that may be adopted.
 
 use Rattle.std.proofs.Common.{◌≡◌, ℕ, zero, suc, ◌<◌, ◌≤◌, ◌==◌, ◌||◌, if◌then◌else◌, not, nat_lt, Bool, true, false, Option, Some, None}
 use Rattle.std.proofs.Common.{Ok, Err, IfSome, List, [], ◌∷◌, ◌++◌, length, map, drop, slice_get, refl, sym, ap, subst, ◌∙◌, arith, length-append, length-drop}
@@ -33,7 +33,7 @@ use Rattle.bw_lines.specs.declared.cause.RecoverCause.TheVariants.{NoMemory, Bad
 use Rattle.bw_care.specs.declared.scan.Scan.{Scan}
 use Rattle.bw_care.specs.declared.scan.Scan.TheVariants.{Bare, Part, Live}
 use Rattle.bw_care.specs.declared.order.Found.{Found}
-use Rattle.bw_care.specs.declared.plan.Survey.{Survey}
+use Rattle.bw_care.specs.declared.steps.Survey.{Survey}
 use Rattle.bw_care.proofs.HeadersRead.{header_long}
 use Rattle.bw_care.proofs.TailsCounted.{no_bytes_fault}
 use Rattle.bw_care.proofs.NumberOrder.{joined, headers_are, live_found, all_numbers, order_is, frames_here, none_by}

@@ -14,15 +14,15 @@ use Rattle.bw_care.specs.Scanned.{AreScans}
 use Rattle.bw_care.specs.Surveying.{kind_seen, parts_seen}
 use Rattle.bw_care.specs.Ordering.{IsOrder}
 use Rattle.bw_care.specs.declared.scan.Scan.{Scan}
-use Rattle.bw_care.specs.declared.plan.Survey.{Survey}
+use Rattle.bw_care.specs.declared.steps.Survey.{Survey}
 use Rattle.bw_care.specs.Parting.{parted}
-use Rattle.bw_care.specs.declared.plan.Plan.{Plan}
+use Rattle.bw_care.specs.declared.steps.Findings.{Findings}
 use Rattle.bw_lines.specs.declared.page_lines.ReadFault.{ReadFault}
 use Rattle.bw_lines.specs.declared.page_lines.ReadFault.TheVariants as read
 use Rattle.bw_lines.specs.declared.cause.RecoverCause.{RecoverCause}
 use Rattle.bw_lines.specs.declared.cause.RecoverCause.TheVariants.{NoMemory, BadConfig, Device, Spent, Empty, BadBytes, Gap, Mixed, BadLink, Unlawful}
 
-abbrev pub planned : Plan → Finding
+abbrev pub planned : Findings → Finding
 planned p = record { leaves = p.leaves.leaves; first = p.first; last = p.last; tail = p.tail; dropped = p.dropped }
 
 -- ---- rooms
@@ -74,7 +74,7 @@ pub record IsSurvey (boxes : List Holding) (s : Survey) : Type 0 where
 -- ---- before boxes are moved
 
 -- with these boxes nothing can be refused any more
-pub record IsPlan (boxes : List Holding) (p : Plan) : Type 0 where
+pub record AreFindings (boxes : List Holding) (p : Findings) : Type 0 where
   pub found : recovery boxes ≡ Ok (planned p)
   pub kinds : parted boxes p.kinds.items ([], []) ≡ (map (λ h. (number_in h.bytes, h)) (live_in boxes), spares_in boxes)
   pub few : length (live_in boxes) ≤ length boxes

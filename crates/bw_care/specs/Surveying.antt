@@ -4,8 +4,8 @@ use Rattle.std.specs.Prelude.{ℕ, ◌+◌, ◌≤◌, List, [], ◌∷◌}
 use Rattle.std.specs.List.{fold}
 use Rattle.bw_care.specs.declared.scan.Scan.{Scan}
 use Rattle.bw_care.specs.declared.scan.Scan.TheVariants.{Bare, Part, Live}
-use Rattle.bw_care.specs.declared.parts.Kind.{Kind}
-use Rattle.bw_care.specs.declared.parts.Kind.TheVariants as kind
+use Rattle.bw_care.specs.declared.boxes.Kind.{Kind}
+use Rattle.bw_care.specs.declared.boxes.Kind.TheVariants as kind
 use Rattle.bw_care.specs.declared.order.Found.{Found}
 
 abbrev pub kind_seen : Scan → Kind

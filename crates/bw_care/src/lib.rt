@@ -17,7 +17,7 @@
 //! hangs on the bytes that there are, and on no number that it read.
 #![tactic(auto)]
 
-mod ahead;
+mod copies;
 mod cleaner;
 mod fault;
 mod forward;
@@ -25,14 +25,11 @@ pub mod laws;
 mod lengths;
 mod moves;
 mod order;
-mod parts;
-mod pass_over;
-mod plan;
-mod recovered;
+mod boxes;
+mod steps;
 mod recovery;
 mod rewriter;
 mod scan;
-mod survey;
 mod tally;
 mod upgrader;
 
@@ -40,7 +37,7 @@ pub use bw_lines::RecoverCause;
 pub use cleaner::{Cleaned, clean};
 pub use fault::CleanFault;
 pub use lengths::{bytes_upto, is_won, length_of, live_bytes};
-pub use recovered::Recovered;
+pub use recovery::Recovered;
 pub use recovery::{RecoverFault, recover};
 pub use rewriter::rewrite;
 pub use tally::{Counters, Looks, Tally};

@@ -14,7 +14,7 @@ ghost use Rattle.bw_care.specs.Cleaning.{is_old, old_pages, oldest_last, pages_u
 ghost use Rattle.bw_care.specs.Moving.{AreBases, HoldsSome, IsFull, IsNextBehind, IsReason, Moved, MovedBehind, Refused, Stopped, StoppedBehind};
 ghost use Rattle.bw_care.specs.Views.{seen, IsSound};
 
-use crate::ahead::{Ahead, read_ahead};
+use crate::copies::{Ahead, read_ahead};
 use bw_buffer::Buffer;
 use bw_codec::{Block, Place};
 use bw_device::Segment;

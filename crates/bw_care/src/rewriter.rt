@@ -8,7 +8,7 @@ ghost use Rattle.bw_care.specs.Moving.{MovedBehind};
 ghost use Rattle.bw_care.specs.Rewriting.{RefusesRewrite};
 ghost use Rattle.bw_care.specs.Views.{seen, IsSound};
 
-use crate::ahead::nothing;
+use crate::copies::nothing;
 use crate::moves::move_all;
 use bw_device::Segment;
 use bw_log::{Log, LogFault};

@@ -6,14 +6,17 @@
 //! refused after each loss of power. No beginning of a lawful frame is a whole one or begins
 //! another, so the bytes alone decide.
 
-ghost use Rattle.std.specs.Prelude.{◌≡◌, ◌≤◌, ◌<◌, ◌^◌, Some, IfOk, IfErr, Result, Ok, Err, length, drop};
+ghost use Rattle.std.specs.Prelude.{◌≡◌, ◌≤◌, ◌<◌, ◌^◌, Some, IfOk, IfErr, Result, Ok, Err, length, drop, map, slice_get, OnOk, IfSome};
 ghost use Rattle.bw_codec.specs.Grammar.{IsFront};
 ghost use Rattle.bw_codec.specs.Reading.{Gives, front_at};
 ghost use Rattle.bw_care.specs.Scanning.{fault_behind, fault_in, FaultIs};
-ghost use Rattle.bw_care.specs.Scanned.{IsScan};
+ghost use Rattle.bw_care.specs.Scanned.{IsScan, AreScans};
 ghost use Rattle.bw_care.specs.Behind.{IsBehind};
+ghost use Rattle.bw_care.specs.Passing.{ReadStops, PassStops};
 
 use bw_codec::{CodecFault, FrameRead, Header, HeaderRead, read_frame, read_header};
+use bw_device::{Segment, failures_of, lease_of, len_of, read_from};
+use bw_lines::RecoverCause;
 use bw_log::{FrameAt, Starts};
 use std::alloc::{AllocError, AllocFailed, Global};
 
@@ -140,4 +143,60 @@ pub fn scan_bytes(alloc: Global, bytes: &[u8]) -> Result<Scan, ScanFault>
         HeaderRead::Part => Ok(Scan::Part),
         HeaderRead::Bad => Err(ScanFault::BadBytes(0)),
     }
+}
+
+/// All bytes of a box; one of no bytes is not asked.
+pub(crate) fn read_box(
+    alloc: Global,
+    boxes: &mut Vec<Box<dyn Segment>>,
+    at: usize,
+) -> Result<Vec<u8>, RecoverCause>
+    requires { at < length boxes.old.items }
+    ensures bytes { IfOk result (λ bytes.
+        IfSome (slice_get (map holding boxes.old.items) at) (λ h. bytes.items ≡ h.bytes)) }
+    ensures same { OnOk result (map holding boxes.new.items ≡ map holding boxes.old.items) }
+    ensures stops { IfErr result (λ cause.
+        ReadStops at (map holding boxes.old.items) cause (map holding boxes.new.items)) }
+    ensures len { length boxes.new.items ≡ length boxes.old.items }
+{
+    let len = len_of(boxes, at);
+    if len == 0 {
+        return Ok(Vec::new(alloc));
+    }
+    if failures_of(boxes, at) == u64::MAX {
+        return Err(RecoverCause::Spent);
+    }
+    let mut bytes = vec![in alloc; 0u8; len as usize]?;
+    match read_from(boxes, at, 0, &mut bytes) {
+        Ok(()) => Ok(bytes),
+        Err(_) => {
+            let lease = lease_of(boxes, at);
+            Err(RecoverCause::Device { lease })
+        }
+    }
+}
+
+/// What each box is, in their order.
+pub fn scan_all(alloc: Global, boxes: &mut Vec<Box<dyn Segment>>) -> Result<Vec<Scan>, RecoverCause>
+    requires { length boxes.old.items < 2 ^ 32 }
+    ensures scans { IfOk result (λ scans. AreScans (map holding boxes.old.items) scans.items) }
+    ensures same { OnOk result (map holding boxes.new.items ≡ map holding boxes.old.items) }
+    ensures stops { IfErr result (λ cause.
+        PassStops (map holding boxes.old.items) cause (map holding boxes.new.items)) }
+{
+    let mut scans = Vec::new(alloc);
+    for at in 0..boxes.len() {
+        let bytes = read_box(alloc, boxes, at)?;
+        match scan_bytes(alloc, &bytes) {
+            Ok(scan) => scans.push(scan)?,
+            Err(ScanFault::NoMemory) => return Err(RecoverCause::NoMemory),
+            Err(ScanFault::BadBytes(offset)) => {
+                return Err(RecoverCause::BadBytes {
+                    segment: at as u32,
+                    at: offset,
+                });
+            }
+        }
+    }
+    Ok(scans)
 }

@@ -9,7 +9,7 @@ ghost use Rattle.bw_log.specs.Reads.{IsPage};
 ghost use Rattle.bw_care.specs.Upgrading.{old_segments, last_among, GivenUp, IsUpgraded, RefusesUpgrade};
 ghost use Rattle.bw_care.specs.Views.{seen, IsSound};
 
-use crate::ahead::nothing;
+use crate::copies::nothing;
 use crate::fault::CleanFault;
 use crate::moves::{move_all, old_pages};
 use bw_device::Segment;
