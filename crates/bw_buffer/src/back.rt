@@ -1,4 +1,10 @@
 //! A block of the frame in the making, read back out of its pieces.
+//!
+//! A page may leave memory while the frame in the making still has records of it. It is then read
+//! from the log, and without these records a value that was put and not yet flushed would be gone
+//! until the next flush. Nothing is kept beside the frame for that, since each record would cost
+//! its bytes twice: the block is spelled out of the frame's own pieces when it is asked for. That
+//! looks at all pieces of the frame, and only pages that left memory pay for it.
 
 ghost use Rattle.std.specs.Prelude.{◌≡◌, ◌++◌, [], length, if◌then◌else◌, IfOk, OnOk};
 ghost use Rattle.bw_codec.specs.Grammar.{block_bytes, IsBlock};

@@ -1,4 +1,14 @@
-//! The buffer itself.
+//! A frame while it grows.
+//!
+//! A group of records may not be parted between two frames, so whoever adds has to know before
+//! whether all of it fits. The length that the frame would have is known at any time, without
+//! laying it out. And room for the most that a frame can need is reserved once: behind that no
+//! addition is refused memory. Were one refused, a record could stand in the history and in its
+//! page, and in no frame.
+//!
+//! The bytes of records go to one arena in the order in which they come, and pieces say which block
+//! they belong to. Records of one page join in one Delta until another block of that page comes. A
+//! sealed buffer takes nothing more: its bytes may be half on the disk.
 
 ghost use Rattle.std.specs.Prelude.{ℕ, nat_eq, is_some, Some, None, if◌then◌else◌, ◌≡◌, ◌≤◌, ◌<◌, ◌+◌, ◌/◌, ◌∷◌, ◌++◌, ◌↔◌, ◌⊎◌, [], true, false, length, slice_get, IsTrue, IfOk, OnOk, OnErr, IfSome, IsErrOf};
 ghost use Rattle.std.specs.List.{AllByRecursion, flat_map};

@@ -1,4 +1,10 @@
 //! A frame laid out: heads and gaps first, then each piece into the gap of its block.
+//!
+//! The pieces of one Delta stand apart from each other, in the order in which records came.
+//! Gathered block by block, each block would look at all pieces, and a frame of many small Deltas
+//! would cost the square. So one pass writes the heads and leaves a gap for each block's pieces,
+//! and a second one writes each piece where its block's gap goes on. Neither takes memory: all room
+//! was reserved when the buffer was made.
 
 ghost use Rattle.std.specs.Prelude.{◌≡◌, ◌≤◌, ◌<◌, ◌+◌, ◌-◌, ◌∷◌, ◌++◌, ◌^◌, [], length, replicate, slice_index, slice_set, vec_len};
 ghost use Rattle.std.specs.List.{AllByRecursion};

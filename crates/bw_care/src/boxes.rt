@@ -1,4 +1,9 @@
-//! Boxes parted by what they are, once nothing can be refused any more.
+//! What boxes are, and where they go once nothing can be refused any more.
+//!
+//! A refusal gives all boxes back in the order in which they were handed in. A box that was moved
+//! to its place among the live ones could not be. So it is noted by position what each of them is,
+//! the lists get their room, and the boxes move last. One that holds a part of a header is dropped:
+//! a crash came while its header was written, nothing stands in it, and its lease comes back.
 
 ghost use Rattle.std.specs.Prelude.{◌≡◌, ◌≤◌, ◌<◌, ◌+◌, ◌∷◌, ◌++◌, [], length, map, zip, vec_len, IfOk, IfSome};
 ghost use Rattle.std.specs.Vec.{vec_capacity};

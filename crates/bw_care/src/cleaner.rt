@@ -1,5 +1,9 @@
 //! Cleaning: the pages that were last set in the oldest segment are written again, and its box is
 //! dropped.
+//!
+//! The order is all of it. Each page stands in a later frame before the segment goes: the other way
+//! round, a stop in between would lose pages. The frames of a cleaning may take the last spare, and
+//! no other frame may: were it taken by a flush, a log that is full could never win room again.
 
 ghost use Rattle.std.specs.Prelude.{◌≡◌, ◌<◌, ◌≤◌, ◌↔◌, Some, None, Err, true, false, length, IfOk, IfErr, IsErrOf};
 ghost use Rattle.bw_log.specs.Contents.{KeepsLeaves};

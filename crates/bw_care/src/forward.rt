@@ -1,5 +1,9 @@
 //! The forward reading of all segments: a second pass over their boxes, of which one frame is held
 //! at a time.
+//!
+//! A page is what its blocks say one after the other. Read page by page, by the links back, a frame
+//! would be parsed once for each page that it touches. Read forwards, each is parsed once, and each
+//! of its blocks changes the line of its page.
 
 ghost use Rattle.std.specs.Prelude.{◌≡◌, ◌≤◌, ◌<◌, ◌++◌, [], Some, List, length, map, slice_get, IfOk, IfErr, OnOk, IfSome};
 ghost use Rattle.bw_codec.specs.declared.block.Place.{Place as PlaceValue};

@@ -1,4 +1,9 @@
-//! Pages are written again, and no segment is given up.
+//! Pages that many frames touched are written again; no segment is given up.
+//!
+//! A page is read from its last setting block on, and each frame that touched it since is read
+//! whole. A page that lives long and changes a little in each frame would cost more with each
+//! flush. One Base behind all of that, and its next read is one frame. Its older blocks stay where
+//! they are until their segment is given up.
 
 ghost use Rattle.std.specs.Prelude.{◌≡◌, ◌↔◌, [], true, IfOk, IfErr, IsErrOf};
 ghost use Rattle.std.specs.List.{AllByRecursion};

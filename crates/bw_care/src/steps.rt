@@ -1,4 +1,9 @@
-//! What is ready before boxes are moved.
+//! Recovery's steps, one behind the other, before any box is moved.
+//!
+//! Frames are found in a first pass over each box, and their blocks are read in a second one, once
+//! the order of all segments is known. Parsed at once, all blocks of a log would stand in memory,
+//! many times what its pages take; read twice, one box and one parsed frame do. Only what the first
+//! pass found to be lawful is read again.
 
 ghost use Rattle.std.specs.Prelude.{◌≡◌, ◌≤◌, ◌<◌, nat_lt, true, [], IfOk, IfErr, IfSome, IfNone, OnOk, map, length, slice_get};
 ghost use Rattle.std.specs.Vec.{vec_capacity};

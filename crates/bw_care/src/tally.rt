@@ -1,5 +1,7 @@
-//! What a store counts beside what it keeps. Counting takes no memory, and nothing is refused for
-//! it.
+//! What a store counts beside what it keeps.
+//!
+//! Counting takes no memory, and nothing is refused for it. A number that is at its greatest stays
+//! there: one that began again at 0 would tell of a store that has just begun.
 
 ghost use Rattle.std.specs.Prelude.{◌≡◌};
 ghost use Rattle.bw_care.specs.Tallies.{counted_by, counted_from, counted_out, counted_up};

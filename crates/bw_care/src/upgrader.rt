@@ -1,5 +1,10 @@
 //! An upgrade: the pages that were last set in segments of version 1 are written again, and all of
 //! these segments are given up.
+//!
+//! What is written now has version 2, so the segments of version 1 are the oldest ones, and
+//! recovery refuses any other order. They go oldest first, each once nothing that is read stands in
+//! it. A stop in between leaves younger ones of version 1: they are lawful, and the next call goes
+//! on.
 
 ghost use Rattle.std.specs.Prelude.{◌≡◌, ◌<◌, ◌≤◌, ◌↔◌, ℕ, Some, None, Err, true, false, length, take, slice_get, IfOk, IfErr, IfSome, IsErrOf};
 ghost use Rattle.bw_log.specs.Contents.{counted, KeepsLeaves};

@@ -30,7 +30,6 @@ mod oldest;
 mod pages;
 mod place_changes;
 mod places;
-mod spans;
 mod starts;
 mod values;
 

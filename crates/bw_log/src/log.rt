@@ -1,4 +1,13 @@
 //! The log itself: its boxes, its tables and the questions that they answer.
+//!
+//! A read may not search the segments. For each page a line has the places of its last block and of
+//! the last that sets it, and from there blocks link back; for each frame a line says where it
+//! stands. The tables are on no disk: recovery makes them of the bytes again, so the two never
+//! disagree.
+//!
+//! Behind a failed append nobody knows what the device holds. A frame behind that might stand
+//! behind bytes at which recovery ends, and be lost although it was answered. So a log that failed
+//! takes no frame any more, and only recovery says what is there.
 
 ghost use Rattle.std.specs.Prelude.{◌≡◌, ◌+◌, ◌-◌, ◌<◌, ◌≤◌, ◌==◌, ◌↔◌, ◌⊎◌, ◌∷◌, ◌++◌, [], length, map, Some, None, false, slice_get, if◌then◌else◌, IsTrue, IfOk, IfErr, OnOk, IfSome, MatchOption, MatchResult, IsErrAnd, vec_len};
 ghost use Rattle.std.specs.Vec.{vec_capacity};

@@ -1,8 +1,14 @@
 //! The oldest segments: what the cleaner asks of them, and gives up.
+//!
+//! Giving up a segment is the one call that takes counted frames away. Whoever calls has written
+//! each page again whose last setting block stands there: were one left, its next read would follow
+//! a link into a segment that is gone. The lines of frames stand in the order of their numbers, so
+//! the lines of one segment are neighbours, and its last one is found by a search.
 
 ghost use Rattle.std.specs.Prelude.{◌≡◌, ◌+◌, ◌-◌, ◌<◌, ◌≤◌, Some, None, false, length, drop, slice_get, MatchOption};
 ghost use Rattle.bw_log.specs.Contents.{counted, KeepsLeaves};
 ghost use Rattle.bw_log.specs.Oldest.{NoBaseBefore, oldest_count, last_number};
+ghost use Rattle.bw_log.specs.Spans.{last_upto};
 
 use crate::log::Log;
 
@@ -84,5 +90,23 @@ impl Log {
         drop(self.live.remove(0));
         self.frames.retain(|line| line.segment != number);
         self.number = number + 1;
+    }
+}
+
+impl Log {
+    ghost use Rattle.bw_log.specs.Views.{seen_by};
+
+    /// The number of the last counted frame in the segments up to the one with this number, or 0
+    /// where they have none. It costs a look at the line of each counted frame.
+    pub fn last_upto(&self, segment: u64) -> u64
+        ensures { result ≡ last_upto segment (seen_by holding self.now).frames }
+    {
+        let mut last = 0;
+        'lines: for line in self.frames.as_slice() {
+            if line.segment <= segment {
+                last = line.number;
+            }
+        }
+        last
     }
 }

@@ -1,4 +1,12 @@
 //! Where frames and pages stand.
+//!
+//! A link on the disk is a frame's number with the index of a block, and no offset: recovery checks
+//! it by what it has read before, in whatever order the segments were handed in. The price is a
+//! look-up: a line of each frame says in which segment it stands, and where its blocks begin.
+//!
+//! Of each page it is also counted from how many frames it is read. A page that one record of each
+//! frame changes would else be read from thousands of frames, and nobody would know which pages to
+//! write again.
 
 ghost use Rattle.std.specs.Prelude.{◌≡◌};
 ghost use Rattle.bw_log.specs.PageTable.{changed_line, set_line};

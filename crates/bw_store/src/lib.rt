@@ -16,7 +16,7 @@ mod open;
 mod publish;
 mod questions;
 mod reads;
-mod renew;
+mod cleaning;
 mod reopen;
 mod segments;
 mod settle;

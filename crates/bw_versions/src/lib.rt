@@ -10,22 +10,16 @@
 //! `specs/Versioned.antt` what the store's end of it is.
 #![tactic(auto)]
 
-mod batch;
 mod board;
 mod book;
-mod front;
-mod informed;
 mod laws;
-mod operation;
 mod publisher;
 mod reader;
 mod threads;
-mod version;
 mod versions;
 mod view;
-mod writer;
 
-pub use batch::Batch;
+pub use board::Batch;
 pub use board::Board;
 pub use laws::batches_are_joined;
 pub use publisher::{Publisher, Unpublished};

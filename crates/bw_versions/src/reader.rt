@@ -1,11 +1,16 @@
 //! Readers, and news.
+//!
+//! A reader looks at the board that is shown, and the two boards change places while it asks. What
+//! it saw last, and what news told it, are fronts of one book: an answer whose front is shorter is
+//! none. Without that, a thread that was told of a record could ask for it and be shown the board
+//! before.
 
 ghost use Rattle.std.specs.Prelude.{◌≡◌, ◌⊎◌, OnOk, OnErr, IfOk, IfSome};
 ghost use mathlib.Core.List.{IsPrefix};
 ghost use Rattle.bw_versions.specs.Posted.{posted_of, value_in, leaf_in, IsFirstIn};
 ghost use Rattle.bw_versions.specs.Heard.{Beyond, Reads};
 
-use crate::front::Front;
+use crate::book::Front;
 use crate::view::{Looker, NextAt, PageOf, Question, VersionReader};
 use bw_codec::{Key, Leaf, Value};
 use core::mem::replace_with;

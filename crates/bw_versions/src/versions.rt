@@ -1,4 +1,9 @@
 //! What a store publishes: its start leaves, and its history up to the durable cut.
+//!
+//! Nothing is shown that a crash could take back: a reader that acted on such a value would have
+//! seen what never was. So a batch ends at a cut that is durable, and has all entries up to it. A
+//! publication that is refused memory may have entered its batch in the book already; it is counted
+//! as entered then, or the next one would bring the same entries again.
 
 ghost use Rattle.std.specs.Prelude.{◌≡◌, ◌↔◌, ◌++◌, ◌+◌, ◌∷◌, ◌≤◌, ◌<◌, ◌-◌, ◌^◌, [], Some, Err, IsOk, IfOk, OnOk, OnErr, drop, length};
 ghost use mathlib.Core.List.{IsPrefix};
@@ -6,7 +11,7 @@ ghost use Rattle.bw_versions.specs.Batches.{entries_of};
 ghost use Rattle.bw_versions.specs.Posted.{posted_of};
 ghost use Rattle.bw_versions.specs.Versioned.{EntersWhole, IsUpTo, history_of};
 
-use crate::batch::Batch;
+use crate::board::Batch;
 use crate::publisher::{Publisher, Unpublished};
 use crate::reader::{News, ReadFault, Reader};
 use bw_history::PackedEntry;

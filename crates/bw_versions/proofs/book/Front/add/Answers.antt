@@ -1,6 +1,6 @@
 use Rattle.std.proofs.Common.{sym, ◌∙◌, ◌≡◌, ap}
 use Rattle.bw_versions.proofs.Adding.{adds_moves}
-use Rattle.bw_versions.proofs.front.Front.add.Goals as goal
+use Rattle.bw_versions.proofs.book.Front.add.Goals as goal
 
 pub compare_exchange-found-requires : goal.compare_exchange-found-requires
 compare_exchange-found-requires c =

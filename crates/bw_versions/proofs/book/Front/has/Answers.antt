@@ -2,7 +2,7 @@ use Rattle.std.proofs.Common.{◌≤◌, ap, subst, arith, length, List}
 use mathlib.Core.List.{IsPrefix}
 use Rattle.bw_versions.specs.Batches.{BatchData}
 use Rattle.bw_versions.proofs.Fronts.{prefix_shorter}
-use Rattle.bw_versions.proofs.front.Front.has.Goals as goal
+use Rattle.bw_versions.proofs.book.Front.has.Goals as goal
 
 pub returns-then-other-self : goal.returns-then-other-self
 returns-then-other-self c =
