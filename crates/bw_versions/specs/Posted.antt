@@ -3,8 +3,8 @@
 use Rattle.std.specs.Prelude.{ℕ, ◌≡◌, List, [], ◌++◌, Option, Some, None, fold}
 use Rattle.std.specs.FinMap as finite
 use Rattle.bw_record.specs.declared.leaf.Leaf.{Leaf}
-use Rattle.bw_page.specs.Ahead.{IsFirst}
-use Rattle.bw_leaf.specs.Changed.{Bytes}
+use Rattle.bw_page.specs.Ahead.{IsFirst, IsStretch}
+use Rattle.bw_leaf.specs.Changed.{Bytes, Pairs}
 use Rattle.bw_page.specs.Leaves.{plain, leaf_at}
 use Rattle.bw_page.specs.Shown.{Shown, run}
 use Rattle.bw_history.specs.declared.entry.Entry.{Entry}
@@ -34,6 +34,11 @@ leaf_in (Some p) page = leaf_at page (pages_of p).leaves
 abbrev pub IsFirstIn : Option Posted → Bytes → Option (Bytes × Bytes) → Type 0
 IsFirstIn None key pair = pair ≡ None
 IsFirstIn (Some p) key pair = IsFirst (plain p.start.leaves (records p.entries)) key pair
+
+-- the pairs at or above a key, in order and no more than so many
+abbrev pub IsStretchIn : Option Posted → Bytes → ℕ → Pairs → Type 0
+IsStretchIn None key most pairs = pairs ≡ []
+IsStretchIn (Some p) key most pairs = IsStretch (plain p.start.leaves (records p.entries)) key most pairs
 
 abbrev pub entries_in : Option Posted → List Entry
 entries_in None = []

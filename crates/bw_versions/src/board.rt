@@ -11,18 +11,19 @@
 
 ghost use Rattle.std.specs.Prelude.{◌≡◌, ◌++◌, ◌∷◌, [], map, ◌+◌, ◌≤◌, Err, vec_len, length, IfOk, OnOk, OnErr, IsErr};
 ghost use Rattle.std.specs.Vec.{vec_capacity};
-ghost use Rattle.bw_page.specs.Ahead.{IsFirst};
+ghost use Rattle.bw_page.specs.Ahead.{IsFirst, IsStretch};
 ghost use Rattle.bw_page.specs.Leaves.{plain, union};
 ghost use Rattle.bw_page.specs.Batch.{SomeIsSpent};
 ghost use Rattle.bw_history.specs.Entries.{records};
-ghost use Rattle.bw_versions.specs.Posted.{pages_of, brings, posted_of, value_in, leaf_in, IsFirstIn};
+ghost use Rattle.bw_versions.specs.Posted.{pages_of, brings, posted_of, value_in, leaf_in, IsFirstIn, IsStretchIn};
 ghost use Rattle.std.specs.Option.{ForSome};
 ghost use Rattle.std.specs.FinMap as finite;
 
 use crate::book::Front;
-use bw_codec::{Key, Leaf, Value};
+use bw_codec::{Key, Leaf, Pair, Value};
 use bw_history::PackedEntry;
 use bw_page::{ApplyError, Leaves, Start};
+use bw_walks::share_stretch;
 use std::alloc::{AllocError, Global};
 use std::marker::Model;
 use std::snapshot::Snapshot;
@@ -98,6 +99,20 @@ impl Board {
         ensures { IsFirst (plain self.now.start.leaves (records self.now.entries)) key.now result }
     {
         self.leaves.next_at(key)
+    }
+
+    /// Puts the pairs at or above a key into `found`, in order and no more than so many. They share
+    /// their bytes with the pages. A refusal is the only error.
+    pub fn scan_shared(
+        &self,
+        key: &Key,
+        most: usize,
+        found: &mut Vec<Pair>,
+    ) -> Result<(), AllocError>
+        ensures { OnOk result (IsStretch (plain self.now.start.leaves
+            (records self.now.entries)) key.now most found.new.items) }
+    {
+        share_stretch(&self.leaves, key, most, found)
     }
 
     /// Appends entries, all or none: a refusal changes nothing. No record is copied: the pages share
@@ -250,6 +265,13 @@ impl Posts {
         next(&self.board, key)
     }
 
+    /// The pairs at or above a key, in order and no more than so many.
+    pub fn stretch(&self, key: &Key, most: usize) -> Result<Vec<Pair>, AllocError>
+        ensures { IfOk result (λ pairs. IsStretchIn (posted_of self.now) key.now most pairs.items) }
+    {
+        stretch(*self.batches.allocator(), &self.board, key, most)
+    }
+
     /// A page, if there is one.
     pub fn page(&self, page: u32) -> Result<Option<Leaf>, AllocError>
         ensures { IfOk result (λ leaf. leaf ≡ leaf_in (posted_of self.now) page) }
@@ -312,6 +334,21 @@ fn next(board: &Option<Board>, key: &Key) -> Option<(Key, Value)>
         Some(board) => board.next_at(key),
         None => None,
     }
+}
+
+fn stretch(
+    alloc: Global,
+    board: &Option<Board>,
+    key: &Key,
+    most: usize,
+) -> Result<Vec<Pair>, AllocError>
+    ensures { IfOk result (λ pairs. IsStretchIn board.now key.now most pairs.items) }
+{
+    let mut found = Vec::new(alloc);
+    if let Some(board) = board {
+        board.scan_shared(key, most, &mut found)?;
+    }
+    Ok(found)
 }
 
 fn leaf(board: &Option<Board>, page: u32) -> Result<Option<Leaf>, AllocError>

@@ -19,8 +19,7 @@ mod threads;
 mod versions;
 mod view;
 
-pub use board::Batch;
-pub use board::Board;
+pub use board::{Batch, Board};
 pub use laws::batches_are_joined;
 pub use publisher::{Publisher, Unpublished};
 pub use reader::{News, NoReader, ReadFault, Reader, ReaderOf};

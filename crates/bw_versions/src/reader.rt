@@ -7,12 +7,12 @@
 
 ghost use Rattle.std.specs.Prelude.{◌≡◌, ◌⊎◌, OnOk, OnErr, IfOk, IfSome};
 ghost use mathlib.Core.List.{IsPrefix};
-ghost use Rattle.bw_versions.specs.Posted.{posted_of, value_in, leaf_in, IsFirstIn};
+ghost use Rattle.bw_versions.specs.Posted.{posted_of, value_in, leaf_in, IsFirstIn, IsStretchIn};
 ghost use Rattle.bw_versions.specs.Heard.{Beyond, Reads};
 
 use crate::book::Front;
-use crate::view::{Looker, NextAt, PageOf, Question, VersionReader};
-use bw_codec::{Key, Leaf, Value};
+use crate::view::{Looker, NextAt, PageOf, Question, Stretch, VersionReader};
+use bw_codec::{Key, Leaf, Pair, Value};
 use core::mem::replace_with;
 use std::marker::Model;
 use thiserror::Error;
@@ -138,6 +138,35 @@ impl<L: Looker> ReaderOf<L> {
         *seen = mark.again();
         *learnt = mark;
         Ok(pair)
+    }
+
+    /// The pairs at or above a key in what was published, in order and no more than so many. All
+    /// are of one version: no publication comes between two of them. Their bytes are not copied, and
+    /// stay in memory as long as a pair does that was found.
+    ///
+    /// It costs a search and a look for each page, and a look at each pair; meanwhile a publication
+    /// waits. Refused `NoReader` as `get` is, or `NoMemory`.
+    pub fn scan(&mut self, key: &Key, most: usize) -> Result<Vec<Pair>, ReadFault>
+        ensures reads { OnOk result (Reads self.old self.new) }
+        ensures answer { IfOk result (λ pairs.
+            IsStretchIn (posted_of self.new.seen) key.now most pairs.items) }
+        ensures unchanged { OnErr result (self.new ≡ self.old) }
+    {
+        let ReaderOf {
+            inner,
+            seen,
+            learnt,
+        } = self;
+        let asked = Stretch { from: key, most };
+        let Some((pairs, mark)) = looked(inner, seen, learnt, &asked) else {
+            return Err(ReadFault::NoReader);
+        };
+        let Ok(pairs) = pairs else {
+            return Err(ReadFault::NoMemory);
+        };
+        *seen = mark.again();
+        *learnt = mark;
+        Ok(pairs)
     }
 
     /// A copy of a page of what was published, if there is such a page; before the first

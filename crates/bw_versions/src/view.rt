@@ -14,7 +14,7 @@ ghost use Rattle.bw_versions.specs.Heard.{Beyond};
 
 use crate::book::Front;
 use crate::board::{Posts, Version};
-use bw_codec::{Key, Leaf, Value};
+use bw_codec::{Key, Leaf, Pair, Value};
 use crossbeam_utils::rule::{Outcome, Protocol};
 use std::alloc::AllocError;
 
@@ -84,6 +84,27 @@ impl<'k> Question for NextAt<'k> {
 
     fn ask(&self, posts: &Posts) -> Option<(Key, Value)> {
         posts.next_at(self.0)
+    }
+}
+
+/// The pairs at or above a key, and no more than so many.
+#[derive(Drop)]
+pub struct Stretch<'k> {
+    pub from: &'k Key,
+    pub most: usize,
+}
+
+impl<'k> Question for Stretch<'k> {
+    type Answer = Result<Vec<Pair>, AllocError>;
+
+    ghost use Rattle.std.specs.Prelude.{IfOk};
+    ghost use Rattle.bw_versions.specs.Posted.{IsStretchIn};
+
+    ghost answers = { λ asked p answer. IfOk answer (λ pairs.
+        IsStretchIn p asked.from.now asked.most pairs.items) };
+
+    fn ask(&self, posts: &Posts) -> Result<Vec<Pair>, AllocError> {
+        posts.stretch(self.from, self.most)
     }
 }
 

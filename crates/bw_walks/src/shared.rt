@@ -3,13 +3,16 @@
 //! A page holds each pair as a handle to one run of bytes, and so does whoever asked for it: the
 //! run never changes, and stays in memory as long as one of them holds it.
 
-ghost use Rattle.std.specs.Prelude.{◌≡◌, ◌+◌, ◌≤◌, ◌++◌, length, vec_len, OnOk};
+ghost use Rattle.std.specs.Prelude.{◌≡◌, ◌+◌, ◌≤◌, ◌++◌, [], length, vec_len, OnOk};
 ghost use Rattle.std.specs.Vec.{vec_capacity};
 ghost use Rattle.bw_leaf.specs.Above.{pairs_above, with_some};
 ghost use Rattle.bw_leaf.specs.Seek.{seek_of, end_of};
+ghost use Rattle.bw_page.specs.Ahead.{IsStretch};
+ghost use Rattle.bw_page.specs.Leaves.{home, union};
 
 use bw_codec::{Key, Leaf, Pair, Pairs};
 use bw_leaf::find_key;
+use bw_page::Leaves;
 use std::alloc::AllocError;
 
 /// The index of the first pair at or above a key, or how many pairs there are.
@@ -66,4 +69,49 @@ pub fn share_pairs(
     let ahead = read_runs(pairs) % 2;
     found.reserve(count.max(ahead))?;
     push_shared(found, pairs)
+}
+
+/// The same of the page on which a record of the key would stand, where no page is evicted.
+fn share_home(
+    leaves: &Leaves,
+    key: &Key,
+    most: usize,
+    found: &mut Vec<Pair>,
+) -> Result<(), AllocError>
+    requires { leaves.now.evicted ≡ [] }
+    ensures { OnOk result (found.new.items ≡ with_some most found.old.items
+        (pairs_above key.now (home key.now leaves.now.leaves).pairs)) }
+{
+    let _ = leaves.count();
+    match leaves.page(leaves.find(key)) {
+        Some(leaf) => share_pairs(leaf, key, most, found),
+        None => unreachable!(),
+    }
+}
+
+/// Puts the pairs at or above a key into `found`, in order and no more than so many, where no page
+/// is evicted. What stood in `found` is dropped before.
+///
+/// It costs a search and a look for each page, and a look at each pair. Refused as `share_pairs`
+/// is; `found` then has some of the pairs.
+pub fn share_stretch(
+    leaves: &Leaves,
+    key: &Key,
+    most: usize,
+    found: &mut Vec<Pair>,
+) -> Result<(), AllocError>
+    requires { leaves.now.evicted ≡ [] }
+    ensures { OnOk result (IsStretch (union leaves.now.leaves) key.now most found.new.items) }
+{
+    let _ = leaves.count();
+    found.clear();
+    let mut from = key.copy();
+    'pages: while found.len() < most {
+        share_home(leaves, &from, most, found)?;
+        match leaves.low_above(&from) {
+            Some(low) => from = low,
+            None => return Ok(()),
+        }
+    }
+    Ok(())
 }
