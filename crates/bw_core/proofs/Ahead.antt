@@ -19,7 +19,7 @@ use Rattle.bw_buffer.proofs.Sizes.{records_joined}
 use Rattle.bw_making.specs.declared.draft.Row.{Row}
 use Rattle.bw_making.specs.Adding.{Drawn, count_after, here_for, last_for, result_of, upper_if, planned, back_in, blocks_for, drawn_by}
 use Rattle.bw_making.specs.Drafting.{count_with, is_row_of, open_by, open_in, records_by, records_in, place_by, place_in, row_by, row_for, row_in}
-use Rattle.bw_core.proofs.Placing.{set_newest, push_newest, delta_end}
+use Rattle.bw_making.proofs.Placing.{set_newest, push_newest, delta_end}
 use Rattle.bw_core.proofs.Stepping.{length-applied}
 
 rows_last : (rows : List Row) (row : Row) (p : ℕ) → row_in (rows ++ row ∷ []) p ≡ (if is_row_of p row then Some row else row_in rows p)

@@ -41,7 +41,8 @@ use Rattle.bw_history.specs.History.{upto}
 use Rattle.bw_core.specs.Growing.{frames_upto}
 use Rattle.bw_core.specs.Kept.{Kept, IsSound}
 use Rattle.bw_core.specs.Settled.{IsSettled}
-use Rattle.bw_core.specs.Cleaning.{end_by, with_moved, fault_of_clean, GivesUp, HasMoved, HasStopped, MoveLeaves, HasBoxesBut, HasFloorBut}
+use Rattle.bw_history.specs.Cuts.{end_by}
+use Rattle.bw_core.specs.Cleaning.{with_moved, fault_of_clean, GivesUp, HasMoved, HasStopped, MoveLeaves, HasBoxesBut, HasFloorBut}
 use Rattle.bw_core.specs.Emptied.{Behind, Emptied, WhereSome}
 use Rattle.bw_core.proofs.FramesBehind.{end_is, first_ahead, none_above, placed_page, pages_counted}
 use Rattle.bw_core.proofs.MovedMore.{Adds, Moves, high, next_then, moved_sound, kept_shares, last_cut, all_cuts}

@@ -17,7 +17,8 @@ use Rattle.bw_page.specs.Leaves.{directed_at, result_of}
 use Rattle.bw_buffer.specs.Filling.{frame_of, size_of, with_all}
 use Rattle.bw_buffer.proofs.Sizes.{pushed_size}
 use Rattle.bw_making.specs.Adding.{blocks_for, here_for}
-use Rattle.bw_core.specs.Fitting.{Fits, FitsDelta, back_for, group_blocks, here_at}
+use Rattle.bw_making.specs.Filing.{FitsDelta}
+use Rattle.bw_core.specs.Fitting.{Fits, back_for, group_blocks, here_at}
 use Rattle.bw_core.specs.Kept.{Kept, IsSound}
 use Rattle.bw_core.proofs.MayEnter.{Enters, enters_at}
 use Rattle.bw_core.proofs.Planned.{back_at, fits_empty}

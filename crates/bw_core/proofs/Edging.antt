@@ -17,7 +17,7 @@ use Rattle.bw_log.specs.declared.fault.LogFault.{LogFault}
 use Rattle.bw_log.specs.declared.fault.LogFault.TheVariants as log
 use Rattle.bw_care.specs.Moving as care
 use Rattle.bw_care.proofs.OwnSegments.{live_long}
-use Rattle.bw_core.specs.declared.edge.Edge.{Edge}
+use Rattle.bw_core.specs.declared.origin.Edge.{Edge}
 use Rattle.bw_core.specs.Edges.{newest_number, IsEdge, IsBegun}
 use Rattle.bw_core.specs.Reopened.{edge_at, edge_of}
 

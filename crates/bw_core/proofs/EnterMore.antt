@@ -31,7 +31,7 @@ use Rattle.bw_making.specs.Drafting.{AreIn, rows_all, set_row}
 use Rattle.bw_core.specs.Fitting.{Fits, drawn_of, group_blocks}
 use Rattle.bw_history.specs.History.{entered}
 use Rattle.bw_core.specs.Kept.{Kept, Filed, IsSound}
-use Rattle.bw_making.specs.Tails.{is_made}
+use Rattle.bw_making.specs.Overlay.{is_made}
 use Rattle.bw_core.specs.Faults.{fault_of_apply}
 use Rattle.bw_core.specs.Taken.{taken_all}
 use Rattle.bw_core.specs.declared.fault.StoreFault.{StoreFault}

@@ -46,7 +46,7 @@ use Rattle.bw_core.specs.Kept.{Kept, IsSound}
 use Rattle.bw_core.specs.Faults.{fault_of}
 use Rattle.bw_core.specs.Reading.{leaves_now, ReadLeaves, with_log}
 use Rattle.bw_making.specs.Share.{ops_at}
-use Rattle.bw_making.specs.Tails.{makes, is_made}
+use Rattle.bw_making.specs.Overlay.{makes, is_made}
 use Rattle.bw_leaf.specs.Words.{told_by, records_word, value_on}
 use Rattle.bw_leaf.specs.declared.words.Word.{Word}
 use Rattle.bw_leaf.proofs.Wording.{records_tell}
@@ -54,8 +54,8 @@ use Rattle.bw_log.proofs.Valued.{page_rises}
 use Rattle.bw_log.proofs.Walked.{page_set}
 use Rattle.bw_making.proofs.Joins.{none_touches, added_made}
 use Rattle.bw_core.proofs.Stepping.{length-applied}
-use Rattle.bw_making.proofs.TailSteps.{over_tail, never_made}
-use Rattle.bw_core.proofs.Placing.{placed_push}
+use Rattle.bw_making.proofs.OverlaySteps.{over_overlay, never_made}
+use Rattle.bw_making.proofs.Placing.{placed_push}
 
 -- ---- a page in the log
 
@@ -86,7 +86,7 @@ module _ (s : Kept) (h : IsSound s) (p : ℕ) (from : 1 ≤ p) (within : p ≤ l
 
   pub evicted_page : (below : Leaf) → content p (blocks_of (logs.counted s.log)) ≡ Some below
       → leaf_at p s.filed.leaves ≡ Some (all_changed (ops_at p s.making.blocks) below)
-  evicted_page below read = by_making (Some below) read ∙ over_tail p below s.making.blocks apart
+  evicted_page below read = by_making (Some below) read ∙ over_overlay p below s.making.blocks apart
 
   set_before : content p (blocks_of (logs.counted s.log)) ≡ None → ⊥
   set_before none = page_there p s.filed.leaves from within (by_making None none ∙ never_made p s.making.blocks apart)

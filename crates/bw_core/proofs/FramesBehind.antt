@@ -17,7 +17,7 @@ use Rattle.bw_leaf.specs.Forwards.{blocks_of}
 use Rattle.bw_page.specs.Standing.{Stand}
 use Rattle.bw_page.proofs.OneStanding.{one}
 use Rattle.bw_log.specs.Contents as logs
-use Rattle.bw_core.specs.Cleaning.{end_by}
+use Rattle.bw_history.specs.Cuts.{end_by}
 use Rattle.bw_log.specs.Places.{placed, all_placed, later, place_of, first_number}
 use Rattle.bw_log.specs.Segments.{following, next_of, AreFrom}
 use Rattle.bw_log.proofs.Entries.{all_append, each_counted}

@@ -1,13 +1,12 @@
 -- A store that was just opened.
 
-use Rattle.std.proofs.Common.{◌≡◌, ℕ, zero, suc, ◌+◌, ◌-◌, ◌≤◌, inl, lit≤, lit<, Bool, false, Some, None, List, [], ◌∷◌}
-use Rattle.std.proofs.Common.{length, map, refl, sym, ap, ◌∙◌, subst, arith, append-nil, if◌then◌else◌}
+use Rattle.std.proofs.Common.{◌≡◌, ℕ, zero, suc, ◌-◌, ◌≤◌, inl, lit≤, lit<, Bool, false, Some, None, List, [], ◌∷◌}
+use Rattle.std.proofs.Common.{map, refl, sym, ap, ◌∙◌, subst, arith, if◌then◌else◌}
 use Rattle.std.specs.Prelude.{◌==◌}
 use Rattle.std.specs.List.{AllByRecursion as All, slice_get}
 use Rattle.std.proofs.lemmas.Bool.{ne_eqb}
 use Rattle.std.proofs.lemmas.Option.{slice_get_past}
-use Rattle.bw_codec.specs.Grammar.{body_bytes, block_bytes, IsBlock}
-use Rattle.bw_codec.proofs.Lengths.{length-base}
+use Rattle.bw_codec.specs.Grammar.{IsBlock}
 use Rattle.bw_codec.specs.declared.block.Place.{Place}
 use Rattle.bw_codec.specs.declared.block.Block.{Block}
 use Rattle.bw_codec.specs.declared.block.Block.TheVariants.{Base}
@@ -17,8 +16,7 @@ use Rattle.bw_leaf.specs.Forwards.{content}
 use Rattle.bw_page.specs.Standing.{Stand}
 use Rattle.bw_page.proofs.Law.{one_empty-lawful}
 use Rattle.bw_device.specs.Holding.{Holding}
-use Rattle.bw_buffer.specs.Filling.{Filling, size_of, with_all}
-use Rattle.bw_buffer.specs.Joining.{added}
+use Rattle.bw_buffer.specs.Filling.{Filling}
 use Rattle.bw_ring.specs.Ends.{Ring}
 use Rattle.bw_log.specs.Contents as logs
 use Rattle.bw_log.specs.Limits.{fresh}
@@ -26,7 +24,8 @@ use Rattle.bw_log.specs.Places.{place_of}
 use Rattle.bw_page.specs.Shown.{Shown}
 use Rattle.bw_history.specs.declared.entry.Entry.{Entry}
 use Rattle.bw_core.specs.declared.config.Config.{Config}
-use Rattle.bw_core.specs.Opened.{first_place, first_frame, first_making, one_empty, started, opened, AreTaken}
+use Rattle.bw_making.specs.Begun.{first_place, first_frame, first_making}
+use Rattle.bw_core.specs.Opened.{one_empty, started, opened, AreTaken}
 use Rattle.bw_core.specs.Kept.{Kept, IsSound}
 use Rattle.bw_core.proofs.Telling.{tells_none}
 
@@ -79,21 +78,9 @@ opened_sound rings m f spares sound = record {
   left = λ failed. absurd cc;
 }
 
-first_fits : (f : ℕ) (blocks : List Block) → 65536 ≤ f → blocks ≡ Base empty_leaf ∷ [] → 20 + length (body_bytes (added [] blocks)) ≤ f
-first_fits f blocks h is =
-    (let e = ap (λ (bs : List Block). length (body_bytes (added [] bs))) is in
-    let a = ap length (append-nil (block_bytes (Base empty_leaf))) in
-    let b = length-base empty_leaf in
-    omega arith)
-
 pub first_lawful : (blocks : List Block) → blocks ≡ Base empty_leaf ∷ [] → All (IsBlock 32) blocks
 first_lawful blocks is = subst (All (IsBlock 32)) (sym is)
     (record { page = (lit≤ tt, lit< tt); low = lit≤ tt; count = lit≤ tt; pairs = tt; ascends = refl }, tt)
-
-pub fits_at : (b : Filling) (f : ℕ) (items shown : List Block) → b ≡ record { frame = 1; limit = f; blocks = []; is_sealed = false } → 65536 ≤ f
-    → items ≡ Base empty_leaf ∷ [] → shown ≡ items → size_of (with_all b shown) ≤ b.limit
-fits_at b f items shown is h made same =
-    subst (λ (x : Filling). size_of (with_all x shown) ≤ x.limit) (sym is) (first_fits f shown h (same ∙ made))
 
 -- boxes are taken that the slice of them is told to be
 pub taken_at : {X : Type 0} (config : Config) (view : X → Holding) (shown items : List X) → AreTaken config (map view shown) → shown ≡ items

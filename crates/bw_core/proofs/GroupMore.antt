@@ -31,7 +31,7 @@ use Rattle.bw_making.specs.Drafting.{AreIn, count_by, row_by, row_for, rows_all,
 use Rattle.bw_core.specs.Fitting.{Fits, back_for, drawn_of, group_blocks, here_at}
 use Rattle.bw_history.specs.History.{entered}
 use Rattle.bw_core.specs.Kept.{Kept, IsSound}
-use Rattle.bw_making.specs.Tails.{is_made}
+use Rattle.bw_making.specs.Overlay.{is_made}
 use Rattle.bw_core.specs.Taken.{alone, taken, taken_all}
 use Rattle.bw_core.specs.Taking.{HasAllPages}
 use Rattle.bw_core.proofs.EvictedPages.{evicted_entered}

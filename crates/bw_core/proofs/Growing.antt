@@ -28,7 +28,7 @@ use Rattle.bw_making.specs.Adding.{with_blocks, count_after, here_for, last_for,
 use Rattle.bw_core.specs.Growing.{Grown}
 use Rattle.bw_making.proofs.Joins.{content_with, quiet_with, added_lawful, joins_within}
 use Rattle.bw_core.proofs.Stepping.{whole_content, old_content, new_content, length-applied}
-use Rattle.bw_core.proofs.Placing.{delta_linked, delta_place, delta_end, split_linked, split_place, set_newest, push_newest}
+use Rattle.bw_making.proofs.Placing.{delta_linked, delta_place, delta_end, split_linked, split_place, set_newest, push_newest}
 
 all-write : {X : Type 0} (P : X → Type 0) (xs : List X) (i : ℕ) (x : X) → All P xs → P x → All P (set xs i x)
 all-write P [] i x h k = tt

@@ -1,5 +1,4 @@
 pub mod Stepping
-pub mod Placing
 pub mod Telling
 pub mod Growing
 pub mod RecordMore

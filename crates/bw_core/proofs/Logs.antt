@@ -18,7 +18,7 @@ use Rattle.bw_core.specs.Following.{Follows}
 use Rattle.bw_core.specs.Growing.{Grown, frames_upto}
 use Rattle.bw_core.specs.Kept.{Kept, leaves_at, TellsShare, IsSound}
 use Rattle.bw_core.specs.Reading.{with_log}
-use Rattle.bw_core.specs.declared.edge.Edge.{Edge}
+use Rattle.bw_core.specs.declared.origin.Edge.{Edge}
 use Rattle.bw_core.specs.Edges.{IsBegun}
 use Rattle.bw_core.proofs.Edging.{begun_on}
 use Rattle.bw_core.proofs.FollowMore.{stays_on}

@@ -15,7 +15,8 @@ use Rattle.bw_log.specs.Segments.{following, next_of}
 use Rattle.bw_log.specs.Appends.{refusal, MayFollow, Appended, Stopped, IsSameLog, Rose, IsOkOrDevice, OnDevice}
 use Rattle.bw_log.proofs.Adding.{following_is}
 use Rattle.bw_log.proofs.Whole.{granted}
-use Rattle.bw_core.specs.Faults.{Flushed, AppendedNow, IsNext}
+use Rattle.bw_making.specs.Begun.{IsNext}
+use Rattle.bw_core.specs.Faults.{Flushed, AppendedNow}
 use Rattle.bw_core.specs.Kept.{Kept, IsSound, with_frame}
 use Rattle.bw_core.proofs.FrameMore.{flushed_sound, stopped_sound}
 use Rattle.bw_core.proofs.FramesBehind.{following_fits}

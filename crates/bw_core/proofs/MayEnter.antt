@@ -1,25 +1,24 @@
 -- A record whose blocks fit may be entered.
 
 use Rattle.std.proofs.Common.{◌≡◌, ℕ, ◌+◌, ◌-◌, ◌^◌, ◌<◌, ◌≤◌, true, false, Some, List}
-use Rattle.std.proofs.Common.{[], ◌∷◌, ◌++◌, length, map, set, refl, sym, ap, ◌∙◌, subst, arith, if◌then◌else◌, length-append}
-use Rattle.std.specs.Prelude.{nat_le, IfSome, unwrap_or}
+use Rattle.std.proofs.Common.{[], ◌∷◌, ◌++◌, length, map, set, refl, sym, ap, ◌∙◌, subst, arith, if◌then◌else◌}
+use Rattle.std.specs.Prelude.{nat_le}
 use Rattle.std.specs.List.{AllByRecursion as All, slice_get}
 use Rattle.bw_record.specs.Lawful.{IsOp}
 use Rattle.bw_codec.specs.Grammar.{IsBlock}
 use Rattle.bw_record.specs.declared.record.Record.{Record}
 use Rattle.bw_codec.specs.declared.block.Place.{Place}
 use Rattle.bw_codec.specs.declared.block.Block.{Block}
-use Rattle.bw_codec.specs.declared.block.Block.TheVariants.{Delta, Base, Split}
+use Rattle.bw_codec.specs.declared.block.Block.TheVariants.{Delta, Split}
 use Rattle.bw_record.specs.declared.leaf.Leaf.{Leaf}
-use Rattle.std.proofs.lemmas.Bool.{leb-true, leb-false, lt-leb}
+use Rattle.std.proofs.lemmas.Bool.{leb-true, leb-false}
 use Rattle.bw_codec.proofs.Wider.{blocks_wider}
 use Rattle.bw_page.specs.Leaves.{directed_at, upper_of, applied, HasPage, AreLeaves}
 use Rattle.bw_page.specs.Shown.{Shown, IsSpent}
 use Rattle.bw_page.proofs.Indexing.{count_fits}
 use Rattle.bw_page.proofs.Indexed.{home_within}
 use Rattle.bw_record.specs.Record.{key_of}
-use Rattle.bw_buffer.specs.Filling.{Filling, frame_of, size_of, with_all, place_at}
-use Rattle.bw_buffer.specs.Joining.{joins, joins_of, joined, index_for, added}
+use Rattle.bw_buffer.specs.Filling.{Filling, frame_of, size_of, with_all}
 use Rattle.bw_buffer.proofs.Holding.{few_blocks}
 use Rattle.bw_buffer.proofs.Sizes.{added_longer}
 use Rattle.bw_ring.specs.declared.lane.Lane.{Lane}
@@ -29,13 +28,12 @@ use Rattle.std.proofs.lemmas.List.{length-map}
 use Rattle.bw_log.specs.Contents as logs
 use Rattle.bw_log.proofs.Adding.{following_is}
 use Rattle.bw_history.specs.declared.entry.Entry.{Entry}
-use Rattle.bw_making.specs.Adding.{count_after, here_for, last_for, result_of, blocks_for, places_after, noted}
-use Rattle.bw_core.specs.Filing.{AreOne, IsDeltaOf, IsSplit}
+use Rattle.bw_making.specs.Adding.{here_for, last_for, result_of, blocks_for, places_after, noted}
+use Rattle.bw_making.specs.Filing.{AreOne}
 use Rattle.bw_core.specs.Fitting.{here_at, last_at}
 use Rattle.bw_core.specs.Taken.{taken}
 use Rattle.bw_core.specs.Kept.{Kept, Filed, IsSound}
 use Rattle.bw_core.proofs.Growing.{Takes, blocks_lawful}
-use Rattle.bw_core.proofs.Placing.{delta_end}
 use Rattle.bw_core.proofs.FramesBehind.{following_fits}
 use Rattle.bw_core.proofs.RecordMore.{TakesOne, taken_sound}
 
@@ -130,76 +128,6 @@ module _ {s : Kept} {item : Record} {back : Place} {blocks : List Block} (e : En
   file_lawful not =
       subst (All (IsBlock 32)) (sym e.made) (blocks_wider s.filed.m 32 _ (limits s e.sound).1
       (blocks_lawful s.filed.m _ (frame_of s.making) s.filed.leaves s.newest back item (takes_it s item back blocks e not)))
-
--- ---- where they go
-
-abbrev pub same_at : ℕ → ℕ → Place
-same_at frame index = record { frame = frame; index = index }
-
-module _ (making now : Filling) (page : ℕ) (blocks : List Block) (one : AreOne page blocks) where
-  delta_first : (b : Block) → IsDeltaOf page b → place_at making (index_for making.blocks b) ≡ here_for (frame_of making) page
-  delta_first (Delta p back ops) is =
-      ap (λ (n : ℕ). place_at making (unwrap_or (joins_of n p making.blocks) (length making.blocks))) is.1
-      ∙ ap (λ (q : ℕ). here_for (frame_of making) q) is.0
-  delta_first (Base leaf) is = absurd is
-  delta_first (Split p back upper) is = absurd is
-
-  of_first : (place : Place) (bs : List Block) → AreOne page bs → IfSome (slice_get bs 0) (λ b. place ≡ place_at making (index_for making.blocks b))
-      → place ≡ here_for (frame_of making) page
-  of_first place [] h is = absurd h
-  of_first place (b ∷ []) h is = is ∙ delta_first b h
-  of_first place (b ∷ c ∷ []) h is = is ∙ delta_first b h.0
-  of_first place (b ∷ c ∷ d ∷ bs) h is = absurd h
-
-  -- the place that is answered is that of the Delta
-  pub first_here : (place : Place) → IfSome (slice_get blocks 0) (λ b. place ≡ place_at making (index_for making.blocks b))
-      → place ≡ here_for (frame_of making) page
-  first_here place is = of_first place blocks one is
-
-  two : (b c : Block) → IsDeltaOf page b → IsSplit c
-      → length (added making.blocks (b ∷ c ∷ [])) ≡ count_after (joins page making.blocks) (length making.blocks) + 1
-  two (Delta p back ops) (Delta q k more) is split = absurd split
-  two (Delta p back ops) (Base leaf) is split = absurd split
-  two (Delta p back []) (Split q k upper) is split = absurd (let none = is.1 in omega arith)
-  two (Delta p back (r ∷ [])) (Split q k upper) is split =
-      length-append (joined making.blocks (Delta p back (r ∷ []))) (Split q k upper ∷ [])
-      ∙ ap (λ (x : Place). x.index + 1) (delta_end [] (frame_of making) p back r)
-      ∙ ap (λ (n : ℕ). count_after (joins n making.blocks) (length making.blocks) + 1) is.0
-  two (Delta p back (r ∷ s ∷ rs)) (Split q k upper) is split = absurd (let more = is.1 in omega arith)
-  two (Base leaf) c is split = absurd is
-  two (Split p back upper) c is split = absurd is
-
-  of_two : (bs : List Block) → AreOne page bs → 1 < length bs
-      → length (added making.blocks bs) ≡ count_after (joins page making.blocks) (length making.blocks) + 1
-  of_two [] h more = absurd h
-  of_two (b ∷ []) h more = absurd (omega arith)
-  of_two (b ∷ c ∷ []) h more = two b c h.0 h.1
-  of_two (b ∷ c ∷ d ∷ bs) h more = absurd h
-
-  -- where there are two, the second is the last
-  pub two_more : 1 < length blocks → now ≡ with_all making blocks
-      → length now.blocks ≡ count_after (joins page making.blocks) (length making.blocks) + 1
-  two_more more is = ap (λ (b : Filling). length b.blocks) is ∙ of_two blocks one more
-
-  pub last_here : 1 < length blocks → now ≡ with_all making blocks → (frame count : ℕ) → frame ≡ making.frame → count ≡ length now.blocks
-      → same_at frame (count - 1) ≡ last_for (frame_of making) page
-  last_here more is frame count at counted =
-      let long = two_more more is in
-      ap (λ (n : ℕ). same_at n (count - 1)) at ∙ ap (same_at making.frame) (omega arith)
-
-  pub one_or_two : (1 ≤ length blocks) × (length blocks ≤ 2)
-  one_or_two = of_some blocks one
-    where
-      of_some : (bs : List Block) → AreOne page bs → (1 ≤ length bs) × (length bs ≤ 2)
-      of_some [] h = absurd h
-      of_some (b ∷ []) h = (omega arith, omega arith)
-      of_some (b ∷ c ∷ []) h = (omega arith, omega arith)
-      of_some (b ∷ c ∷ d ∷ bs) h = absurd h
-
--- what is noted of two
-pub filed_two : (newest now : List Place) (page n : ℕ) (here last is : Place) → 1 < n → now ≡ set newest (page - 1) is ++ is ∷ [] → is ≡ last
-    → now ≡ noted newest page here last n
-filed_two newest now page n here last is more e same = rw (lt-leb n 1 more) (e ∙ ap (λ (x : Place). set newest (page - 1) x ++ x ∷ []) same)
 
 -- the places noted are those after the record
 pub noted_is : (m : ℕ) (leaves : List Leaf) (back here last : Place) (r : Record) (newest : List Place)

@@ -1,16 +1,16 @@
--- What was planned is what the record adds, and it is short.
+-- What was planned is lawful and short, and what an answer of a turn says of it.
 
 use Rattle.std.proofs.Common.{◌≡◌, ℕ, ◌+◌, ◌-◌, ◌/◌, ◌^◌, ◌<◌, ◌≤◌, true, false, Option, Some, None, Result, Ok, Err, inl, inr, List, [], ◌∷◌}
 use Rattle.std.proofs.Common.{Bool, length, refl, sym, ap, ◌∙◌, subst, arith, if◌then◌else◌, length-append, length-drop, append-nil}
-use Rattle.std.specs.Prelude.{nat_le, IsTrue, ◌↔◌, IfOk, IfErr, OnOk, OnErr}
-use Rattle.bw_core.specs.declared.plan.Plan.{Plan}
-use Rattle.bw_making.specs.Planning.{listed}
+use Rattle.std.specs.Prelude.{nat_le, IsTrue, ◌↔◌, IfErr, OnOk, OnErr}
+use Rattle.bw_making.specs.declared.plan.Plan.{Plan}
+use Rattle.bw_making.specs.Planning.{listed, IsWantingAt}
 use Rattle.bw_core.specs.declared.fault.StoreFault.{StoreFault}
 use Rattle.bw_core.specs.declared.fault.StoreFault.TheVariants.{NoMemory, BadConfig, NoSegment, Device, Failed, Spent, NoPage, NothingOld}
 use Rattle.bw_ring.specs.declared.lane.Lane.{Lane}
 use Rattle.bw_ring.specs.Marks.{marked}
 use Rattle.bw_history.specs.Lanes.{IsNext}
-use Rattle.bw_core.specs.Faults.{FlushAnswers, FlushLeaves, IsWantingAt, fault_of_apply, flush_refusal}
+use Rattle.bw_core.specs.Faults.{FlushAnswers, FlushLeaves, fault_of_apply, flush_refusal}
 use Rattle.std.specs.Option.{unwrap_or}
 use Rattle.bw_core.specs.Fitting.{Fits, back_for, group_blocks, here_at}
 use Rattle.bw_core.specs.Taking.{MakesRoom, IsPlan, GroupLeaves, Took, WaitingLeaves, IsWanting, IsUnplanned, Works}
@@ -19,19 +19,17 @@ use Rattle.bw_core.specs.Taken.{alone, taken, taken_all}
 use Rattle.std.specs.List.{AllByRecursion as All}
 use Rattle.bw_record.specs.Lawful.{IsOp}
 use Rattle.bw_codec.specs.Grammar.{body_bytes, block_bytes, IsBlock}
-use Rattle.bw_record.specs.Record.{key_of}
 use Rattle.bw_record.specs.declared.record.Record.{Record}
 use Rattle.bw_record.specs.declared.leaf.Leaf.{Leaf}
 use Rattle.bw_codec.specs.declared.block.Place.{Place}
 use Rattle.bw_codec.specs.declared.block.Block.{Block}
 use Rattle.bw_codec.specs.declared.block.Block.TheVariants.{Delta, Split}
 use Rattle.bw_codec.proofs.Sizing.{largest_blocks}
-use Rattle.bw_leaf.specs.Changed.{changed}
-use Rattle.bw_page.specs.Leaves.{home, directed_at, upper_of, leaf_at, HasPage, AreLeaves}
+use Rattle.bw_page.specs.Leaves.{directed_at, upper_of, HasPage, AreLeaves}
 use Rattle.std.specs.List.{slice_get}
 use Rattle.bw_page.specs.declared.fault.ApplyError.{ApplyError}
 use Rattle.bw_page.specs.declared.fault.ApplyError.TheVariants as apply
-use Rattle.bw_page.specs.Shown.{Shown, leaf_here, is_evicted_page, IsHere, IsSpent}
+use Rattle.bw_page.specs.Shown.{Shown, IsSpent}
 use Rattle.bw_codec.proofs.Wider.{blocks_wider}
 use Rattle.bw_buffer.specs.Filling.{Filling, frame_of, size_of, with_all}
 use Rattle.bw_buffer.proofs.Holding.{few_blocks}
@@ -41,37 +39,8 @@ use Rattle.bw_core.specs.Kept.{Kept, IsSound}
 use Rattle.bw_making.proofs.Joins.{added_shorter}
 use Rattle.bw_core.proofs.Growing.{Takes, blocks_lawful}
 use Rattle.bw_core.proofs.FramesBehind.{following_fits}
-use Rattle.bw_making.specs.Adding.{here_for, blocks_for, nowhere, result_of, upper_if, planned}
+use Rattle.bw_making.specs.Adding.{here_for, blocks_for, nowhere, result_of, planned}
 use Rattle.bw_page.proofs.Law as law
-use Rattle.bw_page.proofs.PageByPage.{home_there}
-
--- the leaf of a record's page is in memory where the page is
-pub leaf_is_here : (f : Shown) (p : ℕ) (key : List ℕ) (item : Record) → key ≡ key_of item → p ≡ (home key f.leaves).page → IsHere (key_of item) f
-    → leaf_here p f ≡ leaf_at p f.leaves
-leaf_is_here f p key item k at here =
-    ap (λ (b : Bool). if b then None else leaf_at p f.leaves)
-    (ap (λ (q : ℕ). is_evicted_page q f) (at ∙ ap (λ (q : List ℕ). (home q f.leaves).page) k) ∙ here)
-
-some_same : {A : Type 0} {a b : A} → Some a ≡ Some b → a ≡ b
-some_same e = cc
-
-pub planned_is : (m : ℕ) (leaves : List Leaf) (back here : Place) (item : Record) (key : List ℕ) (page pages n : ℕ) (leaf : Leaf)
-    (upper : Option Leaf) (bs : List Block)
-    → AreLeaves m leaves → key ≡ key_of item → page ≡ (home key leaves).page → Some leaf ≡ leaf_at page leaves → n ≡ m → pages ≡ length leaves
-    → upper ≡ upper_if n (pages + 1) (changed item leaf) → bs ≡ planned page back here item upper → bs ≡ blocks_for m leaves back here item
-planned_is m leaves back here item key page pages n leaf upper bs a k at there same count up made =
-    let at_home : page ≡ directed_at leaves item = at ∙ ap (λ q. (home q leaves).page) k in
-    let is : leaf ≡ home (key_of item) leaves = some_same (there ∙ ap (λ p. leaf_at p leaves) at_home ∙ home_there m leaves (key_of item) a) in
-    let upper_is : upper ≡ upper_if m (length leaves + 1) (result_of leaves item) =
-    up ∙ ap (λ x. upper_if x (pages + 1) (changed item leaf)) same ∙ ap (λ x. upper_if m (x + 1) (changed item leaf)) count
-    ∙ ap (λ (l : Leaf). upper_if m (length leaves + 1) (changed item l)) is in
-    made
-    ∙ ap (λ p. planned p back here item upper) at_home
-    ∙ ap (λ (u : Option Leaf). planned (directed_at leaves item) back here item u) upper_is
-    ∙ elim (nat_le (length (result_of leaves item).pairs) m) as
-    (λ b. planned (directed_at leaves item) back here item (if b then None else Some (upper_of m (length leaves + 1) (result_of leaves item)))
-    ≡ (if b then Delta (directed_at leaves item) back (item ∷ []) ∷ [] else Delta (directed_at leaves item) back (item ∷ []) ∷ Split (directed_at leaves item)
-    here (upper_of m (length leaves + 1) (result_of leaves item)) ∷ [])) [ true ↦ refl | false ↦ refl ]
 
 -- ---- lengths
 
@@ -102,27 +71,6 @@ blocks_short m leaves back here r le a op lawful =
           let e = length-append (block_bytes delta) (body_bytes (split ∷ [])) in
           let f = ap length (append-nil (block_bytes delta)) in omega arith)
     ] lawful
-
-pub room_is : (m : ℕ) (leaves : List Leaf) (item : Record) (key : List ℕ) (page pages n : ℕ) (leaf : Leaf) → AreLeaves m leaves → key ≡ key_of item
-    → page ≡ (home key leaves).page → Some leaf ≡ leaf_at page leaves → n ≡ m → pages ≡ length leaves
-    → (n < length (changed item leaf).pairs → pages + 1 < 2 ^ 32) → HasPage m leaves item
-room_is m leaves item key page pages n leaf a k at there same count room over =
-    let at_home : page ≡ directed_at leaves item = at ∙ ap (λ q. (home q leaves).page) k in
-    let is : leaf ≡ home (key_of item) leaves = some_same (there ∙ ap (λ p. leaf_at p leaves) at_home ∙ home_there m leaves (key_of item) a) in
-    let long : length (changed item leaf).pairs ≡ length (result_of leaves item).pairs = ap (λ (l : Leaf). length (changed item l).pairs) is in
-    let bound = room (omega arith) in
-    omega arith
-
--- want of a number for the page that the record makes
-pub wanting_is : (m : ℕ) (leaves : List Leaf) (item : Record) (key : List ℕ) (page pages n : ℕ) (leaf : Leaf) (cause : StoreFault) → AreLeaves m leaves
-    → key ≡ key_of item → page ≡ (home key leaves).page → Some leaf ≡ leaf_at page leaves → n ≡ m → pages ≡ length leaves
-    → IsWantingAt n (length (changed item leaf).pairs) pages cause → IsWantingAt m (length (result_of leaves item).pairs) (length leaves) cause
-wanting_is m leaves item key page pages n leaf cause a k at there same count w =
-    let at_home : page ≡ directed_at leaves item = at ∙ ap (λ q. (home q leaves).page) k in
-    let is : leaf ≡ home (key_of item) leaves = some_same (there ∙ ap (λ p. leaf_at p leaves) at_home ∙ home_there m leaves (key_of item) a) in
-    let pairs : length (changed item leaf).pairs ≡ length (result_of leaves item).pairs = ap (λ (l : Leaf). length (changed item l).pairs) is in
-    subst (λ (x : ℕ). IsWantingAt m (length (result_of leaves item).pairs) x cause) count
-    (subst (λ (x : ℕ). IsWantingAt m x pages cause) pairs (subst (λ (x : ℕ). IsWantingAt x (length (changed item leaf).pairs) pages cause) same w))
 
 pub takes_by : (s : Kept) → IsSound s → (item : Record) (back : Place) → IsOp item → HasPage s.filed.m s.filed.leaves item → s.log.next ≡ Some s.making.frame
     → size_of s.making ≤ s.making.limit
@@ -174,27 +122,13 @@ plan_lawful s h item back blocks op room next fits last made =
 module _ (s : Kept) (h : IsSound s) (item : Record) (op : IsOp item) (next : s.log.next ≡ Some s.making.frame) (free : ℕ)
     (fits : free + size_of s.making ≡ s.making.limit) (page : ℕ) (in_page : page ≡ directed_at s.filed.leaves item) (here : Place)
     (at : here ≡ here_for (frame_of s.making) page) where
-  plan_all : (p : Plan) → p.page ≡ directed_at s.filed.leaves item → slice_get s.newest (p.page - 1) ≡ Some p.back → HasPage s.filed.m s.filed.leaves item
+  pub plan_all : (p : Plan) → p.page ≡ directed_at s.filed.leaves item → slice_get s.newest (p.page - 1) ≡ Some p.back → HasPage s.filed.m s.filed.leaves item
       → listed p.blocks ≡ blocks_for s.filed.m s.filed.leaves p.back here item
       → All (IsBlock 32) (listed p.blocks) × (length (listed p.blocks) ≤ 2) × (1 ≤ length (listed p.blocks)) × (length (body_bytes (listed p.blocks)) ≤ 12000)
   plan_all p page back room blocks =
       plan_lawful s h item p.back (listed p.blocks) op room next (omega arith)
       (subst (λ (n : ℕ). slice_get s.newest (n - 1) ≡ Some p.back) page back)
       (blocks ∙ ap (λ (x : Place). blocks_for s.filed.m s.filed.leaves p.back x item) (at ∙ ap (here_for (frame_of s.making)) in_page))
-
-  pub answer_lawful : (o : Result Plan StoreFault) → IfOk o (λ p. p.page ≡ directed_at s.filed.leaves item)
-      → IfOk o (λ p. slice_get s.newest (p.page - 1) ≡ Some p.back) → OnOk o (HasPage s.filed.m s.filed.leaves item)
-      → IfOk o (λ p. listed p.blocks ≡ blocks_for s.filed.m s.filed.leaves p.back here item)
-      → IfOk o (λ p. All (IsBlock 32) (listed p.blocks) × (length (listed p.blocks) ≤ 2))
-  answer_lawful (Err e) page back room blocks = tt
-  answer_lawful (Ok p) page back room blocks = (let all = plan_all p page back room blocks in (all.0, all.1))
-
-  pub answer_short : (o : Result Plan StoreFault) → IfOk o (λ p. p.page ≡ directed_at s.filed.leaves item)
-      → IfOk o (λ p. slice_get s.newest (p.page - 1) ≡ Some p.back) → OnOk o (HasPage s.filed.m s.filed.leaves item)
-      → IfOk o (λ p. listed p.blocks ≡ blocks_for s.filed.m s.filed.leaves p.back here item)
-      → IfOk o (λ p. length (body_bytes (listed p.blocks)) ≤ 12000)
-  answer_short (Err e) page back room blocks = tt
-  answer_short (Ok p) page back room blocks = (plan_all p page back room blocks).3
 
 -- ---- whether the blocks of a plan fit
 
@@ -267,16 +201,10 @@ one_entered s new lane item plan (Ok x) p is =
     is ∙ ap (taken s lane (alone item)) (sym back)
 
 -- a page for which there is no number
-pub one_wanting : (s : Kept) (item : Record) (cause : StoreFault)
-    → IsWantingAt s.filed.m (length (result_of s.filed.leaves item).pairs) (length s.filed.leaves) cause → IsWanting s (item ∷ []) cause
-one_wanting s item NoMemory w = tt
-one_wanting s item BadConfig w = absurd w
-one_wanting s item NoSegment w = absurd w
-one_wanting s item (Device lease) w = absurd w
-one_wanting s item Failed w = absurd w
-one_wanting s item Spent w = record { before = 0; item = item; one = refl; splits = w.0; all = w.1 }
-one_wanting s item NoPage w = absurd w
-one_wanting s item NothingOld w = absurd w
+pub one_wanting : (s : Kept) (item : Record) (error : ApplyError)
+    → IsWantingAt s.filed.m (length (result_of s.filed.leaves item).pairs) (length s.filed.leaves) error → IsWanting s (item ∷ []) (fault_of_apply error)
+one_wanting s item apply.NoMemory w = tt
+one_wanting s item apply.Spent w = record { before = 0; item = item; one = refl; splits = w.0; all = w.1 }
 
 pub wanting_unplanned : (s : Kept) (group : List Record) (cause : StoreFault) → Works s → IsWanting s group cause → IsUnplanned s group cause
 wanting_unplanned s group NoMemory works w = works
@@ -289,11 +217,10 @@ wanting_unplanned s group NoPage works w = absurd w
 wanting_unplanned s group NothingOld works w = absurd w
 
 -- the same of what planning answers
-pub one_refused : (s : Kept) (item : Record) (o : Result Plan StoreFault) → Works s
-    → IfErr o (IsWantingAt s.filed.m (length (result_of s.filed.leaves item).pairs) (length s.filed.leaves))
-    → IfErr o (IsUnplanned s (item ∷ []))
-one_refused s item (Ok p) works w = tt
-one_refused s item (Err cause) works w = wanting_unplanned s (item ∷ []) cause works (one_wanting s item cause w)
+pub one_refused : (s : Kept) (item : Record) (error : ApplyError) → Works s
+    → IsWantingAt s.filed.m (length (result_of s.filed.leaves item).pairs) (length s.filed.leaves) error
+    → IsUnplanned s (item ∷ []) (fault_of_apply error)
+one_refused s item error works w = wanting_unplanned s (item ∷ []) (fault_of_apply error) works (one_wanting s item error w)
 
 -- the same of what the pages tell
 pub one_wanting_of : (s : Kept) (f : Shown) (item : Record) (error : ApplyError) → f.m ≡ s.filed.m → f.leaves ≡ s.filed.leaves
@@ -305,7 +232,7 @@ one_wanting_of s f item apply.Spent pairs leaves spent =
     let more : s.filed.m < length (result_of s.filed.leaves item).pairs =
     subst (λ (ls : List Leaf). s.filed.m < length (result_of ls item).pairs) leaves
     (subst (λ (n : ℕ). n < length (result_of f.leaves item).pairs) pairs x.0) in
-    one_wanting s item Spent (more, omega arith)
+    one_wanting s item apply.Spent (more, omega arith)
 
 -- what a take of the next group of a lane tells of it
 pub take_some : (lane n : ℕ) (group : List Record) (a b c : Kept) → b ≡ a → (t : Took lane b c) × (t.group ≡ group) → n ≡ length group

@@ -1,6 +1,6 @@
 -- What a cleaning leaves.
 
-use Rattle.std.specs.Prelude.{ℕ, ◌+◌, ◌^◌, ◌<◌, ◌≤◌, ◌≡◌, Option, None, Some, Result, Ok, Err, [], ◌++◌, length, replicate, drop}
+use Rattle.std.specs.Prelude.{ℕ, ◌+◌, ◌<◌, ◌≤◌, ◌≡◌, Result, Ok, Err, [], ◌++◌, length, replicate, drop}
 use Rattle.bw_codec.specs.declared.block.Place.{Place}
 use Rattle.std.specs.Prelude.{List}
 use Rattle.bw_buffer.specs.Filling.{Filling}
@@ -18,11 +18,6 @@ use Rattle.bw_core.specs.Emptied.{Behind, WhereSome}
 abbrev pub fault_of_clean : CleanFault → StoreFault
 fault_of_clean clean.NothingOld = NothingOld
 fault_of_clean (clean.Log fault) = fault_of fault
-
--- a number, or the one above the greatest
-abbrev pub end_by : Option ℕ → ℕ
-end_by None = 2 ^ 64
-end_by (Some n) = n
 
 -- so many frames of the cleaner's were added, each with a cut at the end of the history
 abbrev pub with_moved : Kept → ℕ → ℕ → List Place → Filling → logs.Contents → Kept

@@ -3,7 +3,7 @@
 use Rattle.std.specs.Prelude.{ℕ, ◌+◌, ◌-◌, ◌≡◌, ◌≤◌, ◌⊎◌, IfSome, length}
 use Rattle.bw_log.specs.Appends.{last_of}
 use Rattle.bw_log.specs.Contents.{Contents, IsRoomy}
-use Rattle.bw_core.specs.declared.edge.Edge.{Edge}
+use Rattle.bw_core.specs.declared.origin.Edge.{Edge}
 
 -- the number of the newest live segment, if there is one
 abbrev pub newest_number : Contents → ℕ

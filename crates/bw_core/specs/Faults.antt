@@ -1,6 +1,6 @@
 -- A log's fault as the store tells it, and what each answer of a flush leaves.
 
-use Rattle.std.specs.Prelude.{ℕ, ◌≡◌, ◌⊎◌, ◌≤◌, ◌<◌, ◌-◌, ◌^◌, Option, Some, None, Result, Ok, Err, Bool, false, [], length, is_none, if◌then◌else◌, ◌==◌}
+use Rattle.std.specs.Prelude.{ℕ, ◌≡◌, Option, Some, None, Result, Ok, Err, Bool, false, [], length, is_none, if◌then◌else◌, ◌==◌}
 use Rattle.bw_codec.specs.Grammar.{frame_bytes}
 use Rattle.bw_buffer.specs.Filling.{Filling, frame_of}
 use Rattle.bw_page.specs.declared.fault.ApplyError.{ApplyError}
@@ -8,7 +8,6 @@ use Rattle.bw_page.specs.declared.fault.ApplyError.TheVariants as apply
 use Rattle.bw_log.specs.declared.fault.LogFault.{LogFault}
 use Rattle.bw_log.specs.declared.fault.LogFault.TheVariants as log
 use Rattle.bw_log.specs.Contents as logs
-use Rattle.bw_log.specs.Segments.{following}
 use Rattle.bw_log.specs.Appends.{refusal, Appended, Stopped, IsSameLog, Rose}
 use Rattle.bw_core.specs.declared.fault.StoreFault.{StoreFault}
 use Rattle.bw_core.specs.declared.fault.StoreFault.TheVariants.{NoMemory, BadConfig, NoSegment, Device, Failed, Spent, NoPage, NothingOld}
@@ -26,18 +25,6 @@ fault_of log.NoPage = NoPage
 abbrev pub fault_of_apply : ApplyError → StoreFault
 fault_of_apply apply.NoMemory = NoMemory
 fault_of_apply apply.Spent = Spent
-
--- want of memory, or of a number for one page more than there are, where a page has this many pairs,
--- and more than the most
-abbrev pub IsWantingAt : ℕ → ℕ → ℕ → StoreFault → Type 0
-IsWantingAt most pairs pages NoMemory = Unit {0}
-IsWantingAt most pairs pages BadConfig = ⊥
-IsWantingAt most pairs pages NoSegment = ⊥
-IsWantingAt most pairs pages (Device lease) = ⊥
-IsWantingAt most pairs pages Failed = ⊥
-IsWantingAt most pairs pages Spent = (most < pairs) × (2 ^ 32 - 1 ≤ pages)
-IsWantingAt most pairs pages NoPage = ⊥
-IsWantingAt most pairs pages NothingOld = ⊥
 
 -- ---- a flush
 
@@ -103,13 +90,6 @@ AppendLeaves old (Err Failed) new = ⊥
 AppendLeaves old (Err Spent) new = ⊥
 AppendLeaves old (Err NoPage) new = ⊥
 AppendLeaves old (Err NothingOld) new = ⊥
-
--- an empty buffer for the frame after this one, if there is a number for it
-pub record IsNext (making fresh : Filling) : Type 0 where
-  pub limit : fresh.limit ≡ making.limit
-  pub empty : fresh.blocks ≡ []
-  pub unsealed : fresh.is_sealed ≡ false
-  pub number : (following making.frame ≡ Some fresh.frame) ⊎ (following making.frame ≡ None)
 
 -- the log's refusal, or want of memory where it has none
 abbrev pub IsRefused : Option LogFault → StoreFault → Type 0

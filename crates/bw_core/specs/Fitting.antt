@@ -1,12 +1,11 @@
 -- Whether a group's blocks have room in the frame in the making.
 
-use Rattle.std.specs.Prelude.{ℕ, ◌≤◌, List, [], ◌∷◌}
+use Rattle.std.specs.Prelude.{◌≤◌, List}
 use Rattle.bw_record.specs.declared.record.Record.{Record}
 use Rattle.bw_codec.specs.declared.block.Place.{Place}
 use Rattle.bw_codec.specs.declared.block.Block.{Block}
-use Rattle.bw_codec.specs.declared.block.Block.TheVariants.{Delta}
 use Rattle.bw_page.specs.Leaves.{directed_at}
-use Rattle.bw_buffer.specs.Filling.{Filling, frame_of, size_of, with_all}
+use Rattle.bw_buffer.specs.Filling.{frame_of, size_of, with_all}
 use Rattle.bw_making.specs.Adding.{Drawn, blocks_for, blocks_all, back_in, here_for, last_for}
 use Rattle.bw_core.specs.Kept.{Kept}
 
@@ -36,7 +35,3 @@ group_blocks s group = blocks_all s.filed.m (drawn_of s) group
 -- they fit: the frame with all of them is not too long
 abbrev pub Fits : Kept → List Record → Type 0
 Fits s group = size_of (with_all s.making (group_blocks s group)) ≤ s.making.limit
-
--- a Delta of this one record of a page fits, whatever block of the page is before it
-abbrev pub FitsDelta : Filling → ℕ → Record → Type 0
-FitsDelta making page item = (back : Place) → size_of (with_all making (Delta page back (item ∷ []) ∷ [])) ≤ making.limit

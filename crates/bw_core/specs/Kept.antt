@@ -16,7 +16,7 @@ use Rattle.bw_ring.specs.Ends.{Ring}
 use Rattle.bw_ring.specs.Marks.{Marked}
 use Rattle.bw_log.specs.Contents as logs
 use Rattle.bw_log.specs.Segments.{following, frames_of}
-use Rattle.bw_core.specs.declared.edge.Edge.{Edge}
+use Rattle.bw_core.specs.declared.origin.Edge.{Edge}
 use Rattle.bw_core.specs.Edges.{IsEdge, IsBegun}
 use Rattle.bw_history.specs.declared.entry.Entry.{Entry}
 use Rattle.bw_history.specs.Entries.{records}

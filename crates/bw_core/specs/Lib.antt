@@ -26,4 +26,3 @@ pub mod Needed
 -- What private functions say.
 pub mod Drafting
 pub mod Moving
-pub mod Filing

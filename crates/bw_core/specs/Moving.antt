@@ -6,7 +6,8 @@ use Rattle.std.specs.Vec.{vec_len, vec_capacity}
 use Rattle.bw_device.specs.Holding.{Holding}
 use Rattle.bw_log.specs.Contents as logs
 use Rattle.bw_log.specs.Places.{place_of}
-use Rattle.bw_core.specs.Cleaning.{end_by, with_moved}
+use Rattle.bw_history.specs.Cuts.{end_by}
+use Rattle.bw_core.specs.Cleaning.{with_moved}
 use Rattle.bw_core.specs.Kept.{Kept}
 use Rattle.bw_core.specs.Settled.{IsAllCut, IsSettled}
 use Rattle.bw_core.specs.Views.{kept_by, IsSound}

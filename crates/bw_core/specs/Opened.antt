@@ -1,9 +1,7 @@
 -- A store that was just opened.
 
-use Rattle.std.specs.Prelude.{ℕ, ◌≡◌, ◌≤◌, ◌⊎◌, false, List, [], ◌∷◌, map, replicate}
+use Rattle.std.specs.Prelude.{ℕ, ◌≡◌, ◌⊎◌, List, [], ◌∷◌, map, replicate}
 use Rattle.bw_codec.specs.declared.block.Place.{Place}
-use Rattle.bw_codec.specs.declared.block.Block.TheVariants.{Base}
-use Rattle.bw_codec.specs.declared.block.Frame.{Frame}
 use Rattle.bw_leaf.specs.Changed.{empty_leaf}
 use Rattle.bw_page.specs.Shown.{Shown}
 use Rattle.bw_buffer.specs.Filling.{Filling}
@@ -13,18 +11,13 @@ use Rattle.bw_ring.specs.Ends.{Ring, accepted, places_of, ring_of_feed}
 use Rattle.bw_ring.specs.Limits.{IsConfig as IsRings}
 use Rattle.bw_log.specs.Contents.{Contents}
 use Rattle.bw_log.specs.Limits.{fresh, AreLimits, IsFit}
+use Rattle.bw_making.specs.Begun.{first_making, first_place}
 use Rattle.bw_core.specs.declared.config.Config.{Config}
-use Rattle.bw_core.specs.declared.edge.Edge.{Edge}
+use Rattle.bw_core.specs.declared.origin.Edge.{Edge}
 use Rattle.bw_history.specs.declared.entry.Entry.{Entry}
 use Rattle.bw_core.specs.declared.fault.StoreFault.{StoreFault}
 use Rattle.bw_core.specs.declared.fault.StoreFault.TheVariants.{NoMemory, BadConfig}
 use Rattle.bw_core.specs.Kept.{Kept, filed_of}
-
-abbrev pub first_place : Place
-first_place = record { frame = 1; index = 0 }
-
-abbrev pub first_frame : Frame
-first_frame = record { number = 1; blocks = Base empty_leaf ∷ [] }
 
 -- one empty page
 abbrev pub one_empty : ℕ → Shown
@@ -32,10 +25,6 @@ one_empty m = record { m = m; leaves = empty_leaf ∷ []; evicted = [] }
 
 abbrev pub no_edge : Edge
 no_edge = record { segment = 0; length = 0 }
-
--- a frame 1 in the making that has the first page
-abbrev pub first_making : ℕ → Filling
-first_making f = record { frame = 1; limit = f; blocks = Base empty_leaf ∷ []; is_sealed = false }
 
 -- a store that starts with these, at these pages
 abbrev pub started : List Ring → List Entry → Shown → List Place → Filling → Contents → Kept

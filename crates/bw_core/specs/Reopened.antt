@@ -7,7 +7,7 @@ use Rattle.bw_buffer.specs.Filling.{Filling}
 use Rattle.bw_ring.specs.Ends.{Ring}
 use Rattle.bw_log.specs.Contents.{Contents}
 use Rattle.bw_device.specs.Holding.{Holding}
-use Rattle.bw_core.specs.declared.edge.Edge.{Edge}
+use Rattle.bw_core.specs.declared.origin.Edge.{Edge}
 use Rattle.bw_core.specs.declared.fault.StoreFault.{StoreFault}
 use Rattle.bw_core.specs.Kept.{Kept}
 use Rattle.bw_core.specs.Opened.{AreEnds, IsUnmade, no_edge, started}

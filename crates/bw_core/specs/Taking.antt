@@ -6,7 +6,7 @@ use Rattle.bw_page.specs.Leaves.{directed_at, pages, result_of, HasPage}
 use Rattle.bw_log.specs.Reads.{FailedRead, HoldsPage, IsWornOut}
 use Rattle.bw_core.specs.declared.fault.StoreFault.{StoreFault}
 use Rattle.bw_core.specs.declared.fault.StoreFault.TheVariants.{NoMemory, BadConfig, NoSegment, Device, Failed, Spent, NoPage, NothingOld}
-use Rattle.bw_core.specs.declared.plan.Plan.{Plan}
+use Rattle.bw_making.specs.declared.plan.Plan.{Plan}
 use Rattle.bw_ring.specs.declared.lane.Lane.{Lane}
 use Rattle.bw_ring.specs.Marks.{marked}
 use Rattle.bw_history.specs.Lanes.{IsNext}

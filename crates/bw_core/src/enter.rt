@@ -6,29 +6,24 @@
 //! unused, and the page, which may be refused all the same, changes before the others. What comes
 //! behind it cannot be refused, and its types say so: it answers nothing.
 
-ghost use Rattle.std.specs.Prelude.{◌≡◌, ◌≤◌, ◌<◌, ◌+◌, ◌-◌, ◌^◌, ◌∷◌, [], Some, false, length, map, vec_len, slice_get, slice_set, OnOk, OnErr, IfOk, IfErr};
-ghost use Rattle.std.specs.List.{AllByRecursion};
-ghost use Rattle.std.specs.Vec.{vec_capacity};
-ghost use Rattle.bw_codec.specs.Grammar.{IsBlock};
-ghost use Rattle.bw_codec.specs.declared.block.Block.TheVariants.{Delta};
+ghost use Rattle.std.specs.Prelude.{◌≡◌, ◌≤◌, ◌<◌, ◌+◌, ◌-◌, ◌^◌, ◌∷◌, [], Some, false, length, map, slice_get, OnOk, OnErr, IfOk, IfErr};
 ghost use Rattle.bw_record.specs.Record.{key_of};
 ghost use Rattle.bw_page.specs.Aim.{IsFound};
 ghost use Rattle.bw_page.specs.Leaves.{directed_at, result_of};
 ghost use Rattle.bw_page.specs.Shown.{IsHere};
 ghost use Rattle.bw_ring.specs.Ends.{given};
 ghost use Rattle.bw_buffer.specs.Filling.{frame_of, size_of, with_all};
-ghost use Rattle.bw_making.specs.Adding.{blocks_for, here_for, last_for, noted};
-ghost use Rattle.bw_core.specs.Filing.{AreOne};
-ghost use Rattle.bw_core.specs.Fitting.{back_for, FitsDelta};
+ghost use Rattle.bw_making.specs.Adding.{blocks_for, here_for};
+ghost use Rattle.bw_making.specs.Filing.{FitsDelta};
+ghost use Rattle.bw_core.specs.Fitting.{back_for};
 ghost use Rattle.bw_history.specs.Lanes.{IsNext, TookKnown};
 ghost use Rattle.bw_core.specs.Taken.{alone, taken};
 ghost use Rattle.bw_core.specs.Taking.{IsWanting};
 
 use crate::fault::StoreFault;
 use crate::store::Core;
-use bw_buffer::Buffer;
-use bw_codec::{Block, Packed, Place, Record};
-use bw_making::{apply_entry, apply_found};
+use bw_codec::{Block, Place, Record};
+use bw_making::{apply_entry, apply_found, file, file_delta};
 
 impl Core {
     ghost use Rattle.bw_core.specs.Views.{kept_by, noted_of, IsSound};
@@ -126,53 +121,4 @@ impl Core {
         self.intake.enter_alone(lane, item, entry);
         Ok(())
     }
-}
-
-// Puts the blocks into the frame in the making, and notes where the last of them stands: a Delta
-// that joined stands where the one before it of its page does, and a Split stands behind all
-// blocks.
-fn file(making: &mut Buffer, newest: &mut Vec<Place>, page: u32, blocks: &[Block])
-    requires unsealed { making.old.is_sealed ≡ false }
-    requires fits { size_of (with_all making.old blocks.now) ≤ making.old.limit }
-    requires lawful { AllByRecursion (IsBlock 32) blocks.now }
-    requires one { AreOne page blocks.now }
-    requires page { (1 ≤ page) × (page ≤ length newest.old.items) }
-    requires room { vec_len newest.old < vec_capacity newest.old }
-    ensures making { making.new ≡ with_all making.old blocks.now }
-    ensures newest { newest.new.items ≡ noted newest.old.items page
-        (here_for (frame_of making.old) page) (last_for (frame_of making.old) page)
-        (length blocks.now) }
-{
-    let Ok(first) = making.put_all(blocks) else {
-        unreachable!();
-    };
-    let _ = newest.as_slice().len();
-    if blocks.len() <= 1 {
-        newest[page as usize - 1] = first;
-        return;
-    }
-    let last = Place {
-        frame: first.frame,
-        index: making.count() - 1,
-    };
-    newest[page as usize - 1] = last;
-    newest.push_reserved(last);
-}
-
-// Puts a record into the frame in the making, and notes where its Delta stands: where the one that
-// it joined does, or behind all blocks.
-fn file_delta(making: &mut Buffer, newest: &mut Vec<Place>, page: u32, back: Place, item: &Packed)
-    requires unsealed { making.old.is_sealed ≡ false }
-    requires fits { FitsDelta making.old page item.now }
-    requires lawful { IsBlock 32 (Delta page back (item.now ∷ [])) }
-    requires page { (1 ≤ page) × (page ≤ length newest.old.items) }
-    ensures making { making.new ≡ with_all making.old (Delta page back (item.now ∷ []) ∷ []) }
-    ensures newest { newest.new.items ≡ slice_set newest.old.items (page - 1)
-        (here_for (frame_of making.old) page) }
-{
-    let Ok(place) = making.put_record(page, &back, item) else {
-        unreachable!();
-    };
-    let _ = newest.as_slice().len();
-    newest[page as usize - 1] = place;
 }

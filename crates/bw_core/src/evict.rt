@@ -1,21 +1,24 @@
 //! Pages leave memory, and what it takes to bring them back.
 
-ghost use Rattle.std.specs.Prelude.{ℕ, ◌≡◌, ◌≤◌, ◌==◌, ◌↔◌, ◌&&◌, not, true, false, None, Some, length, if◌then◌else◌, IfOk, IfErr, IsErrOf, MatchOption, MatchResult};
+ghost use Rattle.std.specs.Prelude.{ℕ, ◌≡◌, ◌≤◌, ◌==◌, ◌↔◌, ◌&&◌, not, true, false, None, Some, length, if◌then◌else◌, List, IfOk, IfErr, IsErrOf, MatchOption, MatchResult, OnErr, OnOk};
 ghost use Rattle.std.specs.List.{list_any};
 ghost use Rattle.bw_codec.specs.Touch.{touches};
-ghost use Rattle.bw_page.specs.Leaves.{leaf_at};
+ghost use Rattle.bw_page.specs.Leaves.{home, leaf_at};
+ghost use Rattle.bw_page.specs.Shown.{IsHere};
 ghost use Rattle.bw_log.specs.Contents.{counted};
+ghost use Rattle.bw_log.specs.Reads.{HoldsPage};
 ghost use Rattle.bw_log.specs.Places.{walk_of};
 ghost use Rattle.bw_core.specs.Counting.{noted_left};
-ghost use Rattle.bw_core.specs.Reading.{leaves_now};
-ghost use Rattle.bw_making.specs.Tails.{is_made};
+ghost use Rattle.bw_core.specs.Reading.{leaves_now, HasRead, ReadLeaves};
+ghost use Rattle.bw_making.specs.Overlay.{is_made};
 
 use crate::fault::StoreFault;
 use crate::store::Core;
+use bw_codec::Key;
 use bw_making::makes;
 
 impl Core {
-    ghost use Rattle.bw_core.specs.Views.{kept_by, is_evicted, noted_of, IsSound};
+    ghost use Rattle.bw_core.specs.Views.{away_in, kept_by, is_evicted, noted_of, IsSound};
 
     /// From how many frames a page would be read, if it were evicted: those that were appended and
     /// have a block of it, from the last that says all of it on. It is 0 where no frame has the page
@@ -89,5 +92,32 @@ impl Core {
     {
         let _ = self.newest.as_slice().len();
         self.newest[page as usize - 1].frame == self.making.frame()
+    }
+
+    /// Brings back the page that a record of this key changes, if it is evicted, and tells which it
+    /// is.
+    pub(crate) fn fetch(&mut self, key: &Key) -> Result<u32, StoreFault>
+        requires sound { IsSound self.old holding }
+        ensures page { IfOk result (λ page. page ≡ (home key.now self.new.leaves.leaves).page) }
+        ensures here { OnOk result (IsHere key.now self.new.leaves) }
+        ensures others { OnOk result ((other : List ℕ) → IsHere other self.old.leaves
+            → IsHere other self.new.leaves) }
+        ensures sound { IsSound self.new holding }
+        ensures intake { self.new.intake ≡ self.old.intake }
+        ensures read { HasRead (kept_by self.old holding) (kept_by self.new holding) }
+        ensures leaves { ReadLeaves (HoldsPage (kept_by self.old holding).log
+            (home key.now (kept_by self.old holding).filed.leaves).page)
+            (kept_by self.old holding) result (kept_by self.new holding) }
+        ensures away { OnErr result (away_in self.new
+            (home key.now (kept_by self.old holding).filed.leaves).page ≡ true) }
+        ensures noted { noted_of self.new ≡ noted_of self.old }
+    {
+        let page = self.leaves.find(key);
+        if self.leaves.is_here(page) {
+            return Ok(page);
+        }
+        let leaf = self.read_evicted(page)?;
+        self.leaves.bring_back(page, leaf);
+        Ok(page)
     }
 }

@@ -14,18 +14,20 @@ ghost use Rattle.std.specs.Vec.{vec_capacity};
 ghost use Rattle.bw_codec.specs.Grammar.{frame_bytes};
 ghost use Rattle.bw_buffer.specs.Filling.{frame_of};
 ghost use Rattle.bw_log.specs.Views.{IsReady};
-ghost use Rattle.bw_log.specs.Appends.{refusal};
-ghost use Rattle.bw_core.specs.Faults.{FlushLeaves, AppendLeaves, IsNext, IsRefused, FlushAnswers, flush_refusal, refusal_by};
+ghost use Rattle.bw_log.specs.Appends.{refusal, AfterAppend, IsOkOrDevice, MayFollow};
+ghost use Rattle.bw_care.specs.Views.{seen, IsSound as IsSoundLog};
+ghost use Rattle.bw_core.specs.Faults.{FlushLeaves, AppendLeaves, IsRefused, FlushAnswers, flush_refusal, refusal_by};
 ghost use Rattle.bw_core.specs.Following.{Follows, HasBoxes};
 ghost use Rattle.bw_core.specs.Kept.{EachCutStands};
 ghost use Rattle.bw_core.specs.Machine.{machine_of, MayBeStopped};
 ghost use Rattle.bw_core.specs.Settled.{IsSettled};
 ghost use Rattle.bw_history.specs.Machine.{Stops, keeps};
 
-use crate::append::append_to;
 use crate::fault::StoreFault;
 use crate::store::Core;
 use bw_buffer::Buffer;
+use bw_log::{Log, LogFault};
+use bw_making::begin_next;
 
 impl Core {
     ghost use Rattle.bw_core.specs.Views.{kept_by, noted_of, IsSound};
@@ -139,11 +141,21 @@ impl Core {
     }
 }
 
-// Makes a sealed buffer the empty one of the next frame, if there is a number for it.
-fn begin_next(making: &mut Buffer)
-    requires { making.old.is_sealed ≡ true }
-    ensures { IsNext making.old making.new }
+// Appends a sealed buffer's frame, as `Log::append_care` where the last spare may be taken, or
+// else as `Log::append`.
+fn append_to(log: &mut Log, buffer: &Buffer, takes_last: bool) -> Result<(), LogFault>
+    requires sound { IsSoundLog log.old holding }
+    requires sealed { buffer.now.is_sealed ≡ true }
+    requires limit { buffer.now.limit ≡ (seen log.old holding).f }
+    requires follows { MayFollow (seen log.old holding) (frame_of buffer.now) }
+    ensures leaves { AfterAppend (seen log.old holding) (frame_of buffer.now) takes_last result
+        (seen log.new holding) }
+    ensures prepared { IsReady (λ b. holding (b.vtable, b.value)) log.old
+        (length (frame_bytes (frame_of buffer.now))) takes_last → IsOkOrDevice result }
 {
-    let next = making.frame().saturating_add(1);
-    making.restart(next);
+    if takes_last {
+        log.append_care(buffer)
+    } else {
+        log.append(buffer)
+    }
 }

@@ -6,18 +6,15 @@
 //! frame and cuts the history there. `clean` gives up the oldest segment, `upgrade` all segments of
 //! format 1, and `reopen` goes on from what was recovered. `specs/Kept.antt` has what holds between
 //! calls, and `specs/Following.antt` what no call takes back. `evict` drops a page from memory: it
-//! is then read from the log, and `specs/Tails.antt` has what the frame in the making adds to it.
+//! is then read from the log, and `overlay_of` of `bw_making` has what no frame has of it yet.
 //! `forget` drops from memory what is durable of the history; the clauses go on speaking of all of
 //! it. No call waits, and nothing here is read from another thread.
 #![tactic(auto)]
 
-mod append;
-mod back;
 mod clean;
 mod config;
 mod count;
 mod counters;
-mod edge;
 mod enter;
 mod evict;
 mod fault;
@@ -25,32 +22,33 @@ mod flush;
 mod forget;
 mod groups;
 mod laws;
-mod moved;
 mod needed;
+mod newest;
 mod open;
-mod plan;
+mod origin;
+mod prev;
 mod questions;
 mod reads;
 mod receipts;
-mod renew;
 mod reopen;
 mod rewrite;
+mod rewritten;
+mod scan;
+mod scan_shared;
 mod segments;
 mod settle;
-mod shared;
 mod store;
 mod take;
 mod take_all;
 mod turn;
 mod upgrade;
-mod walk;
 
 pub use bw_care::{Cleaned, Counters, Upgraded};
 pub use bw_history::{Entry, PackedEntry};
 pub use config::Config;
-pub use edge::Edge;
 pub use fault::{OpenFault, StoreFault, TurnFault};
 pub use laws::each_line_of_the_goal;
 pub use open::are_taken;
+pub use origin::Edge;
 pub use reopen::ReopenFault;
 pub use store::Core;

@@ -1,28 +1,25 @@
 //! A store is opened over empty segments.
 
 ghost use Rattle.std.specs.Prelude.{◌≡◌, ◌≤◌, ◌+◌, ◌↔◌, [], ◌∷◌, length, map, replicate, false, None, IsTrue, IfOk, IfErr, MatchResult};
-ghost use Rattle.std.specs.List.{AllByRecursion};
-ghost use Rattle.bw_codec.specs.Grammar.{IsBlock};
-ghost use Rattle.bw_codec.specs.declared.block.Block.TheVariants.{Base};
-ghost use Rattle.bw_buffer.specs.Filling.{size_of, with_all};
-ghost use Rattle.bw_leaf.specs.Changed.{empty_leaf};
 ghost use Rattle.bw_ring.specs.Ends.{ring_of_feed, ring_of_lane};
-ghost use Rattle.bw_core.specs.Opened.{opened, one_empty, started, first_place, first_making, AreFresh, AreTaken, IsConfig, IsOpenFault};
+ghost use Rattle.bw_making.specs.Begun.{first_place, first_making};
+ghost use Rattle.bw_core.specs.Opened.{opened, one_empty, started, AreFresh, AreTaken, IsConfig, IsOpenFault};
 ghost use Rattle.bw_core.specs.Counting.{noted_from};
 
 use crate::config::Config;
-use crate::edge::Edge;
 use crate::fault::{OpenFault, StoreFault};
+use crate::origin::{Edge, Origin};
 use crate::store::Core;
 use bw_buffer::Buffer;
 use bw_care::{Looks, Tally};
-use bw_codec::{Block, Place};
+use bw_codec::Place;
 use bw_device::{Segment, are_spares};
 use bw_history::Intake;
 use bw_log::Log;
-use bw_page::{Leaves, empty_page};
+use bw_making::first_frame;
+use bw_page::Leaves;
 use bw_ring::Feed;
-use std::alloc::{AllocError, Global};
+use std::alloc::Global;
 use std::snapshot::Snapshot;
 
 /// How many boxes a log has at most.
@@ -37,14 +34,6 @@ pub(crate) struct Ends {
     pub(crate) making: Buffer,
 }
 
-// Where a store begins: behind so many frames, with this edge and so many live bytes.
-#[derive(Clone, Copy)]
-pub(crate) struct Origin {
-    pub(crate) before: u64,
-    pub(crate) edge: Edge,
-    pub(crate) bytes: u64,
-}
-
 /// Whether a core is opened over these: the numbers are in their ranges, and the boxes are spares
 /// with room. It is looked at before memory is.
 pub fn are_taken(config: &Config, segments: &[Box<dyn Segment>]) -> bool
@@ -53,37 +42,6 @@ pub fn are_taken(config: &Config, segments: &[Box<dyn Segment>]) -> bool
     config.is_lawful()
         && segments.len() <= MAX_BOXES
         && are_spares(segments, 24 + u64::from(config.f))
-}
-
-// The frame in the making, with the first page.
-fn first_frame(alloc: Global, f: u32) -> Result<Buffer, AllocError>
-    requires { (65536 ≤ f) × (f ≤ 262144) }
-    ensures { IfOk result (λ b. b ≡ first_making f) }
-{
-    let blocks = first_blocks(alloc)?;
-    let mut making = Buffer::new(alloc, 1, f)?;
-    put_first(&mut making, &blocks);
-    Ok(making)
-}
-
-fn first_blocks(alloc: Global) -> Result<Vec<Block>, AllocError>
-    ensures { IfOk result (λ bs. bs.items ≡ Base empty_leaf ∷ []) }
-{
-    let mut blocks = Vec::new(alloc);
-    blocks.push(Block::Base(empty_page(alloc)))?;
-    Ok(blocks)
-}
-
-fn put_first(making: &mut Buffer, blocks: &[Block])
-    requires unsealed { making.old.is_sealed ≡ false }
-    requires some { 1 ≤ length blocks.now }
-    requires lawful { AllByRecursion (IsBlock 32) blocks.now }
-    requires fits { size_of (with_all making.old blocks.now) ≤ making.old.limit }
-    ensures { making.new ≡ with_all making.old blocks.now }
-{
-    let Ok(_) = making.put_all(blocks) else {
-        unreachable!();
-    };
 }
 
 // Lanes from which nothing was taken, and the feeds that belong to them.

@@ -8,11 +8,11 @@
 //! A read changes one thing in the store, the count of a segment's failures. The page stays where
 //! it is, so a walk over more pages than memory has room for drives none out.
 
-ghost use Rattle.std.specs.Prelude.{ℕ, ◌≡◌, ◌≤◌, ◌↔◌, ◌⊎◌, true, false, Some, None, List, length, IfOk, IfErr, OnErr, OnOk, IsErrOf};
+ghost use Rattle.std.specs.Prelude.{ℕ, ◌≡◌, ◌≤◌, ◌↔◌, ◌⊎◌, true, false, Some, None, length, IfOk, IfErr, IsErrOf};
 ghost use Rattle.std.specs.FinMap as finite;
 ghost use Rattle.bw_log.specs.Reads.{HoldsPage};
 ghost use Rattle.bw_page.specs.Leaves.{leaf_at, home, plain};
-ghost use Rattle.bw_page.specs.Shown.{is_evicted_page, IsHere};
+ghost use Rattle.bw_page.specs.Shown.{is_evicted_page};
 ghost use Rattle.bw_leaf.specs.Words.{records_word, value_on};
 ghost use Rattle.bw_history.specs.Entries.{records};
 ghost use Rattle.bw_core.specs.Following.{Follows, HasBoxes};
@@ -22,12 +22,12 @@ ghost use Rattle.bw_making.specs.Share.{ops_at};
 use crate::fault::StoreFault;
 use crate::store::Core;
 use bw_codec::{Key, Leaf, Packed, Value};
-use bw_making::tail_of;
+use bw_making::overlay_of;
 use bw_page::{Word, change_all, word_in_records};
 use std::alloc::AllocError;
 
 impl Core {
-    ghost use Rattle.bw_core.specs.Views.{away_in, kept_by, is_evicted, noted_of, IsSound};
+    ghost use Rattle.bw_core.specs.Views.{kept_by, is_evicted, noted_of, IsSound};
 
     /// A copy of a page as all records of the history leave it, flushed or not, in memory or
     /// evicted. A page that is evicted is read from the log, and stays evicted.
@@ -108,13 +108,13 @@ impl Core {
             (kept_by self.old holding) result (kept_by self.new holding) }
         ensures noted { noted_of self.new ≡ noted_of self.old }
     {
-        let tail = self.tail(page)?;
+        let overlay = self.overlay(page)?;
         let below = match self.log.read_page(page) {
             Ok(below) => below,
             Err(fault) => return Err(StoreFault::from(fault)),
         };
         self.looks.read_one();
-        Ok(change_all(below, tail.as_slice())?)
+        Ok(change_all(below, overlay.as_slice())?)
     }
 
     /// The value of a key on a page that is evicted: what the newest record of the frame in the
@@ -158,13 +158,13 @@ impl Core {
         ensures { IfOk result (λ word. word
             ≡ records_word key.now (ops_at page self.now.making.blocks)) }
     {
-        let tail = self.tail(page)?;
-        Ok(word_in_records(tail.as_slice(), key))
+        let overlay = self.overlay(page)?;
+        Ok(word_in_records(overlay.as_slice(), key))
     }
 
     // The records that the frame in the making has of a page, in order. Where the frame has no
     // block of the page, it is not looked through, and no memory is taken.
-    fn tail(&self, page: u32) -> Result<Vec<Packed>, AllocError>
+    fn overlay(&self, page: u32) -> Result<Vec<Packed>, AllocError>
         requires sound { IsSound self.now holding }
         requires inside { (1 ≤ page) × (page ≤ length self.now.leaves.leaves) }
         ensures { IfOk result (λ records. records.items ≡ ops_at page self.now.making.blocks) }
@@ -173,33 +173,6 @@ impl Core {
         if !self.is_making(page) {
             return Ok(Vec::new(alloc));
         }
-        tail_of(alloc, &self.making, page)
-    }
-
-    /// Brings back the page that a record of this key changes, if it is evicted, and tells which it
-    /// is.
-    pub(crate) fn fetch(&mut self, key: &Key) -> Result<u32, StoreFault>
-        requires sound { IsSound self.old holding }
-        ensures page { IfOk result (λ page. page ≡ (home key.now self.new.leaves.leaves).page) }
-        ensures here { OnOk result (IsHere key.now self.new.leaves) }
-        ensures others { OnOk result ((other : List ℕ) → IsHere other self.old.leaves
-            → IsHere other self.new.leaves) }
-        ensures sound { IsSound self.new holding }
-        ensures intake { self.new.intake ≡ self.old.intake }
-        ensures read { HasRead (kept_by self.old holding) (kept_by self.new holding) }
-        ensures leaves { ReadLeaves (HoldsPage (kept_by self.old holding).log
-            (home key.now (kept_by self.old holding).filed.leaves).page)
-            (kept_by self.old holding) result (kept_by self.new holding) }
-        ensures away { OnErr result (away_in self.new
-            (home key.now (kept_by self.old holding).filed.leaves).page ≡ true) }
-        ensures noted { noted_of self.new ≡ noted_of self.old }
-    {
-        let page = self.leaves.find(key);
-        if self.leaves.is_here(page) {
-            return Ok(page);
-        }
-        let leaf = self.read_evicted(page)?;
-        self.leaves.bring_back(page, leaf);
-        Ok(page)
+        overlay_of(alloc, &self.making, page)
     }
 }

@@ -8,20 +8,19 @@ ghost use Rattle.bw_care.specs.Views.{seen, IsSound as IsSoundLog};
 ghost use Rattle.bw_core.specs.Opened.{AreEnds, AreFresh, AreUnused, IsConfig};
 ghost use Rattle.bw_care.specs.Tallies.{bytes_of, up};
 ghost use Rattle.bw_core.specs.Counting.{noted_from};
-ghost use Rattle.bw_core.specs.Reopened.{edge_of as newest_edge, reopened, IsReopenFault};
+ghost use Rattle.bw_core.specs.Reopened.{reopened, IsReopenFault};
 
 use crate::config::Config;
-use crate::edge::Edge;
 use crate::fault::StoreFault;
-use crate::open::{Ends, Origin, intake_of};
-use crate::renew::renew;
+use crate::newest::{blank_places, renew};
+use crate::open::{Ends, intake_of};
+use crate::origin::{Origin, edge_of};
 use crate::store::Core;
-use bw_buffer::Buffer;
 use bw_care::{Recovered, live_bytes};
-use bw_codec::Place;
 use bw_log::Log;
+use bw_making::next_buffer;
 use bw_ring::Feed;
-use std::alloc::{AllocError, Global};
+use std::alloc::Global;
 use std::fmt::{self, Debug, Formatter};
 use thiserror::Error;
 
@@ -36,46 +35,6 @@ pub struct ReopenFault {
 impl Debug for ReopenFault {
     fn fmt<W: fmt::Write>(&self, f: &mut Formatter<W>) -> fmt::Result {
         write!(f, "ReopenFault({:?})", self.cause)
-    }
-}
-
-// So many places, which are noted later.
-fn blank_places(alloc: Global, pages: usize) -> Result<Vec<Place>, AllocError>
-    ensures { IfOk result (λ places. length places.items ≡ pages) }
-{
-    let mut places = Vec::with_capacity(alloc, pages)?;
-    'pages: for _ in 0..pages {
-        places.push_reserved(Place { frame: 1, index: 0 });
-    }
-    Ok(places)
-}
-
-// The newest segment, and its length.
-fn edge_of(log: &Log) -> Edge
-    requires { IsSoundLog log.now holding }
-    ensures { result ≡ newest_edge (seen log.now holding) }
-{
-    match log.live_segment(log.live().saturating_sub(1)) {
-        Some((segment, _, length)) => Edge { segment, length },
-        None => Edge {
-            segment: 0,
-            length: 0,
-        },
-    }
-}
-
-// The frame in the making, the next one if it has a number.
-fn next_buffer(alloc: Global, next: Option<u64>, f: u32) -> Result<Buffer, AllocError>
-    requires some { IfSome next (λ n. 1 ≤ n) }
-    requires limit { (65536 ≤ f) × (f ≤ 262144) }
-    ensures limit { IfOk result (λ b. b.limit ≡ f) }
-    ensures empty { IfOk result (λ b. b.blocks ≡ []) }
-    ensures unsealed { IfOk result (λ b. b.is_sealed ≡ false) }
-    ensures number { IfOk result (λ b. IfSome next (λ n. b.frame ≡ n)) }
-{
-    match next {
-        Some(next) => Buffer::new(alloc, next, f),
-        None => Buffer::new(alloc, 1, f),
     }
 }
 

@@ -3,9 +3,9 @@
 ghost use Rattle.std.specs.Prelude.{ℕ, ◌≡◌, ◌≤◌, true, false, length};
 ghost use Rattle.bw_page.specs.Shown.{is_evicted_page};
 ghost use Rattle.bw_history.specs.History.{are_whole, cut};
-ghost use Rattle.bw_making.specs.Tails.{is_made};
+ghost use Rattle.bw_making.specs.Overlay.{is_made};
 
-use crate::edge::Edge;
+use crate::origin::Edge;
 use bw_buffer::Buffer;
 use bw_care::{Looks, Tally};
 use bw_codec::Place;

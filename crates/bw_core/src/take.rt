@@ -32,11 +32,10 @@ ghost use Rattle.bw_making.specs.Planning.{listed};
 ghost use Rattle.bw_core.specs.Taking.{TakeLeaves, WaitingLeaves, GroupLeaves, IsPlan, IsStopped, IsUnplanned};
 
 use crate::fault::StoreFault;
-use crate::plan::{Plan, planned_for};
 use crate::store::Core;
 use bw_codec::Record;
 use bw_history::PackedEntry;
-use bw_making::place_for;
+use bw_making::{Plan, place_for, planned_for};
 use bw_ring::{Group, Items};
 
 impl Core {
@@ -379,14 +378,9 @@ impl Core {
         let _ = item.key();
         let _ = self.making.room();
         let here = place_for(&self.making, page);
-        planned_for(
-            *self.cuts.allocator(),
-            &self.leaves,
-            &self.newest,
-            here,
-            page,
-            item,
-        )
+        let alloc = *self.cuts.allocator();
+        let plan = planned_for(alloc, &self.leaves, &self.newest, here, page, item)?;
+        Ok(plan)
     }
 }
 

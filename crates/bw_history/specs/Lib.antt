@@ -1,6 +1,7 @@
 -- What callers see, in reading order.
 pub mod Entries
 pub mod History
+pub mod Cuts
 pub mod Machine
 pub mod Laws
 pub mod Remembered

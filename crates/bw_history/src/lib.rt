@@ -9,12 +9,14 @@
 #![tactic(auto)]
 
 mod beside;
+mod cuts;
 mod entry;
 mod history;
 mod intake;
 mod laws;
 mod packed;
 
+pub use cuts::{frames_between, push_many};
 pub use entry::Entry;
 pub use history::History;
 pub use intake::Intake;

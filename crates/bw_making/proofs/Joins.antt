@@ -27,7 +27,7 @@ use Rattle.bw_buffer.proofs.Sizes.{pushed_size, joined_size}
 use Rattle.bw_log.proofs.Walks.{content_push}
 use Rattle.bw_making.specs.Adding.{with_blocks}
 use Rattle.bw_making.specs.Share.{ops_of, ops_at, cut_of, cuts_in, base_of, bases_in}
-use Rattle.bw_making.specs.Tails.{makes, is_made}
+use Rattle.bw_making.specs.Overlay.{makes, is_made}
 
 pub all-append : {X : Type 0} (P : X → Type 0) (xs ys : List X) → All P xs → All P ys → All P (xs ++ ys)
 all-append P [] ys h k = k

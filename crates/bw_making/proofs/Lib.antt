@@ -1,4 +1,8 @@
+pub mod Placing
+pub mod Begins
+pub mod Filed
+pub mod PlanMade
 pub mod Joins
-pub mod TailSteps
-pub mod TailLists
+pub mod OverlaySteps
+pub mod OverlayLists
 pub mod RowsMore

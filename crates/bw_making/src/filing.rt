@@ -1,15 +1,73 @@
-//! The blocks of a group go into the frame in the making, and the places of its pages are noted.
+//! Blocks go into the frame in the making, and the places of their pages are noted.
 
-ghost use Rattle.std.specs.Prelude.{◌≡◌, ◌≤◌, ◌<◌, ◌+◌, false, length, vec_len};
+ghost use Rattle.std.specs.Prelude.{◌≡◌, ◌≤◌, ◌<◌, ◌+◌, ◌-◌, ◌∷◌, [], false, length, slice_set, vec_len};
 ghost use Rattle.std.specs.List.{AllByRecursion, fold};
 ghost use Rattle.std.specs.Vec.{vec_capacity};
 ghost use Rattle.bw_codec.specs.Grammar.{IsBlock};
-ghost use Rattle.bw_buffer.specs.Filling.{size_of, with_all};
+ghost use Rattle.bw_codec.specs.declared.block.Block.TheVariants.{Delta};
+ghost use Rattle.bw_buffer.specs.Filling.{frame_of, size_of, with_all};
+ghost use Rattle.bw_making.specs.Adding.{here_for, last_for, noted};
 ghost use Rattle.bw_making.specs.Drafting.{AreIn, count_by, set_row};
+ghost use Rattle.bw_making.specs.Filing.{AreOne, FitsDelta};
 
 use crate::draft::Row;
 use bw_buffer::Buffer;
-use bw_codec::{Block, Place};
+use bw_codec::{Block, Packed, Place};
+
+/// Puts the blocks of one record into the frame in the making, and notes where the last of them
+/// stands: a Delta that joined stands where the one before it of its page does, and a Split stands
+/// behind all blocks.
+pub fn file(making: &mut Buffer, newest: &mut Vec<Place>, page: u32, blocks: &[Block])
+    requires unsealed { making.old.is_sealed ≡ false }
+    requires fits { size_of (with_all making.old blocks.now) ≤ making.old.limit }
+    requires lawful { AllByRecursion (IsBlock 32) blocks.now }
+    requires one { AreOne page blocks.now }
+    requires page { (1 ≤ page) × (page ≤ length newest.old.items) }
+    requires room { vec_len newest.old < vec_capacity newest.old }
+    ensures making { making.new ≡ with_all making.old blocks.now }
+    ensures newest { newest.new.items ≡ noted newest.old.items page
+        (here_for (frame_of making.old) page) (last_for (frame_of making.old) page)
+        (length blocks.now) }
+{
+    let Ok(first) = making.put_all(blocks) else {
+        unreachable!();
+    };
+    let _ = newest.as_slice().len();
+    if blocks.len() <= 1 {
+        newest[page as usize - 1] = first;
+        return;
+    }
+    let last = Place {
+        frame: first.frame,
+        index: making.count() - 1,
+    };
+    newest[page as usize - 1] = last;
+    newest.push_reserved(last);
+}
+
+/// Puts a record into the frame in the making, and notes where its Delta stands: where the one that
+/// it joined does, or behind all blocks.
+pub fn file_delta(
+    making: &mut Buffer,
+    newest: &mut Vec<Place>,
+    page: u32,
+    back: Place,
+    item: &Packed,
+)
+    requires unsealed { making.old.is_sealed ≡ false }
+    requires fits { FitsDelta making.old page item.now }
+    requires lawful { IsBlock 32 (Delta page back (item.now ∷ [])) }
+    requires page { (1 ≤ page) × (page ≤ length newest.old.items) }
+    ensures making { making.new ≡ with_all making.old (Delta page back (item.now ∷ []) ∷ []) }
+    ensures newest { newest.new.items ≡ slice_set newest.old.items (page - 1)
+        (here_for (frame_of making.old) page) }
+{
+    let Ok(place) = making.put_record(page, &back, item) else {
+        unreachable!();
+    };
+    let _ = newest.as_slice().len();
+    newest[page as usize - 1] = place;
+}
 
 /// Puts the blocks of a group into the frame in the making, all at once, and notes where the last
 /// block of each of its pages stands.

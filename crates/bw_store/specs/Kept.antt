@@ -13,7 +13,7 @@ use Rattle.bw_versions.specs.Batches.{BatchData, entries_of}
 use Rattle.bw_versions.specs.Versioned.{Versioned}
 use Rattle.bw_history.specs.declared.entry.Entry.{Entry}
 use Rattle.bw_log.specs.Contents as logs
-use Rattle.bw_core.specs.declared.edge.Edge.{Edge}
+use Rattle.bw_core.specs.declared.origin.Edge.{Edge}
 use Rattle.bw_history.specs.History.{upto}
 use Rattle.bw_core.specs.Kept.{Filed}
 use Rattle.bw_core.specs.Kept as core

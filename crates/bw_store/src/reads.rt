@@ -8,7 +8,7 @@ ghost use Rattle.bw_page.specs.Leaves.{leaf_at, home, plain};
 ghost use Rattle.bw_history.specs.Entries.{records};
 ghost use Rattle.bw_walks.specs.Back.{IsLast, IsLastBelow};
 ghost use Rattle.bw_core.specs.Counting.{noted_left};
-ghost use Rattle.bw_making.specs.Tails.{is_made};
+ghost use Rattle.bw_making.specs.Overlay.{is_made};
 ghost use Rattle.bw_store.specs.Following.{Follows, HasBoxes};
 ghost use Rattle.bw_store.specs.Reading.{leaves_now, HasRead, PageLeaves, ReadLeaves, WalkLeaves};
 

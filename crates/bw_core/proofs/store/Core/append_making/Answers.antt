@@ -1,7 +1,7 @@
 use Rattle.std.proofs.Common.{ℕ, List, [], length, ap, refl, sym, ◌∙◌, arith}
 use Rattle.bw_codec.specs.declared.block.Block.{Block}
 use Rattle.bw_buffer.specs.Filling.{Filling}
-use Rattle.bw_making.specs.Tails.{is_made}
+use Rattle.bw_making.specs.Overlay.{is_made}
 use Rattle.bw_core.specs.Views.{kept_by}
 use Rattle.bw_history.specs.History.{are_whole}
 use Rattle.bw_history.proofs.Grouped.{whole_cut}

@@ -3,7 +3,7 @@ use Rattle.bw_buffer.specs.Filling.{Filling, frame_of}
 use Rattle.bw_page.specs.Seats.{is_among}
 use Rattle.bw_buffer.specs.Joining.{added}
 use Rattle.bw_making.specs.Adding.{here_for, blocks_for}
-use Rattle.bw_making.specs.Tails.{is_made}
+use Rattle.bw_making.specs.Overlay.{is_made}
 use Rattle.bw_core.specs.Views.{kept_by}
 use Rattle.bw_core.proofs.EvictedPages.{evicted_entered}
 use Rattle.bw_page.specs.Shown.{IsSpent}

@@ -1,7 +1,7 @@
 use Rattle.std.proofs.Common.{◌∙◌, Bool, ap, sym, arith}
 use Rattle.std.specs.Prelude.{not, ◌&&◌}
 use Rattle.bw_care.specs.declared.tally.Tally.{Tally}
-use Rattle.bw_making.specs.Tails.{is_made}
+use Rattle.bw_making.specs.Overlay.{is_made}
 use Rattle.bw_core.specs.Views.{kept_by}
 use Rattle.bw_core.proofs.EvictedPages.{here_or_evicted, never_none, evicted_more, kept_apart}
 use Rattle.bw_core.proofs.store.Core.evict.Goals as goal

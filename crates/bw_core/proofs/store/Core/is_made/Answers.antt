@@ -1,5 +1,5 @@
 use Rattle.std.proofs.Common.{sym, ◌∙◌}
-use Rattle.bw_making.proofs.TailLists.{untouched_by}
+use Rattle.bw_making.proofs.OverlayLists.{untouched_by}
 use Rattle.bw_core.proofs.store.Core.is_made.Goals as goal
 
 pub returns-else-is_making : goal.returns-else-is_making

@@ -1,5 +1,5 @@
 use Rattle.std.proofs.Common.{◌∙◌, ap, refl, sym}
-use Rattle.bw_making.specs.Tails.{is_made}
+use Rattle.bw_making.specs.Overlay.{is_made}
 use Rattle.bw_core.proofs.Forgetting.{gone_moved}
 use Rattle.bw_history.proofs.Grouped.{whole_many}
 use Rattle.bw_core.proofs.store.Core.note_moved.Goals as goal

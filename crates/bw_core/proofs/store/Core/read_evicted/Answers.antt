@@ -18,5 +18,5 @@ pub returns-clause-leaf : goal.returns-clause-leaf
 returns-clause-leaf g c =
     evicted_page _ c.requires.sound c.args.page c.requires.inside.0 c.requires.inside.1 (c.args.self.now.logged c.args.page c.requires.evicted)
     c.in-Ok.below c.in-Ok.ensures.page
-    ∙ ap (λ (rs : List Record). Some (all_changed rs c.in-Ok.below)) (sym (c.as_slice.ensures.value ∙ c.in_ok-tail.ensures))
+    ∙ ap (λ (rs : List Record). Some (all_changed rs c.in-Ok.below)) (sym (c.as_slice.ensures.value ∙ c.in_ok-overlay.ensures))
     ∙ ap Some (sym c.in_ok-change_all.ensures)

@@ -1,6 +1,0 @@
-use Rattle.std.proofs.Common.{◌≡◌, false, take}
-use Rattle.bw_making.specs.Tails.{is_made}
-use Rattle.bw_making.proofs.tails.makes.Given as goal
-
-abbrev pub invariant-marks : goal.invariant-marks
-invariant-marks l = is_made l.page (take l.i l.making.blocks) ≡ false
