@@ -16,6 +16,7 @@
 #include <sys/stat.h>
 #include <unistd.h>
 
+#include "cells.h"
 #include "shim.h"
 
 static char folder[PATH_MAX];
@@ -27,13 +28,7 @@ __attribute__((constructor)) static void begin(void)
 {
     const char *below = getenv("FAILING");
     const char *which = getenv("FAILING_AT");
-    const char *name = getenv("FAILING_COUNT");
-    int file = name ? open(name, O_RDWR | O_CREAT, 0600) : -1;
-    void *cell = MAP_FAILED;
-    if (file >= 0 && ftruncate(file, sizeof *made) == 0)
-        cell = mmap(NULL, sizeof *made, PROT_READ | PROT_WRITE, MAP_SHARED, file, 0);
-    if (cell != MAP_FAILED)
-        made = cell;
+    made = cells_in(getenv("FAILING_COUNT"), sizeof *made, &unseen);
     *made = 0;
     wanted = which ? atol(which) : 0;
     if (!below || !realpath(below, folder))

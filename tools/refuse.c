@@ -3,11 +3,11 @@
    A test says more by marks (crates/test_marks): allocations of lengths that no other call asks for. From the first mark on only what is
    asked within a window counts. The counts stand in the file that REFUSE_COUNT names, so that they are there however the program ends. */
 #define _GNU_SOURCE
-#include <fcntl.h>
 #include <stdatomic.h>
 #include <stdlib.h>
-#include <sys/mman.h>
 #include <unistd.h>
+
+#include "cells.h"
 
 extern void *__libc_malloc(size_t size);
 extern void *__libc_realloc(void *old, size_t size);
@@ -33,13 +33,7 @@ static atomic_int is_open = 1, is_without;
 __attribute__((constructor)) static void begin(void)
 {
     const char *which = getenv("REFUSE");
-    const char *name = getenv("REFUSE_COUNT");
-    int file = name ? open(name, O_RDWR | O_CREAT, 0600) : -1;
-    void *cell = MAP_FAILED;
-    if (file >= 0 && ftruncate(file, sizeof *counts) == 0)
-        cell = mmap(NULL, sizeof *counts, PROT_READ | PROT_WRITE, MAP_SHARED, file, 0);
-    if (cell != MAP_FAILED)
-        counts = cell;
+    counts = cells_in(getenv("REFUSE_COUNT"), sizeof *counts, &unseen);
     counts->made = counts->refused = counts->windows = counts->without = 0;
     number = 0;
     wanted = which ? atol(which) : 0;

@@ -26,7 +26,10 @@ import tempfile
 
 HERE = os.path.dirname(os.path.abspath(__file__))
 CRATES = os.path.join(HERE, "..", "crates")
-TESTS = [os.path.join(CRATES, it, "out", it + "_tests") for it in ("memory_tests", "log_tests", "drive_tests", "folder_tests")]
+# Crates whose tests are all of refused memory, and those with a module of them.
+ALL = ("memory_page_tests", "memory_file_tests", "memory_store_tests", "without_tests")
+SOME = ("log_tests", "drive_tests", "folder_tests")
+TESTS = [os.path.join(CRATES, it, "out", it + "_tests") for it in ALL + SOME]
 PROGRAM = os.path.join(CRATES, "bwlog", "out", "bwlog")
 REFUSED = b"refused E1 NoMemory\n"
 LIMIT = 60
@@ -49,10 +52,10 @@ def beside(shim, words, number, folder, **more):
 
 
 def names_in(tests):
-    """The tests of refused memory: all of memory_tests, and the module memory of others."""
+    """The tests of refused memory: all of some crates, and the module memory of others."""
     listed = subprocess.run([tests, "--list"], capture_output=True, check=True).stdout.decode().split("\n")
     names = [line.removesuffix(": test") for line in listed if line.endswith(": test")]
-    return names if "memory_tests" in tests else [it for it in names if "::memory::" in it]
+    return names if any(it in tests for it in ALL) else [it for it in names if "::memory::" in it]
 
 
 def is_tested(shim, tests, name, folder):

@@ -11,8 +11,8 @@ import sys
 HERE = os.path.dirname(os.path.abspath(__file__))
 CRATES = os.path.join(HERE, "..", "crates")
 PAGE = os.path.join(HERE, "surface.md")
-# Crates that are no library of the store: programs, tests, and what tests stand on.
-OTHERS = {"bwlog", "bw_bench", "test_marks", "test_vectors"}
+# Crates that are no library of the store, beside tests and what tests stand on: programs.
+OTHERS = {"bwlog", "bw_bench"}
 
 
 def text(path):
@@ -22,7 +22,7 @@ def text(path):
 
 def libraries():
     names = sorted(it for it in os.listdir(CRATES) if os.path.isfile(os.path.join(CRATES, it, "src", "lib.rt")))
-    return [it for it in names if it not in OTHERS and not it.endswith("_tests")]
+    return [it for it in names if it not in OTHERS and not it.startswith("test_") and not it.endswith("_tests")]
 
 
 def sources(crate):

@@ -16,6 +16,8 @@ import sys
 import tempfile
 import time
 
+from checks import Wrong, ask
+
 HERE = os.path.dirname(os.path.abspath(__file__))
 PROGRAM = os.path.join(HERE, "..", "..", "crates", "bwlog", "out", "bwlog")
 ROUNDS = int(sys.argv[1]) if len(sys.argv) > 1 else 100
@@ -57,15 +59,6 @@ def beginning(before, found, writer, run):
             del pairs[key]
         count += 1
     return count if pairs == found else None
-
-
-class Wrong(Exception):
-    pass
-
-
-def ask(condition, text):
-    if not condition:
-        raise Wrong(text)
 
 
 def pages_of(lines):

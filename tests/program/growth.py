@@ -18,6 +18,7 @@ import random
 import subprocess
 import sys
 
+from checks import ask
 from hostile.scans import many_pairs
 
 HERE = os.path.dirname(os.path.abspath(__file__))
@@ -25,15 +26,6 @@ PROGRAM = os.path.join(HERE, "..", "..", "crates", "bwlog", "out", "bwlog")
 SQUARE, STORE, LIMIT = 8, 4, 1.4
 TURNS = 3
 BURST = 400
-
-
-class Wrong(Exception):
-    pass
-
-
-def ask(condition, *what):
-    if not condition:
-        raise Wrong(" ".join(str(it) for it in what))
 
 
 # ---- the program, timed

@@ -19,20 +19,13 @@ import subprocess
 import sys
 import tempfile
 
+from checks import Wrong, expect
+
 HERE = os.path.dirname(os.path.abspath(__file__))
 BUILT = os.path.join(HERE, "..", "..", "crates", "bwlog", "out", "bwlog")
 PACKAGES = 63000
 # More than LMDB's map of 1 MiB holds.
 MAPSIZE = str(1 << 30)
-
-
-class Wrong(Exception):
-    """Something went otherwise than it has to."""
-
-
-def expect(found, wanted, what):
-    if found != wanted:
-        raise Wrong("%s: %.200r in place of %.200r" % (what, found, wanted))
 
 
 class Program:

@@ -26,6 +26,7 @@ import subprocess
 import sys
 import tempfile
 
+from checks import Wrong, ask, notes_of
 from hostile.reader import log_of
 from hostile.upgrades import a_page_a_segment
 
@@ -40,15 +41,6 @@ WORD, HEAD = b"FRM2", 24
 # What stands on standard error behind a run: nothing, or that it met a full log, without `--reuse` and with it.
 TELLS = ("", "the log is full: `clean` gives up its oldest segment, and `add` adds a new one\n",
          "the log is full: `clean` gives up its oldest segment, whose room is a spare again\n")
-
-
-class Wrong(Exception):
-    pass
-
-
-def ask(condition, *what):
-    if not condition:
-        raise Wrong(" ".join(str(it) for it in what))
 
 
 # ---- a run, and what it asked of the system
@@ -76,22 +68,6 @@ def script(draw, life):
         elif more < 0.5:
             lines += ["add"]
     return lines + ["settle", "history", "cuts"], records
-
-
-def notes_of(path):
-    """What was asked: a letter, the offset, the length, the file's name, the bytes."""
-    with open(path, "rb") as file:
-        data = file.read()
-    at, notes = 0, []
-    while at < len(data):
-        letter, offset, length, letters = struct.unpack_from("<cQQI", data, at)
-        at += struct.calcsize("<cQQI")
-        name = data[at : at + letters].decode()
-        at += letters
-        count = length if letter == b"w" else 0
-        notes.append((letter.decode(), offset, length, name, data[at : at + count]))
-        at += count
-    return notes
 
 
 class Life:

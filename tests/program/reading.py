@@ -37,15 +37,7 @@ SEED = 66
 
 sys.path.insert(0, os.path.join(TOP, "clients", "python"))
 import hechdoram_read  # noqa: E402
-
-
-class Wrong(Exception):
-    """Something went otherwise than it has to."""
-
-
-def expect(found, wanted, what):
-    if found != wanted:
-        raise Wrong("%s: %.300r in place of %.300r" % (what, found, wanted))
+from checks import Wrong, expect  # noqa: E402
 
 
 def run(*words, given=b"", **how):

@@ -19,7 +19,6 @@ With a second number the script is another.
 import os
 import random
 import shutil
-import struct
 import subprocess
 import sys
 import tempfile
@@ -27,21 +26,13 @@ import tempfile
 # Its numbers are not those of sums.py, whose check of digests stands here too.
 WORDS, sys.argv[1:] = sys.argv[1:], []
 import sums as digests  # noqa: E402
+from checks import Wrong, ask  # noqa: E402
 
 HERE = os.path.dirname(os.path.abspath(__file__))
 PROGRAM = WORDS[0] if WORDS else os.path.join(HERE, "..", "..", "crates", "bwlog", "out", "bwlog")
 SEED = int(WORDS[1]) if len(WORDS) > 1 else 1
 FAST = "/dev/shm" if os.path.isdir("/dev/shm") else None
 M, CAPACITY = 4, 65560
-
-
-class Wrong(Exception):
-    pass
-
-
-def ask(condition, *what):
-    if not condition:
-        raise Wrong(" ".join(str(it) for it in what))
 
 
 def bwlog(*words, script=""):

@@ -20,6 +20,8 @@ import subprocess
 import sys
 import tempfile
 
+from checks import Wrong, ask, notes_of
+
 HERE = os.path.dirname(os.path.abspath(__file__))
 PROGRAM = os.path.join(HERE, "..", "..", "crates", "bwlog", "out", "bwlog")
 SOURCE = os.path.join(HERE, "..", "..", "tools", "watch.c")
@@ -32,15 +34,6 @@ DAMAGED = 4
 SUM, WORD = 24, (1 << 64) - 1
 # How many states one is looked at by the program, and how many bits are changed of what a run leaves.
 EACH, BITS = 200, 40
-
-
-class Wrong(Exception):
-    pass
-
-
-def ask(condition, *what):
-    if not condition:
-        raise Wrong(" ".join(str(it) for it in what))
 
 
 # ---- sums, as docs/FORMAT.md has them
@@ -102,22 +95,6 @@ def script(draw):
         lines.append(draw.choice(("flush", "flush", "settle", "turn 40")))
         lines += draw.choice((["roll"], ["roll"], ["clean"], ["clean", "add"], ["clean", "add"], []))
     return "\n".join(lines + ["settle"]) + "\n"
-
-
-def notes_of(path):
-    """What was asked: a letter, the offset, the length, the file's name, the bytes."""
-    with open(path, "rb") as file:
-        data = file.read()
-    at, notes = 0, []
-    while at < len(data):
-        letter, offset, length, letters = struct.unpack_from("<cQQI", data, at)
-        at += struct.calcsize("<cQQI")
-        name = data[at : at + letters].decode()
-        at += letters
-        count = length if letter == b"w" else 0
-        notes.append((letter.decode(), offset, length, name, data[at : at + count]))
-        at += count
-    return notes
 
 
 def run(shim, room, folder, draw):

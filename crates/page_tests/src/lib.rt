@@ -1,5 +1,5 @@
-//! Tests of `bw_codec`, `bw_buffer`, `bw_ring`, `bw_page` and `bw_versions` from outside: worked rows, each
-//! public call once with ample memory, a ring between two threads, and readers beside a writer in another.
+//! Tests of `bw_page` and `bw_leaf` from outside: pages, chains, splits and batches, the forward
+//! reading, and each public call once with ample memory.
 #![tactic(auto)]
 
 #[cfg(test)]

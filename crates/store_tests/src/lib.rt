@@ -3,7 +3,5 @@
 //! scripts beside a map are `tests/program/drawn.py`.
 #![tactic(auto)]
 
-mod questions;
-pub mod subject;
 #[cfg(test)]
 mod tests;

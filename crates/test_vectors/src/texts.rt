@@ -1,6 +1,8 @@
 //! Bytes told as hex, and pages as text.
 
 use bw_codec::Leaf;
+use std::alloc::Global;
+use std::fmt::Display;
 
 fn digit(n: u8) -> u8 {
     match n {
@@ -22,6 +24,11 @@ pub fn spells(bytes: &[u8], hex: &[u8]) -> bool {
         }
     }
     true
+}
+
+/// Whether these are the bytes that are told.
+pub fn is(bytes: &[u8], told: &[u8]) -> bool {
+    bytes == told
 }
 
 /// What is left of a text behind a part of it; none where it does not begin so.
@@ -50,4 +57,20 @@ pub fn is_at_end(text: Option<&[u8]>) -> bool {
 /// Whether a text is this page, without its number.
 pub fn shows(leaf: &Leaf, text: &[u8]) -> bool {
     is_at_end(behind_leaf(Some(text), leaf))
+}
+
+/// Whether a page is shown so; no text where there is none, or it is not in memory.
+pub fn is_shown(leaf: Option<&Leaf>, text: &str) -> bool {
+    match leaf {
+        Some(leaf) => shows(leaf, text.as_bytes()),
+        None => text.len() == 0,
+    }
+}
+
+/// Whether this is told by this text.
+pub fn is_text<D: Display>(alloc: Global, what: &D, text: &str) -> bool {
+    match format!(in alloc; "{what}") {
+        Ok(shown) => shown.as_str() == text,
+        Err(_) => false,
+    }
 }

@@ -1,6 +1,5 @@
 //! Runs that end well, by their own tries or by a refusal: the tables.
 
-use super::all_went;
 use super::scripts::Part;
 use super::steps::Step::{Begins, Boxes, Drives, Durable, Forgets, Learns, Reads, Settles};
 use super::steps::{MANY, Pace, Run};
@@ -170,10 +169,10 @@ const REFUSED: &[&Table] = &[
 
 #[test]
 fn runs_go_as_told(rt: HostRuntime) {
-    all_went(&rt, wrong_table(&rt, ENDED));
+    assert_eq!(rt; wrong_table(&rt, ENDED), None);
 }
 
 #[test]
 fn nothing_follows_a_refusal(rt: HostRuntime) {
-    all_went(&rt, wrong_table(&rt, REFUSED));
+    assert_eq!(rt; wrong_table(&rt, REFUSED), None);
 }

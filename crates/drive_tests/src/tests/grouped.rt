@@ -1,6 +1,5 @@
 //! Groups in threads: the tables.
 
-use super::all_went;
 use super::courses::{ALL, KEYS, TWICE};
 use super::scripts::Sizes;
 use super::steps::Step::{Begins, Boxes, Drives, Durable, Settles};
@@ -54,5 +53,5 @@ const TABLES: &[&Table] = &[THREE, ONE_PLACE, FEW_TRIES, FIFTH_FRAME];
 
 #[test]
 fn groups_go_as_told(rt: HostRuntime) {
-    all_went(&rt, wrong_table(&rt, TABLES));
+    assert_eq!(rt; wrong_table(&rt, TABLES), None);
 }

@@ -1,6 +1,5 @@
 //! Writers run at once, and each group passes the gate.
 
-use super::all_went;
 use super::scripts::{Part, Sizes};
 use super::steps::Step::{Drives, Reads, Splits};
 use super::steps::{MANY, Pace, Run};
@@ -63,7 +62,7 @@ fn wrong_meeting<R: AllocGlobal + Threads + Wait>(rt: &R) -> Option<(&'static st
 
 #[test]
 fn two_writers_run_at_once(rt: HostRuntime) {
-    all_went(&rt, wrong_meeting(&rt));
+    assert_eq!(rt; wrong_meeting(&rt), None);
 }
 
 /// Adds up what it is told: the writer, and the number of each group from 1 on.
@@ -133,7 +132,7 @@ fn wrong_sums<R: AllocGlobal + Threads + Wait>(rt: &R) -> Option<(&'static str, 
 
 #[test]
 fn each_record_passes_the_gate(rt: HostRuntime) {
-    all_went(&rt, wrong_sums(&rt));
+    assert_eq!(rt; wrong_sums(&rt), None);
 }
 
 /// Keeps how many records of each of two writers were told as durable last, and whether that was ever
@@ -188,7 +187,7 @@ fn wrong_receipts<R: AllocGlobal + Threads + Wait>(rt: &R) -> Option<(&'static s
 
 #[test]
 fn each_writer_is_told_what_is_durable(rt: HostRuntime) {
-    all_went(&rt, wrong_receipts(&rt));
+    assert_eq!(rt; wrong_receipts(&rt), None);
 }
 
 /// A gate for so many writers and tries, who visits it, and whether it is met then.
@@ -228,5 +227,5 @@ fn wrong_visit(alloc: Global) -> Option<(&'static str, usize)> {
 
 #[test]
 fn a_gate_is_met_where_each_writer_found_all_others(rt: HostRuntime) {
-    all_went(&rt, wrong_visit(rt.alloc()));
+    assert_eq!(rt; wrong_visit(rt.alloc()), None);
 }

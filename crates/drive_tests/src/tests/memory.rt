@@ -1,5 +1,5 @@
 //! Lines of a script, of which one allocation is refused: the call tells it. The other calls that take
-//! memory stand in `memory_tests`.
+//! memory stand in `memory_page_tests`, `memory_file_tests` and `memory_store_tests`.
 
 use bw_pairs::Lines;
 use bw_words::LONGEST;

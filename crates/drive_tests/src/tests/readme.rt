@@ -4,7 +4,7 @@ ghost use Rattle.std.specs.Prelude.{◌≡◌, map};
 ghost use Rattle.bw_ring.specs.Ends.{ring_of_feed};
 ghost use Rattle.bw_store.specs.Views.{kept_by, IsSound};
 
-use super::boxes::boxes;
+use super::boxes::four_boxes;
 use super::scripts::{Part, Sizes, scripts};
 use bw_drive::{OpenGate, Plan, drive};
 use bw_ring::Feed;
@@ -41,7 +41,7 @@ fn example<R: Threads + Wait>(
 
 // The same over a new store of two writers.
 fn is_settled<R: Threads + Wait>(rt: &R, alloc: Global) -> bool {
-    let Some(boxes) = boxes(alloc, 4, &[], 65_560, None) else {
+    let Some(boxes) = four_boxes(alloc) else {
         return false;
     };
     let config = Config {

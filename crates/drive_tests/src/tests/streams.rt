@@ -1,6 +1,5 @@
 //! Lines of a reader whose reads are counted, and may be interrupted: how many of them are enough.
 
-use super::all_went;
 use bw_pairs::Lines;
 use bw_words::LONGEST;
 use std::alloc::Global;
@@ -81,5 +80,5 @@ const READS: &[Row] = &[
 
 #[test]
 fn reads_are_counted_and_tried_again(rt: HostRuntime) {
-    all_went(&rt, wrong_row(rt.alloc()));
+    assert_eq!(rt; wrong_row(rt.alloc()), None);
 }

@@ -4,7 +4,7 @@ ghost use Rattle.std.specs.Prelude.{◌≡◌, ◌<◌, length, map};
 ghost use Rattle.bw_ring.specs.Ends.{ring_of_feed};
 ghost use Rattle.bw_store.specs.Views.{kept_by, IsSound};
 
-use super::boxes::boxes;
+use super::boxes::four_boxes;
 use super::scripts::{Part, Sizes, numbered, scripts};
 use bw_codec::Record;
 use bw_drive::{Driven, Gate, Plan, drive};
@@ -128,7 +128,7 @@ fn driven<R: AllocGlobal + Threads + Wait>(
 
 // The same over a new store of two writers.
 fn run<R: AllocGlobal + Threads + Wait>(rt: &R, alloc: Global, gate: &Notes) -> Option<Driven> {
-    let boxes = boxes(alloc, 4, &[], 65_560, None)?;
+    let boxes = four_boxes(alloc)?;
     let config = Config {
         writers: 2,
         places: 8,

@@ -4,7 +4,7 @@ ghost use Rattle.std.specs.Prelude.{◌≡◌, map};
 ghost use Rattle.bw_ring.specs.Ends.{ring_of_feed};
 ghost use Rattle.bw_store.specs.Views.{kept_by, IsSound};
 
-use super::boxes::boxes;
+use super::boxes::boxes_of;
 use super::scripts::{Sizes, are_whole};
 use super::steps::{Step, goes};
 use bw_device::Segment;
@@ -13,6 +13,7 @@ use bw_ring::Feed;
 use bw_store::{Config, Store};
 use std::sync::Wait;
 use std::thread::Threads;
+use test_boxes::NEVER;
 
 /// A store, its boxes and its steps.
 #[derive(Drop)]
@@ -75,13 +76,8 @@ pub(super) fn walked<R: AllocGlobal + Threads + Wait, G: Gate>(
     table: &Table,
     gate: &G,
 ) -> Result<Left, usize> {
-    let Some(boxes) = boxes(
-        rt.alloc(),
-        table.boxes as usize,
-        &[],
-        table.capacity,
-        table.fuse,
-    ) else {
+    let fuse = table.fuse.map_or(NEVER, |calls| (calls, 0));
+    let Some(boxes) = boxes_of(rt.alloc(), table.boxes as usize, table.capacity, fuse) else {
         return Err(0);
     };
     let config = Config {

@@ -1,10 +1,12 @@
 // Segments, fuses and desks, in rows.
 
-use super::{NEVER, Table, Yard, add_box, all_go, empty_yard};
+use super::add_box;
 use bw_device::{
     Desk, FuseSegment, Lease, MAX_CAPACITY, MAX_LEASES, MemSegment, NotMade, NotTaken, Segment,
 };
 use std::alloc::Global;
+use test_boxes::{NEVER, Yard, empty_yard};
+use test_tables::wrong_table;
 
 /// One case over a desk, with what it has to answer.
 #[derive(Drop)]
@@ -198,18 +200,17 @@ fn goes(alloc: Global, desk: &mut Desk, row: &Row) -> Option<bool> {
 // Rows over a desk of so many leases.
 type OfLeases = (u32, &'static [Row]);
 
-impl Table for OfLeases {
-    fn wrong_row(&self, alloc: Global) -> Option<usize> {
-        let Ok(mut desk) = Desk::new(alloc, self.0) else {
-            return Some(0);
-        };
-        for (i, row) in self.1.iter().enumerate() {
-            if goes(alloc, &mut desk, row) != Some(true) {
-                return Some(i);
-            }
+/// The first row or step that does not go as told.
+fn wrong_of_leases(alloc: Global, table: &OfLeases) -> Option<usize> {
+    let Ok(mut desk) = Desk::new(alloc, table.0) else {
+        return Some(0);
+    };
+    for (i, row) in table.1.iter().enumerate() {
+        if goes(alloc, &mut desk, row) != Some(true) {
+            return Some(i);
         }
-        None
     }
+    None
 }
 
 const FUSES: &[Row] = &[
@@ -259,5 +260,8 @@ const TABLES: &[OfLeases] = &[
 
 #[test]
 fn segments_fuses_and_desks_go_as_told(rt: HostRuntime) {
-    all_go(&rt, TABLES);
+    assert_eq!(rt;
+        wrong_table(TABLES, |table| wrong_of_leases(rt.alloc(), table)),
+        None
+    );
 }

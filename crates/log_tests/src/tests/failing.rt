@@ -2,15 +2,15 @@
 
 ghost use Rattle.std.specs.Prelude.{[], OnSome};
 ghost use Rattle.log_tests.specs.OnePage.{Counts};
-ghost use Rattle.log_tests.specs.Views.{seen, IsSound};
+ghost use Rattle.test_boxes.specs.Views.{seen, IsSound};
 
-use super::care::boxes::is_page;
 use super::page::{begin, log_over, opening, put};
 use super::walking::begun;
-use super::{Table, all_go};
 use bw_device::Segment;
 use bw_log::{Log, LogFault};
 use std::alloc::Global;
+use test_boxes::is_page;
+use test_tables::wrong_table;
 
 // An append that fails: in which call of its box, over how many bytes, and of how many.
 #[derive(Drop)]
@@ -135,19 +135,17 @@ fn goes(alloc: Global, row: &Row, keep: u64) -> Option<bool> {
     Some(fails && tells(&mut log, row) && has_len(log, len))
 }
 
-impl Table for Row {
-    /// The bytes that the box kept where it does not go as told.
-    fn wrong_row(&self, alloc: Global) -> Option<usize> {
-        for keep in 0..=u64::from(self.piece) + 1 {
-            if goes(alloc, self, keep) != Some(true) {
-                return Some(keep as usize);
-            }
+/// The bytes that the box kept where it does not go as told.
+fn wrong_keep(alloc: Global, row: &Row) -> Option<usize> {
+    for keep in 0..=u64::from(row.piece) + 1 {
+        if goes(alloc, row, keep) != Some(true) {
+            return Some(keep as usize);
         }
-        None
     }
+    None
 }
 
 #[test]
 fn what_stands_behind_a_failed_append_is_as_told(rt: HostRuntime) {
-    all_go(&rt, ROWS);
+    assert_eq!(rt; wrong_table(ROWS, |row| wrong_keep(rt.alloc(), row)), None);
 }

@@ -2,15 +2,15 @@
 // `give_up` for `give_up_oldest`, which takes none.
 
 ghost use Rattle.std.specs.Prelude.{OnOk};
-ghost use Rattle.log_tests.specs.Views.{seen};
+ghost use Rattle.test_boxes.specs.Views.{seen};
 ghost use Rattle.log_tests.specs.OnePage.{HoldsOne};
 
-use super::NEVER;
 use super::page::{give_up, log_over, put, rewrite};
 use super::walking::{begun, rolls};
 use bw_codec::Leaf;
 use bw_log::{Log, LogFault};
 use std::alloc::Global;
+use test_boxes::NEVER;
 use test_marks::{begin, begin_without, end, refuse};
 
 /// No run takes so many allocations.

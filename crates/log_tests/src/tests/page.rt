@@ -7,16 +7,17 @@ ghost use Rattle.bw_record.specs.declared.record.Record.TheVariants.{Put};
 ghost use Rattle.bw_buffer.specs.Filling.{frame_of};
 ghost use Rattle.bw_log.specs.Appends.{MayFollow, AfterAppend};
 ghost use Rattle.bw_log.specs.Views.{seen_by};
-ghost use Rattle.log_tests.specs.Views.{seen, IsSound};
+ghost use Rattle.test_boxes.specs.Views.{seen, IsSound};
 ghost use Rattle.log_tests.specs.OnePage.{Counts, HoldsOne, Opens, first_with, put_after, put_of};
 
-use super::{Fuse, Yard, sealed, taken_out, yard_of};
+use super::{sealed, taken_out, yard_of};
 use bw_buffer::Buffer;
 use bw_codec::{Block, Key, Leaf, Ops, Packed, Place, Record, Value};
 use bw_device::Segment;
 use bw_log::{Log, LogFault};
 use bw_page::{change, count_after, empty_page};
 use std::alloc::Global;
+use test_boxes::{Fuse, Yard};
 
 /// A put of this value at this key.
 pub(crate) fn record_of(key: &[u8], value: &[u8]) -> Option<Record>

@@ -1,14 +1,14 @@
 // What no clause says: that calls succeed where memory is there, on a log that has no frame yet.
 
 ghost use Rattle.bw_log.specs.Views.{IsSound as IsSoundBeside};
-ghost use Rattle.log_tests.specs.Views.{IsSound};
+ghost use Rattle.test_boxes.specs.Views.{IsSound};
 
-use super::care::boxes::is_added;
+use super::add_box;
 use super::page::log_over;
-use super::{NEVER, Yard, add_box};
 use bw_device::Segment;
 use bw_log::{Log, LogFault};
 use std::alloc::Global;
+use test_boxes::{NEVER, Yard, is_added};
 
 // Whether it has three spares, of which the last has lease 2, and nothing else.
 fn is_empty(log: &Log) -> bool

@@ -1,18 +1,18 @@
 // The vector of a page that is split in two, appended by buffers.
 
 ghost use Rattle.std.specs.Prelude.{◌≡◌, ◌+◌, ◌≤◌, ◌∷◌, [], true, IfSome, OnSome};
-ghost use Rattle.log_tests.specs.Views.{seen, IsSound};
+ghost use Rattle.test_boxes.specs.Views.{seen, IsSound};
 ghost use Rattle.log_tests.specs.OnePage.{Counts};
 ghost use Rattle.log_tests.specs.Examples.{fifth_blocks, split_blocks, split_frames, split_upper};
 
-use super::care::boxes::{are_bytes, is_page};
 use super::page::{append, first_frame, log_over, ops_of, put_frame};
-use super::{NEVER, sealed};
+use super::sealed;
 use bw_buffer::Buffer;
 use bw_codec::{Block, Key, Leaf, Low, Pair, Pairs, Place, Value};
 use bw_device::Segment;
 use bw_log::{Log, LogFault};
 use std::alloc::Global;
+use test_boxes::{NEVER, are_bytes, is_page};
 use test_vectors::SECOND;
 
 // A pair of a byte at a byte.

@@ -2,18 +2,18 @@
 
 ghost use Rattle.std.specs.Prelude.{[], IfSome, OnSome};
 ghost use Rattle.bw_log.specs.Views.{seen_by};
-ghost use Rattle.log_tests.specs.Views.{seen};
+ghost use Rattle.test_boxes.specs.Views.{seen};
 ghost use Rattle.log_tests.specs.OnePage.{Counts, HoldsOne, Opens};
 
-use super::care::boxes::{is_shown, is_spelled};
 use super::filled::full_opening;
 use super::page::{begin, give_up, log_over, opening, put, rewrite};
-use super::{Fuse, NEVER, Table, Yard, all_go};
 use bw_buffer::Buffer;
 use bw_codec::{Leaf, Place};
 use bw_device::Segment;
 use bw_log::{Log, LogFault};
 use std::alloc::Global;
+use test_boxes::{Fuse, NEVER, Yard, is_shown, is_spelled};
+use test_tables::wrong_table;
 use test_vectors::{FIRST, THIRD_NEWER, THIRD_OLDER};
 
 /// One step, with what it has to answer.
@@ -236,16 +236,15 @@ pub(crate) fn begun(alloc: Global, log: &mut Log, fills: bool) -> Option<Leaf>
 #[derive(Drop)]
 struct Walk(Fuse, u32, bool, &'static [Step]);
 
-impl Table for Walk {
-    fn wrong_row(&self, alloc: Global) -> Option<usize> {
-        let Some((mut log, mut yard)) = log_over(alloc, self.1, self.0) else {
-            return Some(0);
-        };
-        let Some(mut leaf) = begun(alloc, &mut log, self.2) else {
-            return Some(0);
-        };
-        wrong_step(&mut log, &mut yard, &mut leaf, self.3)
-    }
+/// The first row or step that does not go as told.
+fn wrong_in_walk(alloc: Global, walk: &Walk) -> Option<usize> {
+    let Some((mut log, mut yard)) = log_over(alloc, walk.1, walk.0) else {
+        return Some(0);
+    };
+    let Some(mut leaf) = begun(alloc, &mut log, walk.2) else {
+        return Some(0);
+    };
+    wrong_step(&mut log, &mut yard, &mut leaf, walk.3)
 }
 
 // Of two boxes, a new segment wants one more.
@@ -349,5 +348,8 @@ const TABLES: &[Walk] = &[
 
 #[test]
 fn logs_of_one_page_go_as_told(rt: HostRuntime) {
-    all_go(&rt, TABLES);
+    assert_eq!(rt;
+        wrong_table(TABLES, |walk| wrong_in_walk(rt.alloc(), walk)),
+        None
+    );
 }

@@ -1,9 +1,10 @@
 //! Calls on one chain.
 
-use super::{Table, is_shown, packed, put, tables_go, went};
 use bw_codec::{Leaf, Place};
 use bw_page::{Chain, empty_page};
 use std::alloc::Global;
+use test_tables::wrong_table;
+use test_vectors::{is_shown, packed, put};
 
 /// One call on a chain, with what it has to answer.
 #[derive(Drop)]
@@ -86,12 +87,10 @@ fn wrong_step(alloc: Global, from: Chain, steps: &[Step]) -> Option<usize> {
     None
 }
 
-impl Table for &'static [Step] {
-    /// The same over an empty page.
-    fn wrong_step(&self, alloc: Global) -> Option<usize> {
-        let whole = Chain::whole(alloc, empty_page(alloc));
-        wrong_step(alloc, whole, *self)
-    }
+/// The same over an empty page.
+fn wrong_steps(alloc: Global, steps: &&'static [Step]) -> Option<usize> {
+    let whole = Chain::whole(alloc, empty_page(alloc));
+    wrong_step(alloc, whole, *steps)
 }
 
 /// What was not flushed stays above the log's page.
@@ -162,11 +161,14 @@ const TABLES: &[&[Step]] = &[EVICTION, CONSOLIDATION, RESERVED, RESTED];
 
 #[test]
 fn chains_go_as_told(rt: HostRuntime) {
-    tables_go(&rt, TABLES);
+    assert_eq!(rt;
+        wrong_table(TABLES, |steps| wrong_steps(rt.alloc(), steps)),
+        None
+    );
 }
 
 #[test]
 fn a_chain_on_the_log_goes_as_told(rt: HostRuntime) {
     let chain = Chain::on_log(rt.alloc(), FIRST);
-    went(&rt, wrong_step(rt.alloc(), chain, ON_LOG));
+    assert_eq!(rt; wrong_step(rt.alloc(), chain, ON_LOG), None);
 }

@@ -2,11 +2,11 @@
 
 ghost use Rattle.std.specs.Prelude.{◌≡◌, [], IfOk};
 
-use super::{all_went, is_shown, leads, packed, put};
+use super::leads;
 use bw_codec::Key;
 use bw_page::{Applied, Leaves};
 use std::alloc::{AllocError, Global};
-use test_vectors::leaf_of;
+use test_vectors::{is_shown, leaf_of, packed, put};
 
 /// Page 1 with `a`, and page 2 from `c` on with `d`.
 pub(super) fn two_pages(alloc: Global) -> Result<Leaves, AllocError>
@@ -173,10 +173,10 @@ fn first_wrong(alloc: Global, comes_back: bool) -> Option<(usize, usize)> {
 
 #[test]
 fn a_page_leaves_memory_and_comes_back(rt: HostRuntime) {
-    all_went(&rt, first_wrong(rt.alloc(), true));
+    assert_eq!(rt; first_wrong(rt.alloc(), true), None);
 }
 
 #[test]
 fn a_page_is_changed_while_another_is_evicted(rt: HostRuntime) {
-    all_went(&rt, first_wrong(rt.alloc(), false));
+    assert_eq!(rt; first_wrong(rt.alloc(), false), None);
 }

@@ -3,11 +3,11 @@
 ghost use Rattle.std.specs.Prelude.{IsTrue};
 ghost use Rattle.bw_record.specs.Keys.{ascends};
 
-use super::{Row, all_packed, del, is_shown, put, rows_go, went};
 use bw_codec::{Key, Leaf, Record};
 use bw_page::{Cut, change, change_all, count_after, cut_in_two, empty_page, keep_below, value_in};
 use std::alloc::Global;
-use test_vectors::leaf_of;
+use test_tables::wrong_row;
+use test_vectors::{all_packed, del, is_shown, leaf_of, put};
 
 /// One call on a leaf, with what it has to answer.
 #[derive(Drop)]
@@ -66,7 +66,7 @@ const ONE_LEAF: &[Step] = &[
 
 #[test]
 fn a_leaf_is_changed_record_by_record(rt: HostRuntime) {
-    went(&rt, wrong_step(rt.alloc(), ONE_LEAF));
+    assert_eq!(rt; wrong_step(rt.alloc(), ONE_LEAF), None);
 }
 
 /// A leaf of these keys of one letter each, without values.
@@ -81,17 +81,15 @@ fn lettered(alloc: Global, keys: &str) -> Option<Leaf> {
 /// The most pairs, the keys, and the two parts.
 type ToCut = (u16, &'static str, &'static str, &'static str);
 
-impl Row for ToCut {
-    /// Whether the leaf of these keys, cut where it has more than so many pairs, gives these parts.
-    fn goes(&self, alloc: Global) -> Option<bool> {
-        let (m, keys, lower, upper) = *self;
-        let leaf = lettered(alloc, keys)?;
-        if m == 0 || leaf.pairs.as_slice().len() <= usize::from(m) {
-            return None;
-        }
-        let cut = cut_in_two(alloc, m, leaf, 7).ok()?;
-        Some(are_parts(&cut, lower, upper))
+/// Whether the leaf of these keys, cut where it has more than so many pairs, gives these parts.
+fn to_cut_goes(alloc: Global, row: &ToCut) -> Option<bool> {
+    let (m, keys, lower, upper) = *row;
+    let leaf = lettered(alloc, keys)?;
+    if m == 0 || leaf.pairs.as_slice().len() <= usize::from(m) {
+        return None;
     }
+    let cut = cut_in_two(alloc, m, leaf, 7).ok()?;
+    Some(are_parts(&cut, lower, upper))
 }
 
 fn are_parts(cut: &Cut, lower: &str, upper: &str) -> bool {
@@ -109,17 +107,16 @@ const CUTS: &[ToCut] = &[
 
 #[test]
 fn a_leaf_is_cut_in_two(rt: HostRuntime) {
-    rows_go(&rt, CUTS);
+    assert_eq!(rt; wrong_row(CUTS, |row| to_cut_goes(rt.alloc(), row)), None);
 }
 
 /// The keys, the first key that goes, and what is kept.
 type ToKeep = (&'static str, &'static str, &'static str);
 
-impl Row for ToKeep {
-    fn goes(&self, alloc: Global) -> Option<bool> {
-        let leaf = keep_below(lettered(alloc, self.0)?, self.1.as_bytes());
-        Some(is_shown(Some(&leaf), self.2))
-    }
+/// Whether the row is answered as told.
+fn to_keep_goes(alloc: Global, row: &ToKeep) -> Option<bool> {
+    let leaf = keep_below(lettered(alloc, row.0)?, row.1.as_bytes());
+    Some(is_shown(Some(&leaf), row.2))
 }
 
 const KEPT: &[ToKeep] = &[
@@ -132,7 +129,7 @@ const KEPT: &[ToKeep] = &[
 
 #[test]
 fn pairs_from_a_key_on_are_dropped(rt: HostRuntime) {
-    rows_go(&rt, KEPT);
+    assert_eq!(rt; wrong_row(KEPT, |row| to_keep_goes(rt.alloc(), row)), None);
 }
 
 /// Whether a key has this value in a leaf; no text where it has none.
@@ -166,7 +163,7 @@ fn wrong_value(alloc: Global) -> Option<usize> {
 
 #[test]
 fn a_leaf_tells_the_value_of_a_key(rt: HostRuntime) {
-    went(&rt, wrong_value(rt.alloc()));
+    assert_eq!(rt; wrong_value(rt.alloc()), None);
 }
 
 const CHANGES: &[(&str, Option<&str>)] = &[

@@ -3,11 +3,13 @@
 ghost use Rattle.std.specs.Prelude.{◌≤◌, ◌≡◌, []};
 
 use super::evicted::two_pages;
-use super::{Table, all_packed, del, is_shown, leads, packed, put, records, tables_go, went};
+use super::leads;
 use bw_codec::{Key, Packed};
 use bw_history::PackedEntry;
 use bw_page::{Applied, Leaves};
 use std::alloc::Global;
+use test_tables::wrong_table;
+use test_vectors::{all_packed, del, is_shown, packed, put, records};
 
 /// One call on leaves, with what it has to answer.
 #[derive(Drop)]
@@ -352,43 +354,46 @@ fn wrong_of(alloc: Global, m: u16, steps: &[Step]) -> Option<usize> {
     }
 }
 
-impl Table for OfLimit {
-    fn wrong_step(&self, alloc: Global) -> Option<usize> {
-        wrong_of(alloc, self.0, self.1)
-    }
+/// The first step that does not go as told.
+fn wrong_of_limit(alloc: Global, table: &OfLimit) -> Option<usize> {
+    wrong_of(alloc, table.0, table.1)
 }
 
 const TABLES: &[OfLimit] = &[(4, FOUR), (4, SINGLE), (4, HINTED), (5, FIVE)];
 
 #[test]
 fn leaves_of_four_and_of_five_go_as_told(rt: HostRuntime) {
-    tables_go(&rt, TABLES);
+    assert_eq!(rt;
+        wrong_table(TABLES, |table| wrong_of_limit(rt.alloc(), table)),
+        None
+    );
 }
 
 /// How many pairs a page has at most, and how many both parts have of a page with one more.
 type Filled = (u16, usize, usize);
 
-impl Table for Filled {
-    /// The first step that did not go as told where a page is filled, and cut.
-    fn wrong_step(&self, alloc: Global) -> Option<usize> {
-        let (m, lower, upper) = *self;
-        let steps = [
-            Fill(m),
-            Count(1),
-            Put("z", "", 1, 2),
-            Count(2),
-            Step::Pairs(1, lower),
-            Step::Pairs(2, upper),
-        ];
-        wrong_of(alloc, m, &steps)
-    }
+/// The first step that did not go as told where a page is filled, and cut.
+fn wrong_filled(alloc: Global, table: &Filled) -> Option<usize> {
+    let (m, lower, upper) = *table;
+    let steps = [
+        Fill(m),
+        Count(1),
+        Put("z", "", 1, 2),
+        Count(2),
+        Step::Pairs(1, lower),
+        Step::Pairs(2, upper),
+    ];
+    wrong_of(alloc, m, &steps)
 }
 
 const FILLS: &[Filled] = &[(4, 2, 3), (5, 3, 3), (32, 16, 17)];
 
 #[test]
 fn a_page_is_cut_where_it_has_one_pair_too_many(rt: HostRuntime) {
-    tables_go(&rt, FILLS);
+    assert_eq!(rt;
+        wrong_table(FILLS, |table| wrong_filled(rt.alloc(), table)),
+        None
+    );
 }
 
 const TAKEN: &[Step] = &[
@@ -413,5 +418,5 @@ fn taken_wrong(alloc: Global) -> Option<usize> {
 
 #[test]
 fn leaves_are_taken_as_they_come(rt: HostRuntime) {
-    went(&rt, taken_wrong(rt.alloc()));
+    assert_eq!(rt; taken_wrong(rt.alloc()), None);
 }

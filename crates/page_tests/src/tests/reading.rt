@@ -1,10 +1,10 @@
 //! One page, read forwards over blocks.
 
-use super::{Row, all_packed, del, is_shown, packed, put, rows_go};
 use bw_codec::{Block, Ops, Place};
 use bw_page::{empty_page, read_blocks};
 use std::alloc::Global;
-use test_vectors::leaf_of;
+use test_tables::wrong_row;
+use test_vectors::{all_packed, del, is_shown, leaf_of, packed, put};
 
 const BACK: Place = Place { frame: 1, index: 0 };
 
@@ -38,18 +38,17 @@ fn blocks(alloc: Global) -> Option<Vec<Block>> {
 /// A page that the blocks make; no text where they never set it.
 type Page = (u32, &'static str);
 
-impl Row for Page {
-    fn goes(&self, alloc: Global) -> Option<bool> {
-        let leaf = read_blocks(self.0, None, blocks(alloc)?).ok()?;
-        Some(is_shown(leaf.as_ref(), self.1))
-    }
+/// Whether the row is answered as told.
+fn page_goes(alloc: Global, row: &Page) -> Option<bool> {
+    let leaf = read_blocks(row.0, None, blocks(alloc)?).ok()?;
+    Some(is_shown(leaf.as_ref(), row.1))
 }
 
 const PAGES: &[Page] = &[(1, ": a=1"), (2, "b: b=2"), (3, "")];
 
 #[test]
 fn blocks_are_read_page_by_page(rt: HostRuntime) {
-    rows_go(&rt, PAGES);
+    assert_eq!(rt; wrong_row(PAGES, |row| page_goes(rt.alloc(), row)), None);
 }
 
 /// A Delta of page 1 that puts so many keys of one byte, from the greatest down, and then deletes
@@ -70,21 +69,20 @@ fn long_delta(alloc: Global, count: u8) -> Option<Block> {
 /// How many keys a page gets, where it is then cut, and how many it keeps.
 type Grown = (u8, u8, usize);
 
-impl Row for Grown {
-    fn goes(&self, alloc: Global) -> Option<bool> {
-        let mut blocks = Vec::new(alloc);
-        blocks.push(Block::Base(empty_page(alloc))).ok()?;
-        blocks.push(long_delta(alloc, self.0)?).ok()?;
-        blocks
-            .push(Block::Split {
-                page: 1,
-                back: BACK,
-                upper: leaf_of(alloc, 2, &[self.1], &[self.1], b"").ok()?,
-            })
-            .ok()?;
-        let leaf = read_blocks(1, None, blocks).ok()??;
-        Some(leaf.pairs.as_slice().len() == self.2)
-    }
+/// Whether the row is answered as told.
+fn grown_goes(alloc: Global, row: &Grown) -> Option<bool> {
+    let mut blocks = Vec::new(alloc);
+    blocks.push(Block::Base(empty_page(alloc))).ok()?;
+    blocks.push(long_delta(alloc, row.0)?).ok()?;
+    blocks
+        .push(Block::Split {
+            page: 1,
+            back: BACK,
+            upper: leaf_of(alloc, 2, &[row.1], &[row.1], b"").ok()?,
+        })
+        .ok()?;
+    let leaf = read_blocks(1, None, blocks).ok()??;
+    Some(leaf.pairs.as_slice().len() == row.2)
 }
 
 /// Twice the pairs of any page at rest, one more, and many more.
@@ -98,5 +96,5 @@ const GROWN: &[Grown] = &[
 
 #[test]
 fn a_page_may_grow_far_between_two_blocks(rt: HostRuntime) {
-    rows_go(&rt, GROWN);
+    assert_eq!(rt; wrong_row(GROWN, |row| grown_goes(rt.alloc(), row)), None);
 }

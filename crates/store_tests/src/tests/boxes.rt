@@ -2,6 +2,7 @@
 
 use bw_device::{DeadSegment, Desk, FuseSegment, MemSegment, Segment};
 use std::alloc::Global;
+use test_subjects::opening::Supply;
 
 /// The least capacity of a box for frames of 65,536 bytes.
 pub(super) const LEAST: u64 = 65_560;
@@ -88,13 +89,6 @@ pub(super) fn worn(alloc: Global, text: &'static str, behind: u32) -> Option<Sup
         boxes,
         more: Vec::new(alloc),
     })
-}
-
-/// The boxes that a store is opened over, and those that there are more.
-#[derive(Drop)]
-pub(super) struct Supply {
-    pub(super) boxes: Vec<Box<dyn Segment>>,
-    pub(super) more: Vec<Box<dyn Segment>>,
 }
 
 /// Which boxes there are, each of this capacity.

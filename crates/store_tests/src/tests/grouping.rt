@@ -3,23 +3,23 @@
 ghost use Rattle.std.specs.Prelude.{IfSome};
 ghost use Rattle.bw_care.specs.Found.{IsRecovered};
 
-use super::boxes::{LEAST, Supply, maker_of, plain, supplied};
+use super::boxes::{LEAST, maker_of, plain, supplied};
 use super::cutting::{dumped, shows};
-use super::opening::{config_of, opened, shut};
-use super::putting::Op::{Set, Unset};
-use super::putting::{FOUR, NEXT};
-use super::steps::Step;
-use super::steps::Step::{
-    Cuts, Evict, Flush, Frame, Full, FullGroup, Get, Group, History, Live, Page, Pages, Put, Same,
-    Settle, Stops, Turn,
-};
 use super::telling::went;
 use super::walking::{Stand, Tables, all_go, wrong_step};
-use crate::subject::{BOTH, Over};
 use bw_care::{Recovered, recover};
 use bw_store::StoreFault;
 use std::alloc::Global;
 use std::sync::Wait;
+use test_subjects::opening::{Supply, config_of, opened, shut};
+use test_subjects::putting::Op::{Set, Unset};
+use test_subjects::putting::{FOUR, NEXT};
+use test_subjects::steps::Step;
+use test_subjects::steps::Step::{
+    Cuts, Evict, Flush, Frame, Full, FullGroup, Get, Group, History, Live, Page, Pages, Put, Same,
+    Settle, Stops, Turn,
+};
+use test_subjects::subject::{BOTH, Over};
 
 /// A turn counts groups and answers records; a settling takes one lane after the other.
 const WRITERS: &[Step] = &[

@@ -2,17 +2,17 @@
 
 ghost use Rattle.std.specs.Prelude.{◌≡◌, ◌<◌, length, map};
 ghost use Rattle.bw_ring.specs.Ends.{ring_of_feed};
-ghost use Rattle.store_tests.specs.Views.{AreItsFeeds, IsSoundBeside};
+ghost use Rattle.test_subjects.specs.Views.{AreItsFeeds, IsSoundBeside};
 
 use super::boxes::{Row, supplied};
-use super::opening::{Held, config_of, opened, shut};
-use super::putting::{is_put, record};
-use super::steps::Step::{Puts, Reads, Roll, Settle};
 use super::telling::holds;
 use super::walking::wrong_step;
-use crate::subject::Over;
 use bw_ring::Feed;
 use std::sync::Wait;
+use test_subjects::opening::{Held, config_of, opened, shut};
+use test_subjects::putting::{is_put, record};
+use test_subjects::steps::Step::{Puts, Reads, Roll, Settle};
+use test_subjects::subject::Over;
 
 /// Three segments of 24 MiB.
 const LARGE: Row = Row {

@@ -2,21 +2,21 @@
 
 ghost use Rattle.std.specs.Prelude.{IfSome};
 ghost use Rattle.bw_core.specs.Views.{IsSoundBeside as IsSoundCore};
-ghost use Rattle.store_tests.specs.Views.{AreItsFeeds, IsSoundBeside};
+ghost use Rattle.test_subjects.specs.Views.{AreItsFeeds, IsSoundBeside};
 
 use super::boxes::{Row, fused, plain, supplied};
-use super::opening::{Held, config_of, opened, shut};
-use super::steps::Step;
-use super::steps::Step::{Cuts, Flush, Get, History, Page, Put, Turn};
 use super::telling::went;
 use super::turning::FAILED;
 use super::walking::wrong_step;
-use crate::subject::{Over, Subject};
 use bw_core::Core;
 use bw_device::Segment;
 use bw_lives::relive;
 use std::alloc::Global;
 use std::sync::Wait;
+use test_subjects::opening::{Held, config_of, opened, shut};
+use test_subjects::steps::Step;
+use test_subjects::steps::Step::{Cuts, Flush, Get, History, Page, Put, Turn};
+use test_subjects::subject::{Over, Subject};
 
 // The second life of a core, with the same writers.
 fn relived<R: AllocGlobal + Wait>(rt: &R, held: Held) -> Option<Held>

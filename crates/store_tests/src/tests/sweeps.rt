@@ -1,19 +1,19 @@
 //! Of two scripts each append fails in turn, and keeps each number of bytes that it may; and each read
 //! fails in turn.
 
-ghost use Rattle.store_tests.specs.Views.{AreItsFeeds, IsSoundBeside};
+ghost use Rattle.test_subjects.specs.Views.{AreItsFeeds, IsSoundBeside};
 
-use super::boxes::{Supply, dying, fused, supplied};
+use super::boxes::{dying, fused, supplied};
 use super::cutting::THREE;
-use super::opening::{Held, config_of, opened, shut};
-use super::putting::FIVE;
-use super::steps::Step::{Clean, Evict, Frame, Frames, Get, Page, Put, Turn};
-use super::steps::{Step, goes};
 use super::telling::{all_went, holds};
 use super::walking::{lives_on, wrong_step};
-use crate::subject::{BOTH, Over};
 use bw_care::{RecoverCause, recover};
 use std::sync::Wait;
+use test_subjects::opening::{Held, Supply, config_of, opened, shut};
+use test_subjects::putting::FIVE;
+use test_subjects::steps::Step::{Clean, Evict, Frame, Frames, Get, Page, Put, Turn};
+use test_subjects::steps::{Step, goes};
+use test_subjects::subject::{BOTH, Over};
 
 /// Five records, a frame each; the last one cuts its page.
 const FIVE_FRAMES: &[Step] = &[Frames(1, FIVE)];

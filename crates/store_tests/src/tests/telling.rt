@@ -1,7 +1,7 @@
 //! How a walk went is told.
 
-use crate::subject::Over;
 use std::process::Abort;
+use test_subjects::subject::Over;
 
 /// All tables went as told; a failure tells over which of the two one did not, the first that did
 /// not, and its step.

@@ -2,19 +2,19 @@
 
 ghost use Rattle.std.specs.Prelude.{IfSome};
 ghost use Rattle.bw_care.specs.Found.{IsRecovered};
-ghost use Rattle.store_tests.specs.Views.{AreItsFeeds, IsSoundBeside};
+ghost use Rattle.test_subjects.specs.Views.{AreItsFeeds, IsSoundBeside};
 
-use super::boxes::{LEAST, Row, Supply, fused, maker_of, plain, supplied, worn};
-use super::opening::{Held, config_of, opened, reopened, shut};
-use super::steps::{Step, goes};
+use super::boxes::{LEAST, Row, fused, maker_of, plain, supplied, worn};
 use super::telling::all_went;
-use crate::subject::{BOTH, Over};
 use bw_care::{Recovered, recover};
 use bw_device::Segment;
 use std::alloc::Global;
 use std::mem;
 use std::process::Abort;
 use std::sync::Wait;
+use test_subjects::opening::{Held, Supply, config_of, opened, reopened, shut};
+use test_subjects::steps::{Step, goes};
+use test_subjects::subject::{BOTH, Over};
 
 // The first step that did not go as told.
 pub(super) fn wrong_step<R: AllocGlobal + Wait>(

@@ -1,4 +1,4 @@
-use Rattle.log_tests.specs.Views.{seen}
+use Rattle.test_boxes.specs.Views.{seen}
 use Rattle.log_tests.specs.OnePage.{Counts}
 use Rattle.log_tests.specs.Examples.{split_frames}
 use Rattle.log_tests.proofs.tests.splits.append_all.Given as goal

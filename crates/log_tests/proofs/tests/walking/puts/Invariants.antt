@@ -1,4 +1,4 @@
-use Rattle.log_tests.specs.Views.{seen}
+use Rattle.test_boxes.specs.Views.{seen}
 use Rattle.log_tests.specs.OnePage.{HoldsOne}
 use Rattle.log_tests.proofs.tests.walking.puts.Given as goal
 

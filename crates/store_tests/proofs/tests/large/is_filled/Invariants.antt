@@ -1,6 +1,6 @@
 use Rattle.std.specs.Prelude.{◌≡◌, map}
 use Rattle.bw_ring.specs.Ends.{ring_of_feed}
-use Rattle.store_tests.specs.Views.{rings_by, IsSound}
+use Rattle.test_subjects.specs.Views.{rings_by, IsSound}
 use Rattle.store_tests.proofs.tests.large.is_filled.Given as goal
 
 abbrev pub invariant-rounds : goal.invariant-rounds

@@ -1,0 +1,104 @@
+//! A cleaning whose pages need more frames than one.
+
+use super::boxes::add_box;
+use super::steps::{cleaned, cleans};
+use bw_care::recover;
+use bw_codec::limits::{LATEST, MIN_FRAME};
+use bw_codec::{Header, encode_frame_head, encode_header};
+use bw_device::Segment;
+use std::alloc::Global;
+use test_boxes::{NEVER, Yard, empty_yard};
+
+// The bytes of each part.
+fn put(out: &mut Vec<u8>, parts: &[&[u8]]) -> Option<()> {
+    for part in parts {
+        out.extend_from_slice(part).ok()?;
+    }
+    Some(())
+}
+
+// A key of 128 bytes: two more tell the page and the pair.
+const KEY: &[u8] = &[b'k'; 126];
+
+const VALUE: &[u8] = &[b'v'; 512];
+
+// Room for two frames of twenty such pages each.
+const ROOM: u64 = 131_072;
+
+// A page in a Base of 2,708 bytes, its low key the first of its pairs; that of page 1 has none. Its
+// four pairs, with values of 512 bytes, are 2,572 of these.
+fn put_base(out: &mut Vec<u8>, page: u8) -> Option<()> {
+    if page == 1 {
+        put(out, &[&[2, 1, 0, 0, 0, 0, 4, 0]])?;
+    } else {
+        put(out, &[&[2, page, 0, 0, 0, 128], KEY, &[page, 0, 4, 0]])?;
+    }
+    for pair in 0..4 {
+        put(out, &[&[128], KEY, &[page, pair, 0, 2], VALUE])?;
+    }
+    Some(())
+}
+
+// A frame of twenty such pages, from the page behind this one on, with so many bytes of blocks.
+fn put_frame(out: &mut Vec<u8>, number: u64, behind: u8, body: u32) -> Option<()> {
+    encode_frame_head(number, body, 20, out).ok()?;
+    for page in 1..41 {
+        if behind < page && page - behind <= 20 {
+            put_base(out, page)?;
+        }
+    }
+    Some(())
+}
+
+// The segment of this number: in the first stand forty full pages in two frames, the second is
+// begun behind it.
+fn add_segment(yard: &mut Yard, number: u64) -> Option<()> {
+    let header = Header {
+        version: LATEST,
+        number,
+        m: 4,
+        f: MIN_FRAME,
+    };
+    let mut out = Vec::new(yard.alloc);
+    encode_header(&header, &mut out).ok()?;
+    if number == 1 {
+        put_frame(&mut out, 1, 0, 54_032)?;
+        put_frame(&mut out, 2, 20, 54_160)?;
+    }
+    add_box(yard, &out, ROOM, NEVER)
+}
+
+// Both segments and a spare.
+fn segments(alloc: Global) -> Option<Yard> {
+    let mut full = empty_yard(alloc, 8)?;
+    add_segment(&mut full, 1)?;
+    add_segment(&mut full, 2)?;
+    add_box(&mut full, &[], ROOM, NEVER)?;
+    Some(full)
+}
+
+// Whether forty pages are recovered again, from the cleaner's frames alone.
+fn are_there(alloc: Global, live: Vec<Box<dyn Segment>>) -> bool {
+    match recover(alloc, live) {
+        Ok(again) => again.leaves.count() == 40 && again.first == 3 && again.last == 4,
+        Err(_) => false,
+    }
+}
+
+// Whether the log that is recovered is cleaned, and all pages are there then.
+fn are_cleaned(alloc: Global) -> Option<bool> {
+    let told = cleaned(1, 0, 40, 2);
+    match recover(alloc, segments(alloc)?.boxes) {
+        Ok(found) => {
+            let mut log = found.log;
+            let goes = cleans(alloc, &mut log, Ok(told));
+            Some(goes && are_there(alloc, log.into_segments().0))
+        }
+        Err(_) => None,
+    }
+}
+
+#[test]
+fn forty_full_pages_are_cleaned_into_two_frames(rt: HostRuntime) {
+    assert!(rt; are_cleaned(rt.alloc()) == Some(true));
+}

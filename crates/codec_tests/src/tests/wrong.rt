@@ -1,0 +1,246 @@
+// Each place where a block can be wrong, beside bytes that are lawful there.
+
+use super::reading::{Found, found_in};
+use std::alloc::Global;
+use test_tables::{wrong_row, wrong_table};
+use test_vectors::digits::{body_of, framed_in, spelled_body};
+
+/// A frame. In format 2, where it is whole, it has a byte more for each value.
+#[derive(Drop)]
+enum Row {
+    /// One of a block, its body in digits, which is bad.
+    Bad(&'static str),
+    /// The same, which is whole: how many bytes it has.
+    Whole(&'static str, usize),
+    /// One of so many blocks, its body in digits, and what it is.
+    Of(u32, &'static str, Found),
+}
+
+use Row::{Bad, Of, Whole};
+
+const BASES: &[Row] = &[
+    Whole("02 01000000 00 0000", 28),
+    // The page: cut, and zero.
+    Of(2, "02 01000000 00 0000 02 010000", Found::Bad),
+    Bad("02 00000000 00 0000"),
+    // The low key: its length is not there, and it is cut.
+    Of(2, "02 01000000 00 0000 02 01000000", Found::Bad),
+    Bad("02 01000000 05 6162"),
+    // The count of pairs: cut, the greatest, and one more.
+    Bad("02 01000000 01 61 00"),
+    Whole(
+        "02 01000000 00 0400 01 61 v00 01 62 v00 01 63 v00 01 64 v00",
+        40,
+    ),
+    Bad("02 01000000 00 0500 01 61 v00 01 62 v00 01 63 v00 01 64 v00 01 65 v00"),
+    // The order of keys.
+    Whole("02 01000000 00 0200 01 6a v01 32 01 6b v01 33", 36),
+    Bad("02 01000000 00 0200 01 6b v01 33 01 6a v01 32"),
+    Bad("02 01000000 00 0200 01 6a v01 32 01 6a v01 33"),
+];
+
+const PAIRS: &[Row] = &[
+    // A key of no byte.
+    Bad("02 01000000 00 0100 00 v00"),
+    // No value.
+    Bad("02 01000000 00 0100 01 61"),
+];
+
+const DELTAS: &[Row] = &[
+    Whole(
+        "01 01000000 0100000000000000 00000000 0100 01 01 61 v00",
+        43,
+    ),
+    Whole("01 01000000 0100000000000000 00000000 0100 02 01 61", 42),
+    // The page: zero. The place back: its frame is cut, is zero, its index is cut.
+    Bad("01 00000000 0100000000000000 00000000 0100 02 01 61"),
+    Bad("01 01000000 01000000"),
+    Bad("01 01000000 0000000000000000 00000000 0100 02 01 61"),
+    Bad("01 01000000 0100000000000000 0000"),
+    // The count of records: cut, and zero; fewer records than it tells, and more.
+    Bad("01 01000000 0100000000000000 00000000 01"),
+    Bad("01 01000000 0100000000000000 00000000 0000"),
+    Bad("01 01000000 0100000000000000 00000000 0200 02 01 61"),
+    Bad("01 01000000 0100000000000000 00000000 0100 02 01 61 02 01 61"),
+    // A record's kind.
+    Bad("01 01000000 0100000000000000 00000000 0100 00 01 61"),
+    Bad("01 01000000 0100000000000000 00000000 0100 03 01 61"),
+    // Its key: not there, cut, of no byte.
+    Bad("01 01000000 0100000000000000 00000000 0100 02"),
+    Bad("01 01000000 0100000000000000 00000000 0100 02 02 61"),
+    Bad("01 01000000 0100000000000000 00000000 0100 02 00"),
+];
+
+const SPLITS: &[Row] = &[
+    Whole(
+        "03 01000000 0100000000000000 00000000 01 61 02000000 0100 01 61 v00",
+        48,
+    ),
+    // The page that is cut: zero. The place back: frame zero.
+    Bad("03 00000000 0100000000000000 00000000 01 61 02000000 0100 01 61 v00"),
+    Bad("03 01000000 0000000000000000 00000000 01 61 02000000 0100 01 61 v00"),
+    // The new page: cut, page 1, and the page that is cut.
+    Bad("03 01000000 0100000000000000 00000000 01 61 0200"),
+    Bad("03 02000000 0100000000000000 00000000 01 61 01000000 0100 01 61 v00"),
+    Bad("03 02000000 0100000000000000 00000000 01 61 02000000 0100 01 61 v00"),
+    // The separator is not the first key; there is no first key.
+    Bad("03 01000000 0100000000000000 00000000 01 62 02000000 0100 01 61 v00"),
+    Bad("03 01000000 0100000000000000 00000000 00 02000000 0100 01 61 v00"),
+    Bad("03 01000000 0100000000000000 00000000 00 02000000 0000"),
+];
+
+const BODIES: &[Row] = &[
+    Of(
+        2,
+        "02 01000000 00 0000 02 02000000 00 0000",
+        Found::Whole(36),
+    ),
+    // A block's kind.
+    Bad("00 01000000 00 0000"),
+    Bad("04 01000000 00 0000"),
+    // Fewer blocks than the head tells; more bytes than its blocks have.
+    Of(2, "02 01000000 00 0000", Found::Bad),
+    Bad("02 01000000 00 0000 00"),
+    Bad("02 01000000 00 0000 02 02000000 00 0000"),
+];
+
+/// What has a greatest length.
+#[derive(Clone, Copy, PartialEq, Eq)]
+enum Part {
+    Key,
+    Value,
+}
+
+/// Frames of one block with a key or a value of the greatest length, and of one byte more, which is
+/// bad: digits in front of its length, what it is, digits behind it, and how many bytes the first of
+/// them has in format 1 and in format 2.
+type Longest = (&'static str, Part, &'static str, usize, usize);
+
+const LONGEST: &[Longest] = &[
+    ("02 01000000", Part::Key, "0000", 92, 156),
+    ("02 01000000 00 0100", Part::Key, "v00", 94, 159),
+    ("02 01000000 00 0100 01 61", Part::Value, "", 159, 544),
+    (DELETE, Part::Key, "", 105, 169),
+    (PUT, Part::Key, "v00", 106, 171),
+    (PUT_61, Part::Value, "", 171, 556),
+];
+
+/// A Delta of one delete, and of one put, up to the key, and up to the value.
+const DELETE: &str = "01 01000000 0100000000000000 00000000 0100 02";
+
+const PUT: &str = "01 01000000 0100000000000000 00000000 0100 01";
+
+const PUT_61: &str = "01 01000000 0100000000000000 00000000 0100 01 01 61";
+
+/// Counts of so many that room for them all would not be had.
+const COUNTS: &[Row] = &[
+    Of(u32::MAX, "02 01000000 00 0000", Found::Bad),
+    Bad("01 01000000 0100000000000000 00000000 ffff 02 01 61"),
+    Bad("02 01000000 00 ffff 01 61 v00"),
+    Bad("03 01000000 0100000000000000 00000000 01 61 02000000 ffff 01 61 v00"),
+];
+
+/// What stands at the front of a frame of this format with so many blocks and this body.
+fn found_at(alloc: Global, version: u16, m: u16, count: u32, body: &[u8]) -> Option<Found> {
+    let frame = framed_in(alloc, version, count, body)?;
+    found_in(alloc, version, m, frame.as_slice())
+}
+
+/// Whether a row is found as told, written in this format.
+fn is_found(alloc: Global, version: u16, m: u16, row: &Row) -> Option<bool> {
+    let (count, hex, told) = match row {
+        Bad(hex) => (1, *hex, Found::Bad),
+        Whole(hex, used) => (1, *hex, Found::Whole(*used)),
+        Of(count, hex, told) => (*count, *hex, *told),
+    };
+    let (body, values) = spelled_body(alloc, version, hex)?;
+    let told = match told {
+        Found::Whole(used) if version == 2 => Found::Whole(used.checked_add(values)?),
+        told => told,
+    };
+    Some(found_at(alloc, version, m, count, &body)? == told)
+}
+
+/// The greatest length of a part in this format.
+fn greatest(version: u16, part: Part) -> u16 {
+    match part {
+        Part::Key if version == 1 => 64,
+        Part::Value if version == 2 => 512,
+        _ => 128,
+    }
+}
+
+/// Whether the longest is found whole, and one byte more bad, in this format.
+fn is_longest(alloc: Global, version: u16, row: &Longest, used: usize) -> Option<bool> {
+    let (front, part, behind, _, _) = *row;
+    let many = greatest(version, part);
+    let is_wide = version == 2 && part == Part::Value;
+    let whole = body_of(alloc, version, (front, behind), is_wide, many)?;
+    let more = body_of(
+        alloc,
+        version,
+        (front, behind),
+        is_wide,
+        many.checked_add(1)?,
+    )?;
+    let is_whole = found_at(alloc, version, 4, 1, &whole)? == Found::Whole(used);
+    Some(is_whole && found_at(alloc, version, 4, 1, &more)? == Found::Bad)
+}
+
+/// The same in either format.
+fn longest_goes(alloc: Global, row: &Longest) -> Option<bool> {
+    Some(is_longest(alloc, 1, row, row.3)? && is_longest(alloc, 2, row, row.4)?)
+}
+
+/// The first row that does not answer as told, in this format.
+fn wrong_in(alloc: Global, version: u16, m: u16, rows: &[Row]) -> Option<usize> {
+    for (i, row) in rows.iter().enumerate() {
+        if is_found(alloc, version, m, row) != Some(true) {
+            return Some(i);
+        }
+    }
+    None
+}
+
+/// The same in either format.
+fn wrong_in_either(alloc: Global, m: u16, rows: &[Row]) -> Option<usize> {
+    wrong_in(alloc, 1, m, rows).or(wrong_in(alloc, 2, m, rows))
+}
+
+/// Rows where a page has at most so many pairs.
+type OfPairs = (u16, &'static [Row]);
+
+/// The first step that does not go as told.
+fn wrong_of_pairs(alloc: Global, table: &OfPairs) -> Option<usize> {
+    wrong_in_either(alloc, table.0, table.1)
+}
+
+const TABLES: &[OfPairs] = &[
+    (4, BASES),
+    (4, PAIRS),
+    (4, DELTAS),
+    (4, SPLITS),
+    (4, BODIES),
+];
+
+const COUNTED: &[OfPairs] = &[(4, COUNTS), (32, COUNTS), (u16::MAX, COUNTS)];
+
+#[test]
+fn each_part_of_a_block_is_looked_at(rt: HostRuntime) {
+    assert_eq!(rt;
+        wrong_table(TABLES, |table| wrong_of_pairs(rt.alloc(), table)),
+        None
+    );
+    assert_eq!(rt;
+        wrong_row(LONGEST, |row| longest_goes(rt.alloc(), row)),
+        None
+    );
+}
+
+#[test]
+fn a_count_is_no_reason_to_take_memory(rt: HostRuntime) {
+    assert_eq!(rt;
+        wrong_table(COUNTED, |table| wrong_of_pairs(rt.alloc(), table)),
+        None
+    );
+}

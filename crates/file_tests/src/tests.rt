@@ -1,0 +1,20 @@
+//! Folders as tables of steps, each walked to the first step that goes otherwise than told.
+
+mod again;
+mod failing;
+mod folders;
+mod listed;
+mod lost;
+mod recovered;
+mod steps;
+mod stored;
+mod summed;
+mod watched;
+
+use std::fs;
+use std::test::*;
+
+/// A folder and its files are gone, if they were there.
+fn clear(rt: HostRuntime, path: &str) {
+    let _ = fs::remove_dir_all(&rt, path);
+}

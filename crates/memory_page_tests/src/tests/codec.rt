@@ -1,0 +1,327 @@
+//! Bytes, blocks, leaves and buffers.
+
+ghost use Rattle.std.specs.Prelude.{◌≤◌, length, IfSome};
+ghost use Rattle.std.specs.List.{AllByRecursion};
+ghost use Rattle.bw_codec.specs.Grammar.{IsBlock};
+
+use super::changed;
+use bw_buffer::Buffer;
+use bw_codec::limits::{LATEST, MIN_FRAME};
+use bw_codec::{
+    Block, Blocks, CodecFault, FrameRead, Head, Header, HeaderRead, Key, Leaf, Low, Ops, Outline,
+    Pair, Pairs, Place, Record, Value, block_length, encode_block, encode_frame_head,
+    encode_header, frame_cells, header_cells, is_before, read_block, read_frame, read_header,
+};
+use std::alloc::Global;
+use std::sync::Wait;
+use std::thread::Threads;
+use test_marks::{begin, begin_without, end};
+use test_refusals::{Ask, Row, Try, asked_again, then, tried, wrong_row};
+use test_vectors::{is, shows};
+
+/// The header of the first segment with pages of four pairs and frames of 65,536 bytes.
+const HEADER: &[u8] = b"BWLOGSG2\x01\0\0\0\0\0\0\0\x04\0\0\0\0\0\x01\0";
+
+/// The head of the first frame, with 33 bytes of two blocks.
+const HEAD: &[u8] = b"FRM2\x01\0\0\0\0\0\0\0\x21\0\0\0\x02\0\0\0";
+
+/// Page 1 as it begins.
+const BASE: &[u8] = b"\x02\x01\0\0\0\0\0\0";
+
+/// Page 1 with k=v.
+const DELTA: &[u8] = b"\x01\x01\0\0\0\x01\0\0\0\0\0\0\0\0\0\0\0\x01\0\x01\x01k\x01\0v";
+
+/// Page 2 from b on, out of page 1.
+const SPLIT: &[u8] = b"\x03\x01\0\0\0\x01\0\0\0\0\0\0\0\0\0\0\0\x01b\x02\0\0\0\x01\0\x01b\x01\02";
+
+const HEADING: Header = Header {
+    version: LATEST,
+    number: 1,
+    m: 4,
+    f: MIN_FRAME,
+};
+
+/// One call that may be refused.
+#[derive(Drop)]
+enum Call {
+    EncodeHeader,
+    EncodeHead,
+    /// A block of these bytes is written.
+    EncodeBlock(&'static [u8]),
+    /// And read.
+    ReadBlock(&'static [u8]),
+    ReadFrame,
+    CopyLow,
+    CopyPairs,
+    CopyPairsOf,
+    CopyLeaf,
+    Insert,
+    NewBuffer,
+}
+
+/// Whether bytes are `x`, with these behind it where the call went.
+fn is_left(out: &[u8], went: bool, bytes: &[u8]) -> bool {
+    match out.split_first() {
+        Some((first, rest)) => *first == b'x' && if went { rest == bytes } else { rest.is_empty() },
+        None => false,
+    }
+}
+
+/// One try of a call that writes what is no block.
+fn writes(alloc: Global, out: &mut Vec<u8>, head: bool) -> Option<Try> {
+    begin(alloc);
+    let went = if head {
+        encode_frame_head(1, 33, 2, out).is_ok()
+    } else {
+        encode_header(&HEADING, out).is_ok()
+    };
+    let refused = end(alloc);
+    let bytes = if head { HEAD } else { HEADER };
+    tried(went, refused, is_left(out.as_slice(), went, bytes))
+}
+
+fn is_written(alloc: Global, head: bool) -> Option<Try> {
+    let mut out = Vec::from_slice(alloc, b"x").ok()?;
+    let first = writes(alloc, &mut out, head)?;
+    if first == Try::Refused {
+        return then(first, writes(alloc, &mut out, head));
+    }
+    Some(first)
+}
+
+/// The lawful block of these bytes.
+fn block_of(alloc: Global, bytes: &[u8]) -> Option<Block>
+    ensures { IfSome result (IsBlock 32) }
+{
+    read_block(alloc, bytes, LATEST, 32).ok()
+}
+
+/// One try of a block that is written.
+fn encodes(alloc: Global, out: &mut Vec<u8>, block: &Block, bytes: &[u8]) -> Option<Try>
+    requires { IsBlock 32 block.now }
+{
+    begin(alloc);
+    let went = encode_block(block, out).is_ok();
+    let refused = end(alloc);
+    tried(went, refused, is_left(out.as_slice(), went, bytes))
+}
+
+fn is_encoded(alloc: Global, bytes: &[u8]) -> Option<Try> {
+    let block = block_of(alloc, bytes)?;
+    let mut out = Vec::from_slice(alloc, b"x").ok()?;
+    let first = encodes(alloc, &mut out, &block, bytes)?;
+    if first == Try::Refused {
+        return then(first, encodes(alloc, &mut out, &block, bytes));
+    }
+    Some(first)
+}
+
+/// Whether the block is that of these bytes: it is written as they are.
+fn spells(alloc: Global, bytes: &[u8], block: &Block) -> bool
+    requires { IsBlock 32 block.now }
+{
+    let mut out = Vec::new(alloc);
+    encode_block(block, &mut out).is_ok() && out.as_slice() == bytes
+}
+
+/// One try of a block that is read.
+fn reads_block(alloc: Global, bytes: &[u8]) -> Option<Try> {
+    begin(alloc);
+    let answer = read_block(alloc, bytes, LATEST, 32);
+    let refused = end(alloc);
+    match answer {
+        Ok(block) => tried(true, refused, spells(alloc, bytes, &block)),
+        Err(fault) => tried(false, refused, fault == CodecFault::NoMemory),
+    }
+}
+
+/// The first frame as bytes.
+fn frame_bytes(alloc: Global) -> Option<Vec<u8>> {
+    let mut bytes = Vec::from_slice(alloc, HEAD).ok()?;
+    bytes.extend_from_slice(BASE).ok()?;
+    bytes.extend_from_slice(DELTA).ok()?;
+    Some(bytes)
+}
+
+/// One try of a frame that is read.
+fn reads_frame(alloc: Global) -> Option<Try> {
+    let bytes = frame_bytes(alloc)?;
+    begin(alloc);
+    let answer = read_frame(alloc, bytes.as_slice(), &HEADING);
+    let refused = end(alloc);
+    match answer {
+        Ok(FrameRead::Whole(frame, used)) => {
+            tried(
+                true,
+                refused,
+                used == 53 && frame.blocks.as_slice().len() == 2,
+            )
+        }
+        Ok(FrameRead::Tail) => None,
+        Err(fault) => tried(false, refused, fault == CodecFault::NoMemory),
+    }
+}
+
+fn pair(alloc: Global, key: &[u8], value: &[u8]) -> Option<Pair> {
+    Pair::of(alloc, &Key::new(key).ok()?, &Value::new(value).ok()?).ok()
+}
+
+/// Page 7 from `a` on, with a=1 and c=3.
+fn leaf(alloc: Global) -> Option<Leaf> {
+    let mut pairs = Vec::new(alloc);
+    pairs.push(pair(alloc, b"a", b"1")?).ok()?;
+    pairs.push(pair(alloc, b"c", b"3")?).ok()?;
+    Some(Leaf {
+        page: 7,
+        low: Low::of(Vec::from_slice(alloc, b"a").ok()?),
+        pairs: Pairs::of(pairs),
+    })
+}
+
+/// Whether pairs are a=1 and c=3.
+fn are_pairs(pairs: &Pairs) -> bool {
+    match pairs.as_slice() {
+        [first, second] => {
+            is(first.key(), b"a")
+                && is(first.value(), b"1")
+                && is(second.key(), b"c")
+                && is(second.value(), b"3")
+        }
+        _ => false,
+    }
+}
+
+fn copies_low(alloc: Global) -> Option<Try> {
+    let (low, _pairs) = leaf(alloc)?.into_parts();
+    begin(alloc);
+    let copy = low.copy();
+    let refused = end(alloc);
+    match copy {
+        Ok(copy) => tried(true, refused, is(copy.as_slice(), b"a")),
+        Err(_) => tried(false, refused, is(low.as_slice(), b"a")),
+    }
+}
+
+fn copies_pairs(alloc: Global, of: bool) -> Option<Try> {
+    let (_low, pairs) = leaf(alloc)?.into_parts();
+    begin(alloc);
+    let copy = if of {
+        Pairs::copy_of(alloc, pairs.as_slice())
+    } else {
+        pairs.copy()
+    };
+    let refused = end(alloc);
+    match copy {
+        Ok(copy) => tried(true, refused, are_pairs(&copy)),
+        Err(_) => tried(false, refused, are_pairs(&pairs)),
+    }
+}
+
+fn copies_leaf(alloc: Global) -> Option<Try> {
+    let leaf = leaf(alloc)?;
+    begin(alloc);
+    let copy = leaf.copy();
+    let refused = end(alloc);
+    match copy {
+        Ok(copy) => tried(true, refused, copy.page == 7 && shows(&copy, b"a: a=1 c=3")),
+        Err(_) => tried(false, refused, shows(&leaf, b"a: a=1 c=3")),
+    }
+}
+
+/// One try of b=2 between the pairs: where it is refused, they are what they were.
+fn inserts(alloc: Global, leaf: &mut Leaf) -> Option<Try> {
+    let (key, value) = (Key::new(b"b").ok()?, Value::new(b"2").ok()?);
+    if leaf.pairs.as_slice().len() < 1 {
+        return None;
+    }
+    begin(alloc);
+    let went = match Pair::of(alloc, &key, &value) {
+        Ok(pair) => leaf.pairs.insert(1, pair).is_ok(),
+        Err(_) => false,
+    };
+    changed(leaf, went, end(alloc), b"a: a=1 b=2 c=3", b"a: a=1 c=3")
+}
+
+fn is_inserted(alloc: Global) -> Option<Try> {
+    let mut leaf = leaf(alloc)?;
+    let first = inserts(alloc, &mut leaf)?;
+    if first == Try::Refused {
+        return then(first, inserts(alloc, &mut leaf));
+    }
+    Some(first)
+}
+
+fn makes_buffer(alloc: Global) -> Option<Try> {
+    begin(alloc);
+    let made = Buffer::new(alloc, 5, MIN_FRAME);
+    let refused = end(alloc);
+    match made {
+        Ok(buffer) => tried(
+            true,
+            refused,
+            buffer.frame() == 5 && buffer.room() == 65_516,
+        ),
+        Err(_) => tried(false, refused, true),
+    }
+}
+
+/// A call that changes nothing.
+impl Ask for Call {
+    fn asks<R: AllocGlobal + Wait>(&self, rt: &R) -> Option<Try> {
+        let alloc = rt.alloc();
+        match self {
+            Call::ReadBlock(bytes) => reads_block(alloc, *bytes),
+            Call::ReadFrame => reads_frame(alloc),
+            Call::CopyLow => copies_low(alloc),
+            Call::CopyPairs => copies_pairs(alloc, false),
+            Call::CopyPairsOf => copies_pairs(alloc, true),
+            Call::CopyLeaf => copies_leaf(alloc),
+            _ => makes_buffer(alloc),
+        }
+    }
+}
+
+impl Row for Call {
+    fn goes<R: AllocGlobal + Threads + Wait>(&self, rt: &R) -> Option<Try> {
+        let alloc = rt.alloc();
+        match self {
+            Call::EncodeHeader => is_written(alloc, false),
+            Call::EncodeHead => is_written(alloc, true),
+            Call::EncodeBlock(bytes) => is_encoded(alloc, *bytes),
+            Call::Insert => is_inserted(alloc),
+            _ => asked_again(rt, self),
+        }
+    }
+
+    // The row of heads beside pairs.
+    fn spares(&self) -> bool {
+        match self {
+            Call::EncodeHeader | Call::EncodeHead | Call::EncodeBlock(_) => false,
+            Call::CopyLow | Call::NewBuffer => false,
+            _ => true,
+        }
+    }
+}
+
+const CALLS: &[Call] = &[
+    Call::EncodeHeader,
+    Call::EncodeHead,
+    Call::EncodeBlock(BASE),
+    Call::EncodeBlock(DELTA),
+    Call::EncodeBlock(SPLIT),
+    Call::ReadBlock(BASE),
+    Call::ReadBlock(DELTA),
+    Call::ReadBlock(SPLIT),
+    Call::ReadFrame,
+    Call::CopyLow,
+    Call::CopyPairs,
+    Call::CopyPairsOf,
+    Call::CopyLeaf,
+    Call::Insert,
+    Call::NewBuffer,
+];
+
+#[test]
+fn bytes_leaves_and_buffers(rt: HostRuntime) {
+    assert_eq!(rt; wrong_row(&rt, CALLS), None);
+}

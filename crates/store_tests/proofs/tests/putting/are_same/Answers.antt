@@ -1,7 +1,0 @@
-use Rattle.bw_ring.specs.Ends.{ring_of_feed}
-use Rattle.bw_history.proofs.Laned.{set_kept}
-use Rattle.store_tests.proofs.tests.putting.are_same.Goals as goal
-
-pub returns : goal.returns
-returns c = set_kept ring_of_feed c.args.feeds.now.items c.args.writer c.put_same.new.feed c.index_mut.result.now c.requires
-    c.index_mut.ensures.value c.put_same.ensures

@@ -1,7 +1,0 @@
--- The feed stays an end of its ring.
-use Rattle.std.proofs.Common.{◌≡◌}
-use Rattle.bw_ring.specs.Ends.{ring_of_feed}
-use Rattle.store_tests.proofs.tests.putting.put_each.Given as goal
-
-abbrev pub invariant-records : goal.invariant-records
-invariant-records l = ring_of_feed l.feed ≡ ring_of_feed l.fn.feed

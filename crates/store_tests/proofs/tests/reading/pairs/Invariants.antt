@@ -1,8 +1,0 @@
-use Rattle.std.specs.Prelude.{◌≡◌}
-use Rattle.store_tests.specs.Views.{rings_by, IsSound}
-use Rattle.store_tests.proofs.tests.reading.pairs.Given as goal
-
-abbrev pub invariant-pages : goal.invariant-pages
-invariant-pages g l =
-    IsSound l.store (λ z. (goal.Segment-dyn g z).holding z.1)
-    × (rings_by l.store (λ z. (goal.Segment-dyn g z).holding z.1) ≡ rings_by l.fn.store (λ z. (goal.Segment-dyn g z).holding z.1))

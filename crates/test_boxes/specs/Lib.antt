@@ -1,0 +1,2 @@
+-- What the tests say of a log.
+pub mod Views

@@ -1,0 +1,375 @@
+//! One call, with what it has to answer.
+
+ghost use Rattle.std.specs.Prelude.{◌≡◌, ◌<◌, length, map};
+ghost use Rattle.bw_ring.specs.Ends.{ring_of_feed};
+ghost use Rattle.test_subjects.specs.Views.{rings_beside, rings_by, AreItsFeeds, IsSound, IsSoundBeside};
+
+use crate::asking::{
+    are_bytes, has, is_history, is_last, is_last_below, is_page, is_stretch, is_unread,
+};
+use crate::opening::Held;
+use crate::putting::{Op, are_each_put, are_put, are_same, is_grouped, is_put, record};
+use crate::reading::reads;
+use crate::subject::Subject;
+use bw_device::Segment;
+use bw_ring::Feed;
+use bw_store::{Cleaned, Counters, StoreFault, TurnFault, Upgraded};
+use std::alloc::Global;
+use std::sync::Wait;
+
+#[derive(Drop)]
+pub enum Step {
+    /// A record of the first writer, taken and appended: its key, its value, and the frame.
+    Frame(&'static [u8], &'static [u8], u64),
+    /// These records of the first writer, each taken and appended: the first of the frames.
+    Frames(u64, &'static [Op]),
+    /// The same, with each frame in a segment of its own.
+    Segments(u64, &'static [Op]),
+    /// A record of the first writer, taken: its key and its value.
+    Taken(&'static [u8], &'static [u8]),
+    /// A put of a writer.
+    Put(usize, &'static [u8], &'static [u8]),
+    Del(usize, &'static [u8]),
+    /// A put that finds no place.
+    Full(usize, &'static [u8], &'static [u8]),
+    /// These records of a writer, each put by itself.
+    Each(usize, &'static [Op]),
+    /// So many puts of a writer, each of its number.
+    Puts(usize, u32),
+    /// So many puts of a key by a writer, each with a value of so many bytes.
+    Same(usize, &'static [u8], u32, usize),
+    /// A group of a writer.
+    Group(usize, &'static [Op]),
+    /// A group that finds no place.
+    FullGroup(usize, &'static [Op]),
+    /// A turn of so many groups takes so many records.
+    Turn(u32, u64),
+    /// It takes so many, and is then refused.
+    Stops(u32, u64, StoreFault),
+    /// A flush appends this frame, or nothing.
+    Flush(Option<u64>),
+    Refused(StoreFault),
+    /// All is taken and flushed: the length of the history.
+    Settle(u64),
+    Unsettled(StoreFault),
+    /// The segment given up, its lease, how many pages, in how many frames.
+    Clean(u64, u32, usize, u64),
+    Uncleaned(StoreFault),
+    /// How many segments were given up, of how many pages, in how many frames.
+    Upgrade(u32, usize, u64),
+    NotUpgraded(StoreFault),
+    /// These pages are written again, in so many frames.
+    Rewrite(&'static [u32], Result<u64, StoreFault>),
+    /// A page; no text where there is none.
+    Page(u32, &'static str),
+    /// So many pages, from page 1 on.
+    Pages(&'static [&'static str]),
+    /// A page is not read.
+    Unread(u32, StoreFault),
+    /// A page leaves memory, or stays, or there is none.
+    Evict(u32, Result<bool, StoreFault>),
+    /// The value of a key; no text where it has none.
+    Get(&'static [u8], &'static [u8]),
+    /// The last pair at or below a key: its key and its value; no key where there is none.
+    Last(&'static [u8], &'static [u8], &'static [u8]),
+    /// The same below it.
+    Below(&'static [u8], &'static [u8], &'static [u8]),
+    /// The pairs at or above a key, no more than so many: each after a space.
+    Stretch(&'static [u8], usize, &'static str),
+    /// All pages together have the first so many puts of two writers, and so has each key.
+    Reads(u32),
+    /// The number, lease and length of a live segment, from 0.
+    Live(u32, u64, u32, u64),
+    /// The same of so many live segments, from the first on.
+    Lives(&'static [(u64, u32, u64)]),
+    /// The bytes of a live segment, as hex.
+    Bytes(u64, &'static str),
+    History(&'static str),
+    Cuts(&'static [u64], u64),
+    /// How many entries are forgotten by this call, and how many are then.
+    Forget(u64, u64),
+    /// How many records of a writer are durable.
+    Receipt(u16, u64),
+    /// How many pairs there are.
+    Count(u64),
+    /// What was counted, and how many publications there were: a core has none.
+    Counts(Counters, u64),
+    /// How many bytes of a live segment are still needed, from 0.
+    Needed(u32, Option<u64>),
+    /// From how many frames a page would be read.
+    Walk(u32, Option<u64>),
+    /// Whether it pays to clean.
+    Pays(bool),
+    /// How many segments are live, and how many spares stand.
+    Stands(u32, u32),
+    Roll,
+    /// A segment more.
+    Add,
+}
+
+use Step::{
+    Add, Below, Bytes, Clean, Count, Counts, Cuts, Del, Each, Evict, Flush, Forget, Frame, Frames,
+    Full, FullGroup, Get, Group, History, Last, Live, Lives, Needed, NotUpgraded, Page, Pages,
+    Pays, Put, Puts, Reads, Receipt, Refused, Rewrite, Roll, Same, Segments, Settle, Stands, Stops,
+    Stretch, Taken, Turn, Uncleaned, Unread, Unsettled, Upgrade, Walk,
+};
+
+fn are_cuts(cuts: &[u64], told: &[u64]) -> bool {
+    cuts == told
+}
+
+/// Whether the store has a segment more.
+pub fn is_added(store: &mut Subject, more: &mut Vec<Box<dyn Segment>>) -> bool
+    requires { IsSoundBeside store.old holding }
+    ensures sound { IsSoundBeside store.new holding }
+    ensures rings { rings_beside store.new holding ≡ rings_beside store.old holding }
+{
+    match more.pop() {
+        Some(one) => store.is_added(one),
+        None => false,
+    }
+}
+
+fn takes(store: &mut Subject, limit: u32, told: Result<u64, TurnFault>) -> bool
+    requires { IsSound store.old holding }
+    ensures sound { IsSound store.new holding }
+    ensures rings { rings_by store.new holding ≡ rings_by store.old holding }
+{
+    match store.turn(limit) {
+        Ok(taken) => told == Ok(taken),
+        Err(fault) => told == Err(fault),
+    }
+}
+
+// Whether a record finds a place, or none, as told.
+fn puts_one(
+    feeds: &mut Vec<Feed>,
+    writer: usize,
+    key: &[u8],
+    value: Option<&[u8]>,
+    told: bool,
+) -> bool
+    requires { writer < length feeds.old.items }
+    ensures { map ring_of_feed feeds.new.items ≡ map ring_of_feed feeds.old.items }
+{
+    match record(key, value) {
+        Ok(item) => is_put(feeds, writer, item) == told,
+        Err(_) => false,
+    }
+}
+
+// A step of a writer.
+fn puts(feeds: &mut Vec<Feed>, step: &Step) -> bool
+    ensures { map ring_of_feed feeds.new.items ≡ map ring_of_feed feeds.old.items }
+{
+    let count = feeds.as_slice().len();
+    match step {
+        Put(writer, key, value) if *writer < count => {
+            puts_one(feeds, *writer, *key, Some(*value), true)
+        }
+        Full(writer, key, value) if *writer < count => {
+            puts_one(feeds, *writer, *key, Some(*value), false)
+        }
+        Del(writer, key) if *writer < count => puts_one(feeds, *writer, *key, None, true),
+        Each(writer, ops) if *writer < count => are_each_put(feeds, *writer, *ops),
+        Puts(writer, many) if *writer < count => are_put(feeds, *writer, *many),
+        Same(writer, key, many, size) if *writer < count => {
+            are_same(feeds, *writer, *key, *many, *size)
+        }
+        Group(writer, ops) if *writer < count => is_grouped(feeds, *writer, *ops, true),
+        FullGroup(writer, ops) if *writer < count => is_grouped(feeds, *writer, *ops, false),
+        _ => false,
+    }
+}
+
+// Whether a store had so many publications; of a core there is nothing to count.
+fn are_shown(store: &Subject, told: u64) -> bool {
+    match store.publications() {
+        Some(shown) => shown == told,
+        None => true,
+    }
+}
+
+// Whether the live segments, from the first on, have these numbers, leases and lengths.
+fn lives(store: &Subject, told: &[(u64, u32, u64)]) -> bool
+    requires { IsSound store.now holding }
+{
+    let mut at: u32 = 0;
+    for live in told {
+        if store.live_segment(at) != Some(*live) {
+            return false;
+        }
+        at = at.saturating_add(1);
+    }
+    true
+}
+
+// Whether the pages from page 1 on are so.
+fn are_pages(store: &mut Subject, texts: &[&'static str]) -> bool
+    requires { IsSound store.old holding }
+    ensures sound { IsSound store.new holding }
+    ensures rings { rings_by store.new holding ≡ rings_by store.old holding }
+{
+    let mut page: u32 = 0;
+    'pages: for text in texts {
+        page = page.saturating_add(1);
+        if !is_page(store, page, *text) {
+            return false;
+        }
+    }
+    true
+}
+
+// A step that only asks.
+fn answers(alloc: Global, store: &mut Subject, step: &Step) -> bool
+    requires { IsSound store.old holding }
+    ensures sound { IsSound store.new holding }
+    ensures rings { rings_by store.new holding ≡ rings_by store.old holding }
+{
+    match step {
+        Page(page, text) => is_page(store, *page, *text),
+        Pages(texts) => are_pages(store, *texts),
+        Unread(page, fault) => is_unread(store, *page, *fault),
+        Evict(page, told) => store.evict(*page) == *told,
+        Get(key, value) => has(store, *key, *value),
+        Last(key, at, value) => is_last(store, *key, *at, *value),
+        Below(key, at, value) => is_last_below(store, *key, *at, *value),
+        Stretch(key, most, text) => is_stretch(alloc, store, *key, *most, *text),
+        Reads(many) => reads(store, *many),
+        Live(at, number, lease, length) => {
+            store.live_segment(*at) == Some((*number, *lease, *length))
+        }
+        Lives(told) => lives(store, *told),
+        Bytes(segment, hex) => are_bytes(alloc, store, *segment, *hex),
+        History(told) => is_history(store.history(), *told),
+        Cuts(told, durable) => are_cuts(store.cuts(), *told) & (store.durable() == *durable),
+        Stands(live, spares) => (store.live() == *live) & (store.spares() == *spares),
+        Forget(count, all) => (store.forget() == *count) & (store.forgotten() == *all),
+        Receipt(writer, told) => store.durable_of(*writer) == *told,
+        Count(told) => store.count() == Ok(*told),
+        Counts(told, shown) => (store.counters() == *told) & are_shown(store, *shown),
+        Needed(at, told) => store.needed(*at) == *told,
+        Walk(page, told) => store.walk_of(*page) == *told,
+        Pays(told) => store.pays() == *told,
+        _ => false,
+    }
+}
+
+// A step that changes the store alone.
+fn changes<R: Wait>(rt: &R, store: &mut Subject, step: &Step) -> bool
+    requires { IsSound store.old holding }
+    ensures sound { IsSound store.new holding }
+    ensures rings { rings_by store.new holding ≡ rings_by store.old holding }
+{
+    match *step {
+        Turn(limit, taken) => takes(store, limit, Ok(taken)),
+        Stops(limit, taken, cause) => takes(store, limit, Err(TurnFault { taken, cause })),
+        Flush(frame) => store.flush(rt) == Ok(frame),
+        Refused(fault) => store.flush(rt) == Err(fault),
+        Clean(segment, lease, pages, frames) => {
+            store.clean(rt)
+                == Ok(Cleaned {
+                    segment,
+                    lease,
+                    pages,
+                    frames,
+                })
+        }
+        Uncleaned(fault) => store.clean(rt) == Err(fault),
+        Upgrade(segments, pages, frames) => {
+            store.upgrade(rt)
+                == Ok(Upgraded {
+                    segments,
+                    pages,
+                    frames,
+                })
+        }
+        NotUpgraded(fault) => store.upgrade(rt) == Err(fault),
+        Rewrite(pages, told) => store.rewrite(rt, pages) == told,
+        _ => {
+            store.roll();
+            true
+        }
+    }
+}
+
+// Whether a record is put by the first writer, and taken.
+fn is_taken(opened: &mut Held, key: &[u8], value: &[u8]) -> bool
+    requires sound { IsSoundBeside opened.old.store holding }
+    requires feeds { AreItsFeeds opened.old.feeds.items opened.old.store holding }
+    ensures sound { IsSoundBeside opened.new.store holding }
+    ensures feeds { AreItsFeeds opened.new.feeds.items opened.new.store holding }
+{
+    if opened.feeds.is_empty() {
+        return false;
+    }
+    let is_put = puts_one(&mut opened.feeds, 0, key, Some(value), true);
+    is_put & takes(&mut opened.store, 9, Ok(1))
+}
+
+// Whether it is then appended as the frame that is told.
+fn is_appended<R: Wait>(rt: &R, opened: &mut Held, key: &[u8], value: &[u8], told: u64) -> bool
+    requires sound { IsSoundBeside opened.old.store holding }
+    requires feeds { AreItsFeeds opened.old.feeds.items opened.old.store holding }
+    ensures sound { IsSoundBeside opened.new.store holding }
+    ensures feeds { AreItsFeeds opened.new.feeds.items opened.new.store holding }
+{
+    let is_taken = is_taken(opened, key, value);
+    is_taken & (opened.store.flush(rt) == Ok(Some(told)))
+}
+
+// Lets no further frame into the current segment, if told.
+fn roll_if(store: &mut Subject, is_told: bool)
+    requires { IsSound store.old holding }
+    ensures sound { IsSound store.new holding }
+    ensures rings { rings_by store.new holding ≡ rings_by store.old holding }
+{
+    if is_told {
+        store.roll();
+    }
+}
+
+// Whether each of these records is, from the frame that is told on; with each in a segment of its
+// own, or not.
+fn are_appended<R: Wait>(rt: &R, opened: &mut Held, ops: &[Op], told: u64, apart: bool) -> bool
+    requires sound { IsSoundBeside opened.old.store holding }
+    requires feeds { AreItsFeeds opened.old.feeds.items opened.old.store holding }
+    ensures sound { IsSoundBeside opened.new.store holding }
+    ensures feeds { AreItsFeeds opened.new.feeds.items opened.new.store holding }
+{
+    'records: for (i, op) in ops.iter().enumerate() {
+        let Op::Set(key, value) = op else {
+            return false;
+        };
+        roll_if(&mut opened.store, apart & (i > 0));
+        if !is_appended(rt, opened, *key, *value, told.saturating_add(i as u64)) {
+            return false;
+        }
+    }
+    true
+}
+
+/// Whether the step goes as told.
+pub fn goes<R: Wait>(rt: &R, alloc: Global, opened: &mut Held, step: &Step) -> bool
+    requires sound { IsSoundBeside opened.old.store holding }
+    requires feeds { AreItsFeeds opened.old.feeds.items opened.old.store holding }
+    ensures sound { IsSoundBeside opened.new.store holding }
+    ensures feeds { AreItsFeeds opened.new.feeds.items opened.new.store holding }
+{
+    match step {
+        Put(..) | Del(..) | Full(..) | Puts(..) => puts(&mut opened.feeds, step),
+        Each(..) | Same(..) | Group(..) | FullGroup(..) => puts(&mut opened.feeds, step),
+        Turn(..) | Stops(..) | Flush(..) | Refused(..) | Clean(..) | Uncleaned(..) | Roll => {
+            changes(rt, &mut opened.store, step)
+        }
+        Upgrade(..) | NotUpgraded(..) | Rewrite(..) => changes(rt, &mut opened.store, step),
+        Taken(key, value) => is_taken(opened, *key, *value),
+        Frame(key, value, told) => is_appended(rt, opened, *key, *value, *told),
+        Frames(told, ops) => are_appended(rt, opened, *ops, *told, false),
+        Segments(told, ops) => are_appended(rt, opened, *ops, *told, true),
+        Settle(count) => opened.store.settle(rt, &mut opened.feeds) == Ok(*count),
+        Unsettled(fault) => opened.store.settle(rt, &mut opened.feeds) == Err(*fault),
+        Add => is_added(&mut opened.store, &mut opened.more),
+        _ => answers(alloc, &mut opened.store, step),
+    }
+}
