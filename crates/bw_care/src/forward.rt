@@ -16,8 +16,7 @@ ghost use Rattle.bw_care.specs.Forward.{IsFramed, AreReady, ForwardStops};
 ghost use Rattle.bw_care.specs.Planned.{as_cause};
 ghost use Rattle.bw_lines.specs.Reading.{IsRead, LinkFaultIs};
 
-use crate::scan::read_box;
-use crate::scan::front;
+use crate::scan::{front, read_box};
 use bw_codec::{CodecFault, Frame, FrameRead, Header, HeaderRead, read_header};
 use bw_device::Segment;
 use bw_lines::{DraftLine, ReadFault, RecoverCause, read_blocks_linked};

@@ -17,19 +17,19 @@
 //! hangs on the bytes that there are, and on no number that it read.
 #![tactic(auto)]
 
-mod copies;
+mod boxes;
 mod cleaner;
+mod copies;
 mod fault;
 mod forward;
 pub mod laws;
 mod lengths;
 mod moves;
 mod order;
-mod boxes;
-mod steps;
 mod recovery;
 mod rewriter;
 mod scan;
+mod steps;
 mod tally;
 mod upgrader;
 
@@ -37,8 +37,7 @@ pub use bw_lines::RecoverCause;
 pub use cleaner::{Cleaned, clean};
 pub use fault::CleanFault;
 pub use lengths::{bytes_upto, is_won, length_of, live_bytes};
-pub use recovery::Recovered;
-pub use recovery::{RecoverFault, recover};
+pub use recovery::{RecoverFault, Recovered, recover};
 pub use rewriter::rewrite;
 pub use tally::{Counters, Looks, Tally};
 pub use upgrader::{Upgraded, old_segments, upgrade};

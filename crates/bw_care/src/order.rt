@@ -13,8 +13,8 @@ ghost use Rattle.bw_care.specs.Parting.{place_among};
 ghost use Rattle.bw_care.specs.Surveying.{HasShortTail};
 ghost use Rattle.bw_care.specs.Ordering.{headers_of, is_clean, is_narrow, any_narrow, follow_from, may_follow, number_found, sorted, moved_to, lines_found, line_number, has_none, IsOrder, CauseIs, order_fault, oldest_number, is_clean_from};
 
-use crate::scan::{Behind, Scan};
 use crate::boxes::tail_of;
+use crate::scan::{Behind, Scan};
 use bw_codec::Header;
 use bw_codec::limits::{HEADER_LEN, LATEST, MIN_FRAME};
 use bw_lines::RecoverCause;

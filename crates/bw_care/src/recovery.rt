@@ -18,7 +18,7 @@ use bw_lines::RecoverCause;
 use bw_log::Log;
 use bw_page::Leaves;
 use std::alloc::Global;
-use std::fmt::{Debug, Formatter, self};
+use std::fmt::{self, Debug, Formatter};
 use thiserror::Error;
 
 /// Why boxes could not be recovered, and all of them in the order in which they were handed in.

@@ -10,11 +10,10 @@ ghost use Rattle.std.specs.Vec.{vec_capacity};
 ghost use Rattle.bw_care.specs.Planned.{HasRoom, AreRooms, RoomsStop, IsSurvey, AreFindings, first_line, last_line};
 ghost use Rattle.bw_care.specs.Found.{Refuses};
 
+use crate::boxes::{Kind, Numbered, kinds_of, parts_of};
 use crate::forward::read_forward;
 use crate::order::{Order, order_of};
-use crate::boxes::{Kind, Numbered};
 use crate::scan::scan_all;
-use crate::boxes::{kinds_of, parts_of};
 use bw_device::{MAX_CAPACITY, Segment, capacity_of, len_of};
 use bw_lines::{Pages, RecoverCause, pages_of};
 use bw_log::{FrameAt, Tables};

@@ -9,6 +9,7 @@
 //! leaves.
 #![tactic(auto)]
 
+mod cleaning;
 mod config;
 mod flush;
 mod forget;
@@ -16,7 +17,6 @@ mod open;
 mod publish;
 mod questions;
 mod reads;
-mod cleaning;
 mod reopen;
 mod segments;
 mod settle;

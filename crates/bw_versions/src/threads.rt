@@ -1,7 +1,7 @@
 //! That what crosses threads may: the check refuses these functions where it may not.
 
-use crate::reader::{News, Reader};
 use crate::board::Version;
+use crate::reader::{News, Reader};
 use crate::view::VersionReader;
 use std::marker::{Send, Sync};
 

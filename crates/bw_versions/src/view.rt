@@ -12,8 +12,8 @@ ghost use Rattle.left_right.specs.Sides.{view};
 ghost use Rattle.bw_versions.specs.Posted.{posted_of};
 ghost use Rattle.bw_versions.specs.Heard.{Beyond};
 
-use crate::book::Front;
 use crate::board::{Posts, Version};
+use crate::book::Front;
 use bw_codec::{Key, Leaf, Pair, Value};
 use crossbeam_utils::rule::{Outcome, Protocol};
 use std::alloc::AllocError;
