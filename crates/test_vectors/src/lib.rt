@@ -12,7 +12,9 @@ mod texts;
 pub use changes::{all_packed, del, packed, packed_put, put, records};
 pub use parts::{blocks_in, leaf_of};
 pub use reads::gone_back;
-pub use texts::{behind, behind_leaf, is, is_at_end, is_shown, is_text, shows, spells};
+pub use texts::{
+    are_shown, behind, behind_leaf, behind_pairs, is, is_at_end, is_shown, is_text, shows, spells,
+};
 
 /// One frame: the empty page 1, and a record that puts k=v.
 pub const FIRST: &str =

@@ -1,6 +1,6 @@
 //! Bytes told as hex, and pages as text.
 
-use bw_codec::Leaf;
+use bw_codec::{Leaf, Pair};
 use std::alloc::Global;
 use std::fmt::Display;
 
@@ -36,14 +36,20 @@ pub fn behind<'a>(text: Option<&'a [u8]>, part: &[u8]) -> Option<&'a [u8]> {
     text?.strip_prefix(part)
 }
 
-/// The same behind a page: its low key, a colon, and each pair after a space.
-pub fn behind_leaf<'a>(text: Option<&'a [u8]>, leaf: &Leaf) -> Option<&'a [u8]> {
-    let mut rest = behind(behind(text, leaf.low.as_slice()), b":");
-    for pair in leaf.pairs.as_slice() {
+/// The same behind pairs, each after a space.
+pub fn behind_pairs<'a>(text: Option<&'a [u8]>, pairs: &[Pair]) -> Option<&'a [u8]> {
+    let mut rest = text;
+    for pair in pairs {
         rest = behind(behind(rest, b" "), pair.key());
         rest = behind(behind(rest, b"="), pair.value());
     }
     rest
+}
+
+/// The same behind a page: its low key, a colon, and its pairs.
+pub fn behind_leaf<'a>(text: Option<&'a [u8]>, leaf: &Leaf) -> Option<&'a [u8]> {
+    let rest = behind(behind(text, leaf.low.as_slice()), b":");
+    behind_pairs(rest, leaf.pairs.as_slice())
 }
 
 /// Whether nothing is left of a text, which began as it was to.
@@ -57,6 +63,11 @@ pub fn is_at_end(text: Option<&[u8]>) -> bool {
 /// Whether a text is this page, without its number.
 pub fn shows(leaf: &Leaf, text: &[u8]) -> bool {
     is_at_end(behind_leaf(Some(text), leaf))
+}
+
+/// Whether pairs are shown so, each after a space.
+pub fn are_shown(pairs: &[Pair], text: &str) -> bool {
+    is_at_end(behind_pairs(Some(text.as_bytes()), pairs))
 }
 
 /// Whether a page is shown so; no text where there is none, or it is not in memory.

@@ -19,7 +19,7 @@ use bw_versions::{Reader, Versions};
 use std::alloc::{AllocError, Global};
 use std::sync::Wait;
 use std::thread::Threads;
-use test_vectors::{is_shown, put};
+use test_vectors::{are_shown, is_shown, put};
 
 /// Page 1 without any pair.
 fn start(alloc: Global) -> Result<Leaves, AllocError>
@@ -153,6 +153,19 @@ fn value_is(reader: &mut Reader, key: &str, text: &str) -> bool
     };
     match reader.get(&key) {
         Ok(value) => is_value(value, text),
+        Err(_) => false,
+    }
+}
+
+/// Whether a reader finds these pairs from a key on, where no more than so many are wanted.
+fn stretch_is(reader: &mut Reader, key: &str, most: usize, text: &str) -> bool
+    ensures { reader.new.book ≡ reader.old.book }
+{
+    let Ok(key) = Key::new(key.as_bytes()) else {
+        return false;
+    };
+    match reader.scan(&key, most) {
+        Ok(pairs) => are_shown(&pairs, text),
         Err(_) => false,
     }
 }

@@ -13,7 +13,7 @@ use std::sync::Wait;
 use std::thread::Threads;
 use test_marks::{begin, begin_without, end};
 use test_refusals::{Ask, Row, Try, asked_again, then, tried, wrong_row};
-use test_vectors::{put, shows};
+use test_vectors::{are_shown, put, shows};
 
 /// One call that may be refused.
 #[derive(Drop)]
@@ -35,6 +35,8 @@ enum Call {
     ReaderOfVersions,
     /// A reader copies a page.
     Page,
+    /// The pairs that a reader finds.
+    Stretch,
 }
 
 /// Page 1 without any pair.
@@ -312,13 +314,36 @@ fn reads(alloc: Global, reader: &mut Reader) -> Option<Try>
     }
 }
 
-/// A page, once more where it was refused.
-fn is_read(alloc: Global, reader: &mut Reader) -> Option<Try>
+/// Whether a reader finds the pairs.
+fn finds(alloc: Global, reader: &mut Reader) -> Option<Try>
     ensures { reader.new.book ≡ reader.old.book }
 {
-    let first = reads(alloc, reader)?;
+    let key = Key::new(b"a").ok()?;
+    begin(alloc);
+    let pairs = reader.scan(&key, 9);
+    let refused = end(alloc);
+    match pairs {
+        Ok(pairs) => tried(true, refused, are_shown(&pairs, " a= b= c=")),
+        Err(fault) => tried(false, refused, fault == ReadFault::NoMemory),
+    }
+}
+
+fn answers(alloc: Global, reader: &mut Reader, call: &Call) -> Option<Try>
+    ensures { reader.new.book ≡ reader.old.book }
+{
+    match call {
+        Call::Stretch => finds(alloc, reader),
+        _ => reads(alloc, reader),
+    }
+}
+
+/// A page or the pairs, once more where they were refused.
+fn is_read(alloc: Global, reader: &mut Reader, call: &Call) -> Option<Try>
+    ensures { reader.new.book ≡ reader.old.book }
+{
+    let first = answers(alloc, reader, call)?;
     if first == Try::Refused {
-        return then(first, reads(alloc, reader));
+        return then(first, answers(alloc, reader, call));
     }
     Some(first)
 }
@@ -334,7 +359,7 @@ fn learns(alloc: Global, stand: &mut Stand, reader: &mut Reader) -> bool
 }
 
 /// The history is published in a window, and the page then read, in another where that is asked.
-fn is_up_to<R: Wait>(rt: &R, alloc: Global, stand: &mut Stand) -> Option<Try>
+fn is_up_to<R: Wait>(rt: &R, alloc: Global, stand: &mut Stand, call: &Call) -> Option<Try>
     requires { stand.old.versions.entered ≡ [] }
 {
     let mut reader = stand.versions.reader().ok()?;
@@ -343,9 +368,9 @@ fn is_up_to<R: Wait>(rt: &R, alloc: Global, stand: &mut Stand) -> Option<Try>
         let second = publishes_up_to(rt, alloc, stand, &mut reader);
         return then(first, second);
     }
-    let page = is_read(alloc, &mut reader);
+    let read = is_read(alloc, &mut reader, call);
     if first == Try::Went {
-        page
+        read
     } else {
         Some(first)
     }
@@ -367,7 +392,7 @@ fn with_versions<R: AllocGlobal + Wait>(rt: &R, call: &Call) -> Option<Try> {
     let mut stand = stand_of(rt)?;
     let went = match call {
         Call::ReaderOfVersions => is_reader_made(rt.alloc(), &mut stand.versions),
-        _ => is_up_to(rt, rt.alloc(), &mut stand),
+        _ => is_up_to(rt, rt.alloc(), &mut stand, call),
     };
     let Stand {
         versions,
@@ -395,7 +420,9 @@ impl Row for Call {
         match self {
             Call::OnBoard => is_on_board(rt.alloc()),
             Call::Publish | Call::CatchUp | Call::ReaderOfPublisher => with_publisher(rt, self),
-            Call::PublishUpTo | Call::Page | Call::ReaderOfVersions => with_versions(rt, self),
+            Call::PublishUpTo | Call::Page | Call::Stretch | Call::ReaderOfVersions => {
+                with_versions(rt, self)
+            }
             _ => asked_again(rt, self),
         }
     }
@@ -418,6 +445,7 @@ const CALLS: &[Call] = &[
     Call::PublishUpTo,
     Call::ReaderOfVersions,
     Call::Page,
+    Call::Stretch,
 ];
 
 #[test]

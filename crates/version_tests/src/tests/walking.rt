@@ -4,7 +4,7 @@ ghost use Rattle.std.specs.Prelude.{◌≡◌, []};
 ghost use mathlib.Core.List.{IsPrefix};
 ghost use Rattle.bw_versions.specs.Batches.{entries_of};
 
-use super::{Case, Stand, enter, over, page_is, publish, value_is};
+use super::{Case, Stand, enter, over, page_is, publish, stretch_is, value_is};
 use bw_versions::Reader;
 use std::sync::Wait;
 use test_vectors::{del, put};
@@ -23,9 +23,11 @@ pub(super) enum Step {
     Get(&'static str, &'static str),
     /// A page; no text where there is none.
     Page(u32, &'static str),
+    /// The pairs from a key on, and no more than so many.
+    Scan(&'static str, usize, &'static str),
 }
 
-use Step::{Del, Get, Learn, Page, Publish, Put};
+use Step::{Del, Get, Learn, Page, Publish, Put, Scan};
 
 // The second try is for a run in which a growth of the first is refused.
 fn published<R: Wait>(rt: &R, stand: &mut Stand) -> bool
@@ -53,6 +55,7 @@ fn goes<R: Wait>(rt: &R, stand: &mut Stand, reader: &mut Reader, step: &Step) ->
         }
         Get(key, text) => value_is(reader, *key, *text),
         Page(page, text) => page_is(reader, *page, *text),
+        Scan(key, most, text) => stretch_is(reader, *key, *most, *text),
     }
 }
 
@@ -74,8 +77,10 @@ pub(super) fn walked<R: Wait>(rt: &R, stand: &mut Stand, steps: &[Step]) -> Opti
 const FIRST: &[Step] = &[
     Get("a", ""),
     Page(1, ""),
+    Scan("a", 9, ""),
     Publish,
     Get("a", ""),
+    Scan("a", 9, ""),
     Page(1, ":"),
     Page(2, ""),
     Put("a", "1"),
@@ -97,6 +102,12 @@ const SPLIT: &[Step] = &[
     Publish,
     Page(1, ": a=1 b=2"),
     Page(2, "c: c=3 d=4 e=5"),
+    Scan("a", 9, " a=1 b=2 c=3 d=4 e=5"),
+    Scan("b", 3, " b=2 c=3 d=4"),
+    Scan("bz", 1, " c=3"),
+    Scan("d", 2, " d=4 e=5"),
+    Scan("e", 0, ""),
+    Scan("f", 9, ""),
     Page(3, ""),
     Put("bz", "6"),
     Put("c", "7"),
