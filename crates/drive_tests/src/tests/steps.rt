@@ -103,52 +103,22 @@ fn sum_of(counts: &[u64]) -> u64 {
     sum
 }
 
-// A run by a plan that forgets: the feeds, and whether it ended as told.
-fn forgets<R: AllocGlobal + Threads + Wait, G: Gate>(
-    rt: &R,
-    store: &mut Store,
-    feeds: Vec<Feed>,
-    gate: &G,
-    run: &Run,
-    sizes: Sizes,
-) -> (Vec<Feed>, bool)
-    requires sound { IsSound store.old holding }
-    requires feeds { map ring_of_feed feeds.items ≡ (kept_by store.old holding).rings }
-    ensures sound { IsSound store.new holding }
-    ensures feeds { map ring_of_feed result.0.items ≡ (kept_by store.new holding).rings }
-{
-    let Run(part, Pace(limit, flush_every, clean_at, max_turns), told) = *run;
-    let many = feeds.len();
-    let Ok(scripts) = scripts(rt.alloc(), many, part, sizes) else {
-        return (feeds, false);
-    };
-    let plan = Plan {
-        limit: limit.max(1),
-        flush_every: flush_every.max(1),
-        clean_at,
-        forgets: true,
-    };
-    match drive(rt, store, feeds, scripts, gate, plan, max_turns) {
-        Ok(driven) => {
-            let all = sum_of(driven.accepted.as_slice());
-            let went = driven.entries == all && told == Ok((all, all));
-            (driven.feeds, went)
-        }
-        Err(DriveFault { feeds, cause }) => {
-            let went = feeds.len() == many && told == Err(cause);
-            (feeds, went)
-        }
-    }
+// Whether a run by a plan that forgets was to end so, with as many entries as were accepted.
+fn is_summed(driven: &Driven, run: &Run) -> bool {
+    let Run(_, _, told) = *run;
+    let all = sum_of(driven.accepted.as_slice());
+    driven.entries == all && told == Ok((all, all))
 }
 
-/// A run: the feeds, and whether it went as told.
-pub(super) fn drives<R: AllocGlobal + Threads + Wait, G: Gate>(
+// A run by a plan that forgets, or by one that does not: the feeds, and whether it went as told.
+fn drives<R: AllocGlobal + Threads + Wait, G: Gate>(
     rt: &R,
     store: &mut Store,
     feeds: Vec<Feed>,
     gate: &G,
     run: &Run,
     sizes: Sizes,
+    forgets: bool,
 ) -> (Vec<Feed>, bool)
     requires sound { IsSound store.old holding }
     requires feeds { map ring_of_feed feeds.items ≡ (kept_by store.old holding).rings }
@@ -164,11 +134,15 @@ pub(super) fn drives<R: AllocGlobal + Threads + Wait, G: Gate>(
         limit: limit.max(1),
         flush_every: flush_every.max(1),
         clean_at,
-        forgets: false,
+        forgets,
     };
     match drive(rt, store, feeds, scripts, gate, plan, max_turns) {
         Ok(driven) => {
-            let went = is_told(store, &driven, many, run);
+            let went = if forgets {
+                is_summed(&driven, run)
+            } else {
+                is_told(store, &driven, many, run)
+            };
             (driven.feeds, went)
         }
         Err(DriveFault { feeds, cause }) => {
@@ -234,9 +208,9 @@ pub(super) fn goes<R: AllocGlobal + Threads + Wait, G: Gate>(
     ensures feeds { map ring_of_feed result.0.items ≡ (kept_by store.new holding).rings }
 {
     match step {
-        Drives(run) => drives(rt, store, feeds, gate, run, sizes),
+        Drives(run) => drives(rt, store, feeds, gate, run, sizes, false),
         Forgets(run, kept, gone) => {
-            let (feeds, went) = forgets(rt, store, feeds, gate, run, sizes);
+            let (feeds, went) = drives(rt, store, feeds, gate, run, sizes, true);
             let went = went && is_forgotten(store, *kept, *gone);
             (feeds, went)
         }
