@@ -1,8 +1,8 @@
 #!/usr/bin/env python3
 """The example of README.md stands to the letter in a program of the gate, the lines of INSIDE.md in the sources, the dumps of
 FORMAT.md have the bytes that the tests read, and the stored folder from which the program goes on has the second of them. Each file that a
-page names is there, each `Type::call` is a function, and so is each that stands behind a file. So none can go stale. It prints nothing
-where all hold."""
+page names is there, each `Type::name` is a function or a public field, and what stands behind a file is one of its functions. So none can
+go stale. It prints nothing where all hold."""
 
 import os
 import re
@@ -63,7 +63,7 @@ def stale(page, paths, functions):
 def main():
     wrong = []
     paths = list(files())
-    functions = {name for path in paths if path.endswith(".rt") for name in re.findall(r"\bfn (\w+)", text("." + path))}
+    functions = {name for path in paths if path.endswith(".rt") for name in re.findall(r"\b(?:fn |pub (?=\w+:))(\w+)", text("." + path))}
     for page in PAGES:
         wrong += stale(page, paths, functions)
     for page, paths in EXAMPLES.items():
