@@ -1,4 +1,13 @@
 //! The oldest segment is given up, and no page changes.
+//!
+//! What waits is flushed first. The frame in the making has the next number, and its blocks link to
+//! the last blocks of their pages. The frames of a cleaning would take that number, and their Bases
+//! would come between. And a log that is full has one spare left at the most: this flush and these
+//! frames may take it, and no other may.
+//!
+//! A refusal part-way keeps the frames that were written. They change no page, and the store notes
+//! them as its own: each has a cut where the history ends, so that the count of cuts and that of
+//! frames never part.
 
 ghost use Rattle.std.specs.Prelude.{◌≡◌, ◌≤◌, ◌<◌, ◌+◌, ◌↔◌, [], true, false, length, vec_len, is_ok, IfErr, IsErrOf, OnOk};
 ghost use Rattle.std.specs.Vec.{vec_capacity};

@@ -1,4 +1,11 @@
 //! Pages leave memory, and what it takes to bring them back.
+//!
+//! A page may leave while the frame in the making has records of it: they stand in that frame, and
+//! whoever reads the page adds them. But a page that this frame makes or splits stands nowhere in
+//! the log, or with a range that it no longer has. It stays until the frame is appended.
+//!
+//! A record of an evicted page brings it back first. Its turn is refused as a read is, and nothing
+//! was taken then: the page may be there already, which no clause tells from before.
 
 ghost use Rattle.std.specs.Prelude.{ℕ, ◌≡◌, ◌≤◌, ◌==◌, ◌↔◌, ◌&&◌, not, true, false, None, Some, length, if◌then◌else◌, List, IfOk, IfErr, IsErrOf, MatchOption, MatchResult, OnErr, OnOk};
 ghost use Rattle.std.specs.List.{list_any};

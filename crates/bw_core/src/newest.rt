@@ -1,4 +1,9 @@
 //! The last block of each page, asked of the log.
+//!
+//! A block of a page links back to the one before, so the next one has to know where that is: the
+//! log's last one, or one in the frame in the making. A cleaning writes pages again behind the
+//! store's back, and then all places are asked of the log anew. A link to an older block would lead
+//! recovery past the page that the cleaning wrote.
 
 ghost use Rattle.std.specs.Prelude.{◌≡◌, ◌≤◌, ◌<◌, ◌+◌, ◌-◌, ◌^◌, None, ℕ, length, vec_len, slice_get, IfOk};
 ghost use Rattle.bw_log.specs.Contents.{counted};

@@ -1,4 +1,8 @@
 //! A store is opened over empty segments.
+//!
+//! The first frame has page 1, empty: recovery finds no page that was never set, and a log without
+//! any page is refused. It is not appended here. A store that was opened and stopped holds nothing,
+//! and whoever opens the same segments again begins anew.
 
 ghost use Rattle.std.specs.Prelude.{◌≡◌, ◌≤◌, ◌+◌, ◌↔◌, [], ◌∷◌, length, map, replicate, false, None, IsTrue, IfOk, IfErr, MatchResult};
 ghost use Rattle.bw_ring.specs.Ends.{ring_of_feed, ring_of_lane};

@@ -1,4 +1,9 @@
 //! A store is opened again over what was recovered.
+//!
+//! The history begins empty, over the pages that were found: what was durable before is in them,
+//! and which writer put it is not known any more. All room that the store needs is made before the
+//! recovered log is taken apart: a refusal hands it back whole, and whoever was refused memory may
+//! try again.
 
 ghost use Rattle.std.specs.Prelude.{◌≡◌, ◌≤◌, ◌<◌, ◌+◌, ◌-◌, ◌^◌, [], None, ℕ, map, length, false, slice_get, IfOk, IfErr, IfSome, MatchResult, OnOk};
 ghost use Rattle.bw_log.specs.Contents.{counted};

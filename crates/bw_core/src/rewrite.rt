@@ -1,4 +1,8 @@
 //! Pages that many frames touched are written again, so that reading them is short.
+//!
+//! Whoever evicts a page pays for each frame that touched it since it was last written whole, when
+//! it comes back. A store that flushes often and evicts the pages that it changes would read more
+//! and more. Nothing is given up here: what was written before goes with its segment.
 
 ghost use Rattle.std.specs.Prelude.{◌≡◌, ◌≤◌, ◌+◌, ◌↔◌, [], true, false, length, vec_len, IsErrOf};
 ghost use Rattle.std.specs.List.{AllByRecursion};

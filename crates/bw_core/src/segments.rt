@@ -1,4 +1,8 @@
 //! The boxes of a store: one more, the current one closed, one dumped, all handed back.
+//!
+//! Nothing of these changes a page or the history. A box that is refused comes back, and all of
+//! them do at the end: they hold what is durable, and what waits is lost with the store, as a stop
+//! would lose it.
 
 ghost use Rattle.std.specs.Prelude.{◌≡◌, ◌≢◌, ◌+◌, ◌++◌, ◌∷◌, ◌↔◌, ◌⊎◌, [], ℕ, true, false, map, length, MatchOption, OnOk, OnErr, IfOk, IfErr, IsErrAnd};
 ghost use Rattle.bw_care.specs.Laws.{cut_newest};

@@ -1,4 +1,8 @@
 //! All segments of format 1 are given up, and no page changes.
+//!
+//! It is a cleaning of several segments at once (`clean`), and the same holds of it: what waits is
+//! flushed first, and what a refusal leaves is noted. The frames of format 1 are read by their
+//! version until the last of them is gone.
 
 ghost use Rattle.std.specs.Prelude.{◌≡◌, ◌≤◌, ◌↔◌, is_ok, IsErrOf, IfOk};
 ghost use Rattle.bw_care.specs.Upgrading.{old_segments};

@@ -1,4 +1,8 @@
 //! The blocks of one record.
+//!
+//! A record that leaves its page whole is a Delta of one record. One that makes it too long is a
+//! Delta and a Split, in one frame: read without the Split, the page would have more pairs than a
+//! page may have, and recovery would refuse it.
 
 ghost use Rattle.std.specs.Prelude.{◌≡◌, IfOk};
 ghost use Rattle.bw_buffer.specs.Filling.{frame_of};

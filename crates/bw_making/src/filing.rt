@@ -1,4 +1,7 @@
 //! Blocks go into the frame in the making, and the places of their pages are noted.
+//!
+//! The two belong together: the next block of a page links to the place that was noted last. One
+//! that was put and not noted would be passed over by whoever reads the page back.
 
 ghost use Rattle.std.specs.Prelude.{◌≡◌, ◌≤◌, ◌<◌, ◌+◌, ◌-◌, ◌∷◌, [], false, length, slice_set, vec_len};
 ghost use Rattle.std.specs.List.{AllByRecursion, fold};

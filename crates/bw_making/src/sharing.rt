@@ -1,4 +1,7 @@
 //! What the records of a group do to the pages, and what of them is shared.
+//!
+//! A record's bytes stand in memory once: page, history and readers share one run. So what is
+//! applied to a page here is the run that the history keeps, and no copy of it.
 
 ghost use Rattle.std.specs.Prelude.{◌≡◌, ◌<◌, Err, length, IfOk, OnOk, OnErr};
 ghost use Rattle.bw_record.specs.Record.{key_of};
