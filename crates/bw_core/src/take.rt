@@ -12,8 +12,9 @@
 //! (`plan.rt`). Several records are planned one behind the other (`groups.rt`) before the first of
 //! them changes a page.
 
-ghost use Rattle.std.specs.Prelude.{◌≡◌, ◌≤◌, ◌<◌, ◌+◌, ◌-◌, ◌∷◌, [], Some, None, false, length, map, IfSome, IfNone, IfOk, IfErr, OnOk, OnErr, MatchResult};
+ghost use Rattle.std.specs.Prelude.{◌≡◌, ◌≤◌, ◌<◌, ◌+◌, ◌-◌, ◌∷◌, [], Some, None, false, length, map, IsTrue, IfSome, IfNone, IfOk, IfErr, OnOk, OnErr, MatchResult};
 ghost use Rattle.std.specs.List.{AllByRecursion};
+ghost use Rattle.std.specs.Option.{IsSomeAnd};
 ghost use Rattle.bw_record.specs.Lawful.{IsOp};
 ghost use Rattle.bw_codec.specs.Grammar.{body_bytes, IsBlock};
 ghost use Rattle.bw_record.specs.Record.{key_of};
@@ -61,8 +62,8 @@ impl Core {
         self.take_looked(lane)
     }
 
-    // The same, by a look at its ring: a group has more room than a record, and only who needs it
-    // makes it.
+    // The same, by a look at its ring. A group has the room of four records, which is made and moved
+    // only where there are more than one.
     fn take_looked(&mut self, lane: usize) -> Result<Option<u64>, StoreFault>
         requires sound { IsSound self.old holding }
         requires inside { lane < length self.old.intake.lanes.items }
@@ -75,9 +76,29 @@ impl Core {
             (kept_by self.old holding) result (kept_by self.new holding) }
         ensures noted { noted_of self.new ≡ noted_of self.old }
     {
-        let Some(group) = self.look(lane) else {
+        if !self.look(lane) {
             return Ok(None);
-        };
+        }
+        if let Some(item) = self.intake.alone(lane) {
+            self.take_item(lane, &item)?;
+            return Ok(Some(1));
+        }
+        self.take_several(lane)
+    }
+
+    // The same, where the lane knows of a group, which may have more than one record.
+    fn take_several(&mut self, lane: usize) -> Result<Option<u64>, StoreFault>
+        requires sound { IsSound self.old holding }
+        requires inside { lane < length self.old.intake.lanes.items }
+        requires waits { IsWaiting self.old.intake.lanes.items lane }
+        ensures sound { IsSound self.new holding }
+        ensures count { length self.new.intake.lanes.items ≡ length self.old.intake.lanes.items }
+        ensures some { IfOk result (λ took. IsSomeAnd took (λ n. n ≤ 4)) }
+        ensures leaves { TakeLeaves lane self.new.intake.lanes.items (away_in self.new)
+            (kept_by self.old holding) result (kept_by self.new holding) }
+        ensures noted { noted_of self.new ≡ noted_of self.old }
+    {
+        let group = self.intake.first(lane);
         let records = group.len() as u64;
         self.take_group(lane, group)?;
         Ok(Some(records))
@@ -327,17 +348,17 @@ impl Core {
         }
     }
 
-    // A copy of the group that a lane gives next.
-    fn look(&mut self, lane: usize) -> Option<Group>
+    // Whether a lane has a group to give, where need be by a look at its ring.
+    fn look(&mut self, lane: usize) -> bool
         requires { lane < length self.old.intake.lanes.items }
         ensures same { kept_by self.new holding ≡ kept_by self.old holding }
         ensures count { length self.new.intake.lanes.items ≡ length self.old.intake.lanes.items }
-        ensures next { IfSome result (IsNext self.new.intake.lanes.items lane) }
-        ensures none { IfNone result (Dries lane self.old.intake.lanes.items
-            self.new.intake.lanes.items) }
+        ensures waits { IsTrue result → IsWaiting self.new.intake.lanes.items lane }
+        ensures none { result ≡ false → Dries lane self.old.intake.lanes.items
+            self.new.intake.lanes.items }
         ensures noted { noted_of self.new ≡ noted_of self.old }
     {
-        self.intake.next(lane)
+        self.intake.finds(lane)
     }
 
     // Whether there is a frame for a further record.

@@ -8,15 +8,13 @@ use Rattle.std.specs.List.{slice_get, AllByRecursion as All}
 use Rattle.std.specs.Option.{IsSomeAnd}
 use Rattle.std.proofs.lemmas.Bool.{eq-eqb, ne_eqb, leb-true, leb-false}
 use Rattle.std.proofs.lemmas.List.{length-map, length-replicate, length-take, take_more, take-append-drop}
-use mathlib.Core.List.{IsPrefix}
 use Rattle.bw_record.specs.declared.record.Record.{Record}
 use Rattle.bw_history.specs.declared.entry.Entry.{Entry}
-use Rattle.std.specs.Prelude.{IfSome, IfNone}
 use Rattle.bw_ring.specs.declared.lane.Lane.{Lane}
 use Rattle.bw_ring.specs.declared.feed.Feed.{Feed}
 use Rattle.bw_ring.specs.Marks.{Marked, marked, joined}
 use Rattle.bw_ring.specs.Ends.{accepted, taken, known, given, ring_of_feed, ring_of_lane}
-use Rattle.bw_history.specs.Lanes.{known_at, IsNext, IsDry, Dries, AreDry, TookAt, TookKnown, StayDry}
+use Rattle.bw_history.specs.Lanes.{known_at, IsWaiting, IsDry, Dries, AreDry, TookAt, TookKnown, StayDry}
 use Rattle.bw_history.specs.History.{of_writer, streams, counts_of, entered, is_grouped}
 use Rattle.bw_history.proofs.Grouped.{length_entered, length_marked}
 
@@ -90,10 +88,10 @@ took f [] i x d r lt is e = absurd (omega arith)
 took {X} f (y ∷ ys) zero x d r lt is e = ap (λ (l : List Marked). l ∷ map f ys) (e ∙ ap (λ (z : X). f z ++ r) is)
 took f (y ∷ ys) (suc i) x d r lt is e = ap (λ (l : List (List Marked)). f y ∷ l) (took f ys i x d r (omega arith) is e)
 
-pub next_shown : (xs : List Lane) (i : ℕ) (x : Lane) (o : Option (List Record)) → i < length xs → IfSome o (λ r. IsPrefix (r ∷ []) (known x))
-    → IfSome o (IsNext (set xs i x) i)
-next_shown xs i x None lt h = tt
-next_shown xs i x (Some r) lt h = some_set (λ l. IsPrefix (r ∷ []) (known l)) xs i x lt h
+pub waits_set : (xs : List Lane) (i : ℕ) (x : Lane) → i < length xs → 0 < length (known x) → IsWaiting (set xs i x) i
+waits_set [] i x lt h = absurd (omega arith)
+waits_set (y ∷ ys) zero x lt h = h
+waits_set (y ∷ ys) (suc i) x lt h = waits_set ys i x (omega arith) h
 
 dry_set : (xs : List Lane) (i : ℕ) (x : Lane) → known x ≡ [] → (j : ℕ) → IsDry xs j → IsDry (set xs i x) j
 dry_set [] i x h j d = d
@@ -102,9 +100,8 @@ dry_set (y ∷ ys) zero x h (suc j) d = d
 dry_set (y ∷ ys) (suc i) x h zero d = d
 dry_set (y ∷ ys) (suc i) x h (suc j) d = dry_set ys i x h j d
 
-pub none_shown : (xs : List Lane) (i : ℕ) (x : Lane) (o : Option (List Record)) → i < length xs → IfNone o (known x ≡ []) → IfNone o (Dries i xs (set xs i x))
-none_shown xs i x None lt h = record { here = some_set (λ l. known l ≡ []) xs i x lt h; others = dry_set xs i x h }
-none_shown xs i x (Some r) lt h = tt
+pub dries_set : (xs : List Lane) (i : ℕ) (x : Lane) → i < length xs → known x ≡ [] → Dries i xs (set xs i x)
+dries_set xs i x lt h = record { here = some_set (λ l. known l ≡ []) xs i x lt h; others = dry_set xs i x h }
 
 -- ---- what the lanes know, and what they will have given
 

@@ -124,8 +124,9 @@ impl Intake {
         self.counts[lane] - waiting
     }
 
-    /// A copy of the group that a lane gives next. Nothing is taken.
-    pub fn next(&mut self, lane: usize) -> Option<Group>
+    /// Whether a lane has a group to give. Where it knows of none, its ring is asked once. Nothing is
+    /// taken or copied.
+    pub fn finds(&mut self, lane: usize) -> bool
         requires { lane < length self.old.lanes.items }
         ensures history { self.new.history ≡ self.old.history }
         ensures entries { self.new.history.items ≡ self.old.history.items }
@@ -133,10 +134,10 @@ impl Intake {
             ≡ map ring_of_lane self.old.lanes.items }
         ensures count { length self.new.lanes.items ≡ length self.old.lanes.items }
         ensures taken { map taken self.new.lanes.items ≡ map taken self.old.lanes.items }
-        ensures next { IfSome result (IsNext self.new.lanes.items lane) }
-        ensures none { IfNone result (Dries lane self.old.lanes.items self.new.lanes.items) }
+        ensures waits { IsTrue result → IsWaiting self.new.lanes.items lane }
+        ensures none { result ≡ false → Dries lane self.old.lanes.items self.new.lanes.items }
     {
-        peek_at(&mut self.lanes, lane)
+        finds_at(&mut self.lanes, lane)
     }
 
     /// A look at both ends of all rings: what was accepted is then what was taken and what the
@@ -342,27 +343,27 @@ fn count_more(counts: &mut Vec<u64>, lane: usize, records: u64, most: u64)
     counts[lane] += records;
 }
 
-fn peek_at(lanes: &mut Vec<Lane>, at: usize) -> Option<Group>
+fn finds_at(lanes: &mut Vec<Lane>, at: usize) -> bool
     requires { at < length lanes.old.items }
     ensures rings { map ring_of_lane lanes.new.items ≡ map ring_of_lane lanes.old.items }
     ensures count { length lanes.new.items ≡ length lanes.old.items }
     ensures len { vec_len lanes.new ≡ vec_len lanes.old }
     ensures taken { map taken lanes.new.items ≡ map taken lanes.old.items }
-    ensures next { IfSome result (IsNext lanes.new.items at) }
-    ensures none { IfNone result (Dries at lanes.old.items lanes.new.items) }
+    ensures waits { IsTrue result → IsWaiting lanes.new.items at }
+    ensures none { result ≡ false → Dries at lanes.old.items lanes.new.items }
 {
     let _ = lanes.as_slice().len();
-    peek_one(&mut lanes[at])
+    finds_one(&mut lanes[at])
 }
 
-fn peek_one(lane: &mut Lane) -> Option<Group>
+fn finds_one(lane: &mut Lane) -> bool
     ensures ring { ring_of_lane lane.new ≡ ring_of_lane lane.old }
     ensures taken { taken lane.new ≡ taken lane.old }
-    ensures next { IfSome result (λ r. IsPrefix (r ∷ []) (known lane.new)) }
-    ensures none { IfNone result (known lane.new ≡ []) }
+    ensures some { IsTrue result → 0 < length (known lane.new) }
+    ensures none { result ≡ false → known lane.new ≡ [] }
     ensures kept { 0 < length (known lane.old) → known lane.new ≡ known lane.old }
 {
-    lane.peek()
+    lane.finds()
 }
 
 fn take_at(lanes: &mut Vec<Lane>, at: usize, item: &Group)

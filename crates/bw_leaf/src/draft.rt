@@ -4,12 +4,13 @@
 //! judged. Few pairs stand in a row, as in a leaf, and more in a tree. So a record costs a search,
 //! whatever the order of the keys is, and a Split what it takes off the end.
 
-ghost use Rattle.std.specs.Prelude.{◌≡◌, IfOk};
+ghost use Rattle.std.specs.Prelude.{◌≡◌, IfOk, OnOk};
 ghost use Rattle.std.specs.List.{fold};
 ghost use Rattle.std.specs.Option.{option_map};
 ghost use Rattle.bw_leaf.specs.Changed.{changed, all_changed};
 ghost use Rattle.bw_leaf.specs.Forwards.{after, kept_below};
 
+use crate::changes::empty_page;
 use crate::room::fitted;
 use crate::tree::{change_tree, cut_tree, row_of, tree_of};
 use crate::{changes, replay};
@@ -17,6 +18,7 @@ use bw_codec::{Block, Key, Leaf, Packed, Pairs, Value, ascend};
 use std::alloc::AllocError;
 use std::collections::BTreeMap;
 use std::marker::Model;
+use std::mem;
 
 /// How many pairs stand in a row at most, before one more record. A page at rest has no more than
 /// half of them, so what a store wrote is never read by a tree.
@@ -136,10 +138,45 @@ impl Draft {
         ensures { IfOk result (λ draft. draft ≡ all_changed records.now self) }
     {
         let mut draft = self;
-        for record in records {
-            draft = draft.spread()?.change(record)?;
-        }
+        draft.apply_all(records)?;
         Ok(draft)
+    }
+
+    /// The same, where the page stands: a page is large, and a row of pairs is nowhere moved to. Of a
+    /// page at which memory was refused nothing is said.
+    pub fn apply_all(&mut self, records: &[Packed]) -> Result<(), AllocError>
+        ensures { OnOk result (self.new ≡ all_changed records.now self.old) }
+    {
+        for record in records {
+            self.apply(record)?;
+        }
+        Ok(())
+    }
+
+    // The page after a record.
+    fn apply(&mut self, change: &Packed) -> Result<(), AllocError>
+        ensures { OnOk result (self.new ≡ changed change.now self.old) }
+    {
+        let Draft { leaf, tree } = self;
+        match tree {
+            None => {
+                if leaf.pairs.as_slice().len() < FEW {
+                    return changes::change_packed(leaf, change);
+                }
+                self.apply_spread(change)
+            }
+            Some(_) => self.apply_spread(change),
+        }
+    }
+
+    // The same, where the pairs stand in a tree or may have to.
+    fn apply_spread(&mut self, change: &Packed) -> Result<(), AllocError>
+        ensures { OnOk result (self.new ≡ changed change.now self.old) }
+    {
+        let none = Draft::of(empty_page(self.leaf.pairs.allocator()));
+        let was = mem::replace(self, none);
+        *self = was.spread()?.change(change)?;
+        Ok(())
     }
 
     /// The page without its pairs from a key on. It is never refused.

@@ -61,20 +61,19 @@ impl DraftLine {
     fn change(&mut self, place: Place, records: &[Packed]) -> Result<(), AllocError>
         ensures { OnOk result (self.new ≡ changed_by place records.now (Some self.old)) }
     {
-        let draft = self.draft.take();
-        self.draft = change_some(draft, records)?;
+        change_some(&mut self.draft, records)?;
         self.at = self.at.changed(place);
         Ok(())
     }
 }
 
-// The records of a Delta, where the page was set.
-fn change_some(draft: Option<Draft>, records: &[Packed]) -> Result<Option<Draft>, AllocError>
-    ensures { IfOk result (λ d. d ≡ option_map (all_changed records.now) draft) }
+// The records of a Delta, where the page was set: it stays where it is.
+fn change_some(draft: &mut Option<Draft>, records: &[Packed]) -> Result<(), AllocError>
+    ensures { OnOk result (draft.new ≡ option_map (all_changed records.now) draft.old) }
 {
     match draft {
-        Some(draft) => Ok(Some(draft.change_all(records)?)),
-        None => Ok(None),
+        Some(draft) => draft.apply_all(records),
+        None => Ok(()),
     }
 }
 

@@ -414,7 +414,8 @@ fn draft_each(blocks: Vec<Block>) -> Result<Option<Leaf>, AllocError> {
 
 /// A draft with these records, as a leaf without the last one.
 fn drafted(leaf: Leaf, records: &[Packed], end: &[u8]) -> Result<Option<Leaf>, AllocError> {
-    let draft = Draft::of(leaf).change_all(records)?;
+    let mut draft = Draft::of(leaf);
+    draft.apply_all(records)?;
     Ok(Some(draft.keep_below(end).into_leaf()?))
 }
 

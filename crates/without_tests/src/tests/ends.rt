@@ -52,7 +52,7 @@ fn go_through(feed: &mut Feed, lane: &mut Lane, one: Record, other: Record) -> b
     let is_full = feed.put(third).is_err();
     let waits = lane.rest_beside(feed) == 3;
     let is_taken = lane.peek().is_some() && lane.take().is_some();
-    if !lane.is_known() {
+    if !lane.finds() {
         return false;
     }
     let is_known = lane.peek_known().len() == 1;
