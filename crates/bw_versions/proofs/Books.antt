@@ -10,7 +10,7 @@ use Rattle.bw_versions.specs.Reach.{Reach}
 use Rattle.bw_versions.specs.VersionData.{VersionData}
 use Rattle.bw_versions.specs.Heard.{Beyond}
 use Rattle.bw_versions.specs.Keeping.{Fits, Keeps, Sees, Follows, applied, last_mark, fresh}
-use Rattle.bw_versions.specs.declared.publisher.Operation.{Operation}
+use Rattle.bw_versions.specs.declared.writer.Operation.{Operation}
 use Rattle.bw_versions.proofs.Fronts.{prefix_self, prefix_trans}
 
 -- a seat that knows nothing may always be added

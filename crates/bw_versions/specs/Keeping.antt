@@ -6,7 +6,7 @@ use mathlib.Core.Option.{some}
 use lib.ListN.{get_elem?}
 use Rattle.bw_versions.specs.Reach.{Reach}
 use Rattle.bw_versions.specs.VersionData.{VersionData}
-use Rattle.bw_versions.specs.declared.publisher.Operation.{Operation}
+use Rattle.bw_versions.specs.declared.writer.Operation.{Operation}
 
 -- a seat that knows the book has seen a beginning of what is shown
 abbrev pub Fits : Reach → Option Reach → Type 0

@@ -1,7 +1,7 @@
 -- What a contract sees of the publisher.
 
 use Rattle.std.specs.Prelude.{ℕ, Option}
-use Rattle.bw_versions.specs.declared.publisher.Operation.{Operation}
+use Rattle.bw_versions.specs.declared.writer.Operation.{Operation}
 use Rattle.bw_versions.specs.Reach.{Reach}
 
 pub record Publishing : Type 0 where

@@ -2,7 +2,7 @@
 
 use Rattle.std.specs.Prelude.{◌≡◌, List, [], ◌∷◌, ◌++◌, Option, Some, None, drop}
 use Rattle.left_right.specs.Sides.{view}
-use Rattle.bw_versions.specs.declared.publisher.Operation.{Operation}
+use Rattle.bw_versions.specs.declared.writer.Operation.{Operation}
 use Rattle.bw_versions.specs.declared.publisher.Publisher.TheInside.{Inside}
 use Rattle.bw_versions.specs.Keeping.{Follows, last_mark}
 use Rattle.bw_versions.specs.Publishing.{Publishing}

@@ -18,6 +18,7 @@ mod reader;
 mod threads;
 mod versions;
 mod view;
+mod writer;
 
 pub use board::{Batch, Board};
 pub use laws::batches_are_joined;

@@ -1,7 +1,7 @@
 use Rattle.std.proofs.Common.{drop}
 use Rattle.left_right.specs.Sides.{view}
 use Rattle.bw_versions.proofs.Books.{turns-next, published}
-use Rattle.bw_versions.proofs.publisher.publish.Goals as goal
+use Rattle.bw_versions.proofs.writer.publish.Goals as goal
 
 pub publish_as-requires : goal.publish_as-requires
 publish_as-requires g c next is = turns-next _ _ _ next _ c.requires.own c.requires.follows is

@@ -1,6 +1,6 @@
 use Rattle.std.proofs.Common.{rules}
 use Rattle.bw_versions.proofs.Books.{admits, forks, merges}
-use Rattle.bw_versions.proofs.publisher.informed.Goals as goal
+use Rattle.bw_versions.proofs.writer.informed.Goals as goal
 
 pub reader-requires : goal.reader-requires
 reader-requires c = admits
