@@ -7,10 +7,10 @@ ghost use Rattle.bw_codec.specs.Grammar.{IsBlock};
 
 use bw_buffer::Buffer;
 use bw_codec::Block;
-use bw_device::Segment;
+use bw_device::{Desk, Segment};
 use std::alloc::Global;
 use std::mem;
-use test_boxes::{Fuse, LEAST, NEVER, Yard, empty_yard, fused};
+use test_boxes::{Fuse, LEAST, NEVER, fused};
 
 mod devices;
 mod failing;
@@ -43,6 +43,23 @@ fn sealed(alloc: Global, frame: u64, blocks: &[Block]) -> Option<Buffer>
         }
         Err(_) => None,
     }
+}
+
+/// A desk, and boxes with leases of it.
+#[derive(Drop)]
+struct Yard {
+    alloc: Global,
+    desk: Desk,
+    boxes: Vec<Box<dyn Segment>>,
+}
+
+/// A yard without a box.
+fn empty_yard(alloc: Global, leases: u32) -> Option<Yard> {
+    Some(Yard {
+        alloc,
+        desk: Desk::new(alloc, leases).ok()?,
+        boxes: Vec::new(alloc),
+    })
 }
 
 /// One more box of this room, which holds these bytes and fails so.

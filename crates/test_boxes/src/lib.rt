@@ -5,9 +5,7 @@
 mod logs;
 mod pieces;
 mod supplies;
-mod yards;
 
 pub use logs::{are_bytes, are_shown, is_added, is_page, is_shown};
 pub use pieces::{Kept, Piece, bytes_of, is_spelled};
-pub use supplies::{Fuse, LEAST, NEVER, Supply, found_in, fused, segments_of};
-pub use yards::{Yard, empty_yard};
+pub use supplies::{Fuse, LEAST, NEVER, found_in, fused, segments_of};

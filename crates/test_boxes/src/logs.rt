@@ -4,8 +4,8 @@ ghost use Rattle.bw_log.specs.Views.{IsSound as IsSoundBeside};
 ghost use Rattle.test_boxes.specs.Views.{IsSound};
 
 use crate::pieces::is_spelled;
-use crate::yards::Yard;
 use bw_codec::Leaf;
+use bw_device::Segment;
 use bw_log::Log;
 use bw_page::Leaves;
 use std::alloc::Global;
@@ -56,12 +56,12 @@ pub fn are_bytes(alloc: Global, log: &mut Log, segment: u64, hex: &'static str) 
     }
 }
 
-/// Whether a log takes the last box of a yard.
-pub fn is_added(log: &mut Log, yard: &mut Yard) -> bool
+/// Whether a log takes the last of these boxes.
+pub fn is_added(log: &mut Log, boxes: &mut Vec<Box<dyn Segment>>) -> bool
     requires { IsSoundBeside holding log.old }
     ensures { IsSoundBeside holding log.new }
 {
-    match yard.boxes.pop() {
+    match boxes.pop() {
         Some(one) => log.add_segment(one).is_ok(),
         None => false,
     }

@@ -17,12 +17,6 @@ pub type Fuse = (u64, u64);
 /// No box has so many calls.
 pub const NEVER: Fuse = (u64::MAX, 0);
 
-/// Boxes, and the desk of their leases.
-pub struct Supply {
-    pub boxes: Vec<Box<dyn Segment>>,
-    pub desk: Desk,
-}
-
 /// One more segment of a desk, of this room, which holds these bytes and fails so.
 pub fn fused(
     alloc: Global,

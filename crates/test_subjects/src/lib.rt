@@ -3,9 +3,7 @@
 #![tactic(auto)]
 
 pub mod asking;
-pub mod opening;
 pub mod putting;
 mod questions;
 pub mod reading;
-pub mod steps;
 pub mod subject;

@@ -13,6 +13,17 @@ use bw_store::{Cleaned, Config, OpenFault, ReopenFault, Store, StoreFault, TurnF
 use std::alloc::Global;
 use std::sync::Wait;
 
+/// The numbers of a store whose pages have at most four pairs.
+pub fn config_of(writers: usize, places: usize, readers: usize) -> Config {
+    Config {
+        writers,
+        places,
+        readers,
+        m: 4,
+        f: 65_536,
+    }
+}
+
 /// Which of the two a table is walked over.
 #[derive(Debug, Clone, Copy, PartialEq, Eq)]
 pub enum Over {

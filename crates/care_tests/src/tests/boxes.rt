@@ -1,9 +1,26 @@
 //! Yards with boxes of worked bytes.
 
-use bw_device::Segment;
+use bw_device::{Desk, Segment};
 use std::alloc::Global;
 use std::mem;
-use test_boxes::{Fuse, Kept, LEAST, NEVER, Piece, Yard, bytes_of, empty_yard, fused};
+use test_boxes::{Fuse, Kept, LEAST, NEVER, Piece, bytes_of, fused};
+
+/// A desk, and boxes with leases of it.
+#[derive(Drop)]
+pub(super) struct Yard {
+    pub(super) alloc: Global,
+    pub(super) desk: Desk,
+    pub(super) boxes: Vec<Box<dyn Segment>>,
+}
+
+/// A yard without a box.
+pub(super) fn empty_yard(alloc: Global, leases: u32) -> Option<Yard> {
+    Some(Yard {
+        alloc,
+        desk: Desk::new(alloc, leases).ok()?,
+        boxes: Vec::new(alloc),
+    })
+}
 
 /// One more box of this room, which holds these bytes and fails so.
 pub(super) fn add_box(yard: &mut Yard, bytes: &[u8], room: u64, fuse: Fuse) -> Option<()> {

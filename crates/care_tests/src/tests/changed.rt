@@ -1,11 +1,11 @@
 //! Each byte of each vector changed: recovery never stops short, and hands the box back or finds
 //! leaves, which are lawful by their type.
 
-use super::boxes::add_box;
+use super::boxes::{add_box, empty_yard};
 use bw_care::recover;
 use bw_device::Segment;
 use std::alloc::Global;
-use test_boxes::{NEVER, empty_yard};
+use test_boxes::NEVER;
 use test_tables::wrong_table;
 use test_vectors::{
     FIRST, GREATEST, OLD_FIRST, OLD_GREATEST, OLD_SECOND, OLD_THIRD_NEWER, SECOND, THIRD_NEWER,

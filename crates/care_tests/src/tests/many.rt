@@ -1,13 +1,13 @@
 //! A cleaning whose pages need more frames than one.
 
-use super::boxes::add_box;
+use super::boxes::{Yard, add_box, empty_yard};
 use super::steps::{cleaned, cleans};
 use bw_care::recover;
 use bw_codec::limits::{LATEST, MIN_FRAME};
 use bw_codec::{Header, encode_frame_head, encode_header};
 use bw_device::Segment;
 use std::alloc::Global;
-use test_boxes::{NEVER, Yard, empty_yard};
+use test_boxes::NEVER;
 
 // The bytes of each part.
 fn put(out: &mut Vec<u8>, parts: &[&[u8]]) -> Option<()> {

@@ -2,11 +2,11 @@
 
 ghost use Rattle.bw_care.specs.Views.{IsSound};
 
-use super::boxes::{add_box, add_boxes, add_piece, boxes_of, boxes_with};
+use super::boxes::{Yard, add_box, add_boxes, add_piece, boxes_of, boxes_with, empty_yard};
 use bw_care::{RecoverCause, recover};
 use bw_device::{Desk, Segment};
 use std::alloc::Global;
-use test_boxes::{Kept, LEAST, NEVER, Piece, Yard, are_shown, empty_yard};
+use test_boxes::{Kept, LEAST, NEVER, Piece, are_shown};
 use test_tables::wrong_table;
 use test_vectors::{
     CUT_AT_ONCE, FIRST, GREATEST, JOINED, OLD_CUT_AT_ONCE, OLD_FIRST, OLD_GREATEST, OLD_JOINED,

@@ -4,12 +4,12 @@
 ghost use Rattle.bw_log.specs.Views.{IsSound as IsSoundBeside};
 ghost use Rattle.test_boxes.specs.Views.{IsSound};
 
-use super::boxes::{boxes_with, taken_out};
+use super::boxes::{Yard, boxes_with, taken_out};
 use bw_care::{CleanFault, Cleaned, Upgraded, clean, recover, upgrade};
 use bw_device::Segment;
 use bw_log::Log;
 use std::alloc::Global;
-use test_boxes::{Fuse, Kept, LEAST, NEVER, Yard, are_bytes, is_added, is_page};
+use test_boxes::{Fuse, Kept, LEAST, NEVER, are_bytes, is_added, is_page};
 
 /// One call on a log, with what it has to answer.
 #[derive(Drop)]
@@ -108,7 +108,7 @@ fn goes(yard: &mut Yard, log: &mut Log, step: &Step) -> bool
         Stands(live, spares, next) => {
             log.live() == *live && log.spares() == *spares && log.next_frame() == Some(*next)
         }
-        Add => is_added(log, yard),
+        Add => is_added(log, &mut yard.boxes),
     }
 }
 

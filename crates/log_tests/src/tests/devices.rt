@@ -1,11 +1,11 @@
 // Segments, fuses and desks, in rows.
 
-use super::add_box;
+use super::{Yard, add_box, empty_yard};
 use bw_device::{
     Desk, FuseSegment, Lease, MAX_CAPACITY, MAX_LEASES, MemSegment, NotMade, NotTaken, Segment,
 };
 use std::alloc::Global;
-use test_boxes::{NEVER, Yard, empty_yard};
+use test_boxes::NEVER;
 use test_tables::wrong_table;
 
 /// One case over a desk, with what it has to answer.

@@ -10,14 +10,14 @@ ghost use Rattle.bw_log.specs.Views.{seen_by};
 ghost use Rattle.test_boxes.specs.Views.{seen, IsSound};
 ghost use Rattle.log_tests.specs.OnePage.{Counts, HoldsOne, Opens, first_with, put_after, put_of};
 
-use super::{sealed, taken_out, yard_of};
+use super::{Yard, sealed, taken_out, yard_of};
 use bw_buffer::Buffer;
 use bw_codec::{Block, Key, Leaf, Ops, Packed, Place, Record, Value};
 use bw_device::Segment;
 use bw_log::{Log, LogFault};
 use bw_page::{change, count_after, empty_page};
 use std::alloc::Global;
-use test_boxes::{Fuse, Yard};
+use test_boxes::Fuse;
 
 /// A put of this value at this key.
 pub(crate) fn record_of(key: &[u8], value: &[u8]) -> Option<Record>

@@ -3,12 +3,12 @@
 ghost use Rattle.bw_log.specs.Views.{IsSound as IsSoundBeside};
 ghost use Rattle.test_boxes.specs.Views.{IsSound};
 
-use super::add_box;
 use super::page::log_over;
+use super::{Yard, add_box};
 use bw_device::Segment;
 use bw_log::{Log, LogFault};
 use std::alloc::Global;
-use test_boxes::{NEVER, Yard, is_added};
+use test_boxes::{NEVER, is_added};
 
 // Whether it has three spares, of which the last has lease 2, and nothing else.
 fn is_empty(log: &Log) -> bool
@@ -58,7 +58,7 @@ fn is_refused(log: &mut Log, more: &mut Yard) -> bool
 fn spares_come_and_go(alloc: Global) -> Option<bool> {
     let (mut log, mut more) = log_over(alloc, 1, NEVER)?;
     add_box(&mut more, &[], 65_559, NEVER)?;
-    let come = is_refused(&mut log, &mut more) & is_added(&mut log, &mut more);
+    let come = is_refused(&mut log, &mut more) & is_added(&mut log, &mut more.boxes);
     log.roll();
     let told = is_empty(&log) & reads_nothing(alloc, &mut log);
     let (live, spares) = log.into_segments();

@@ -5,6 +5,7 @@ ghost use Rattle.bw_log.specs.Views.{seen_by};
 ghost use Rattle.test_boxes.specs.Views.{seen};
 ghost use Rattle.log_tests.specs.OnePage.{Counts, HoldsOne, Opens};
 
+use super::Yard;
 use super::filled::full_opening;
 use super::page::{begin, give_up, log_over, opening, put, rewrite};
 use bw_buffer::Buffer;
@@ -12,7 +13,7 @@ use bw_codec::{Leaf, Place};
 use bw_device::Segment;
 use bw_log::{Log, LogFault};
 use std::alloc::Global;
-use test_boxes::{Fuse, NEVER, Yard, is_shown, is_spelled};
+use test_boxes::{Fuse, NEVER, is_shown, is_spelled};
 use test_tables::wrong_table;
 use test_vectors::{FIRST, THIRD_NEWER, THIRD_OLDER};
 

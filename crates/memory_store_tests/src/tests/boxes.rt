@@ -1,8 +1,14 @@
 //! Boxes in memory.
 
-use bw_device::Segment;
+use bw_device::{Desk, Segment};
 use std::alloc::Global;
-use test_boxes::{Fuse, LEAST, NEVER, Supply, segments_of};
+use test_boxes::{Fuse, LEAST, NEVER, segments_of};
+
+/// Boxes, and the desk of their leases.
+pub(super) struct Supply {
+    pub(super) boxes: Vec<Box<dyn Segment>>,
+    pub(super) desk: Desk,
+}
 
 /// So many boxes, of which the first ones have the bytes of these texts in hex, and the others none;
 /// the first one fails once, if told, after so many calls, and keeps so many bytes.

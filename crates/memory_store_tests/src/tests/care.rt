@@ -3,7 +3,7 @@
 ghost use Rattle.bw_care.specs.Views.{IsSound};
 ghost use Rattle.bw_log.specs.Views.{IsSound as IsSoundBeside};
 
-use super::boxes::supplied;
+use super::boxes::{Supply, supplied};
 use super::recovering::recovered;
 use bw_care::{CleanFault, Cleaned, Upgraded, clean, upgrade};
 use bw_device::Segment;
@@ -11,7 +11,7 @@ use bw_log::{Log, LogFault};
 use std::alloc::Global;
 use std::sync::Wait;
 use std::thread::Threads;
-use test_boxes::{Supply, found_in};
+use test_boxes::found_in;
 use test_marks::{begin, end};
 use test_refusals::{Row, Try, then, tried, wrong_row};
 use test_vectors::{

@@ -4,7 +4,7 @@ ghost use Rattle.std.specs.Prelude.{◌≡◌, map, vec_len, length, IfOk, IfSom
 ghost use Rattle.bw_ring.specs.Ends.{ring_of_feed};
 ghost use Rattle.bw_store.specs.Views.{kept_by, IsSound};
 
-use super::boxes::supplied;
+use super::boxes::{Supply, supplied};
 use bw_codec::{Key, Record, Value};
 use bw_drive::{MeetGate, OpenGate, Plan, drive};
 use bw_ring::{Feed, Group};
@@ -12,7 +12,6 @@ use bw_store::{Config, PackedEntry, Store, StoreFault};
 use std::alloc::{AllocError, Global};
 use std::sync::Wait;
 use std::thread::Threads;
-use test_boxes::Supply;
 use test_marks::{begin, end};
 use test_refusals::{Row, Try, tried, wrong_row};
 

@@ -16,7 +16,7 @@ use self::steps::Step::{
     Stands, Turn,
 };
 use self::steps::{Beside, Step, goes};
-use super::boxes::supplied;
+use super::boxes::{Supply, supplied};
 use super::recovering::recovered;
 use bw_care::Recovered;
 use bw_device::{Desk, Segment};
@@ -25,7 +25,6 @@ use bw_store::{Config, Store, StoreFault};
 use std::alloc::Global;
 use std::sync::Wait;
 use std::thread::Threads;
-use test_boxes::Supply;
 use test_marks::{begin, begin_without, end};
 use test_refusals::{Row, Try, then, tried, wrong_row};
 use test_vectors::{SECOND, THIRD_NEWER, THIRD_OLDER};

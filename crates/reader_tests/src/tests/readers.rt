@@ -10,8 +10,8 @@ use bw_store::{NoReader, ReadFault, Reader, Store};
 use std::sync::Wait;
 use std::thread;
 use std::thread::Threads;
-use test_subjects::opening::config_of;
 use test_subjects::putting::{is_put, record};
+use test_subjects::subject::config_of;
 use test_vectors::gone_back;
 
 /// How many times a reader in a thread reads beside the flushes.

@@ -15,7 +15,6 @@ use std::sync::Wait;
 use std::test::Fail;
 use std::thread;
 use std::thread::Threads;
-use test_subjects::opening::Supply;
 
 // What a writer's thread does: its feed accepts a record, or hands it back where the ring is full.
 fn put(mut feed: Feed, record: Record) -> Feed
@@ -50,7 +49,7 @@ fn example<R: Threads + Wait>(
 // The same over a new store of one writer.
 fn is_there<R: AllocGlobal + Threads + Wait>(rt: &R) -> Result<Option<Value>, Fail> {
     let alloc = rt.alloc();
-    let Some(Supply { boxes, more: _more }) = supplied(alloc, 2) else {
+    let Some(boxes) = supplied(alloc, 2) else {
         return Ok(None);
     };
     let config = Config {

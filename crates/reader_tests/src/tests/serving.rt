@@ -9,20 +9,16 @@ use bw_ring::Feed;
 use bw_store::{Config, Store};
 use std::alloc::Global;
 use std::sync::Wait;
-use test_subjects::opening::Supply;
 
 /// So many boxes of the least capacity for frames of 65,536 bytes.
-pub(super) fn supplied(alloc: Global, many: u32) -> Option<Supply> {
+pub(super) fn supplied(alloc: Global, many: u32) -> Option<Vec<Box<dyn Segment>>> {
     let mut desk = Desk::new(alloc, 128).ok()?;
     let mut boxes: Vec<Box<dyn Segment>> = Vec::new(alloc);
     for _ in 0..many {
         let segment = MemSegment::new(alloc, desk.take().ok()?, 65_560).ok()?;
         boxes.push(Box::new(alloc, segment).ok()?).ok()?;
     }
-    Some(Supply {
-        boxes,
-        more: Vec::new(alloc),
-    })
+    Some(boxes)
 }
 
 /// A store, and a feed for each of its writers.
@@ -31,17 +27,17 @@ pub(super) struct Served {
     pub(super) feeds: Vec<Feed>,
 }
 
-/// A store over the boxes of a supply.
+/// A store over these boxes.
 pub(super) fn store_over<R: AllocGlobal + Wait>(
     rt: &R,
-    supply: Supply,
+    boxes: Vec<Box<dyn Segment>>,
     config: &Config,
 ) -> Option<Served>
     ensures sound { IfSome result (λ s. IsSoundBeside s.store holding) }
     ensures feeds { IfSome result (λ s.
         map ring_of_feed s.feeds.items ≡ (kept_beside s.store holding).rings) }
 {
-    match Store::open(rt, rt.alloc(), config, supply.boxes) {
+    match Store::open(rt, rt.alloc(), config, boxes) {
         Ok((store, feeds)) => Some(Served { store, feeds }),
         Err(_fault) => None,
     }

@@ -13,8 +13,8 @@ use std::snapshot::Snapshot;
 use std::sync::Wait;
 use std::thread;
 use std::thread::{Promise, PromisedHandle, Threads};
-use test_subjects::opening::config_of;
 use test_subjects::putting::numbered;
+use test_subjects::subject::config_of;
 
 /// How many records each of the four writers puts into its ring of 256 places.
 const RECORDS: u32 = 1000;

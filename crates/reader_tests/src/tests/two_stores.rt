@@ -8,8 +8,9 @@ use super::serving::{ended, store_over, supplied};
 use super::sides::Side::{Left, Right};
 use super::sides::Step::{Flushes, Rest, Takes};
 use super::sides::{Sided, Step, goes};
+use bw_device::Segment;
 use std::sync::Wait;
-use test_subjects::opening::{Supply, config_of};
+use test_subjects::subject::config_of;
 
 /// A step, and the values of `k` that the readers of the left and the right store see behind it; of
 /// no bytes, none.
@@ -59,10 +60,10 @@ fn wrong_step<R: Wait>(rt: &R, left: &mut Sided, right: &mut Sided) -> Option<us
 }
 
 // A store over these boxes, and its reader.
-fn with_reader<R: AllocGlobal + Wait>(rt: &R, supply: Supply) -> Option<Sided>
+fn with_reader<R: AllocGlobal + Wait>(rt: &R, boxes: Vec<Box<dyn Segment>>) -> Option<Sided>
     ensures { IfSome result (λ s. IsSoundBeside s.served.store holding) }
 {
-    let mut served = store_over(rt, supply, &config_of(1, 8, 1))?;
+    let mut served = store_over(rt, boxes, &config_of(1, 8, 1))?;
     match served.store.reader() {
         Ok(reader) => Some(Sided { served, reader }),
         Err(_) => {
@@ -73,11 +74,15 @@ fn with_reader<R: AllocGlobal + Wait>(rt: &R, supply: Supply) -> Option<Sided>
 }
 
 // The same with a left store over these boxes, which is then shut.
-fn go_against<R: AllocGlobal + Wait>(rt: &R, right: &mut Sided, supply: Supply) -> Option<usize>
+fn go_against<R: AllocGlobal + Wait>(
+    rt: &R,
+    right: &mut Sided,
+    boxes: Vec<Box<dyn Segment>>,
+) -> Option<usize>
     requires { IsSoundBeside right.old.served.store holding }
     ensures { IsSoundBeside right.new.served.store holding }
 {
-    let Some(mut left) = with_reader(rt, supply) else {
+    let Some(mut left) = with_reader(rt, boxes) else {
         return Some(0);
     };
     let wrong = wrong_step(rt, &mut left, right);
@@ -91,13 +96,13 @@ fn go_against<R: AllocGlobal + Wait>(rt: &R, right: &mut Sided, supply: Supply) 
 
 // The same where the right store's reader then sees on; the first step where it does not.
 fn walked<R: AllocGlobal + Wait>(rt: &R) -> Option<usize> {
-    let Some(supply) = supplied(rt.alloc(), 4) else {
+    let Some(boxes) = supplied(rt.alloc(), 4) else {
         return Some(0);
     };
     let Some(more) = supplied(rt.alloc(), 4) else {
         return Some(0);
     };
-    let Some(mut right) = with_reader(rt, supply) else {
+    let Some(mut right) = with_reader(rt, boxes) else {
         return Some(0);
     };
     let wrong = go_against(rt, &mut right, more);

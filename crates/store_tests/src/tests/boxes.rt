@@ -1,8 +1,8 @@
 //! Boxes in memory.
 
+use super::opening::Supply;
 use bw_device::{DeadSegment, Desk, FuseSegment, MemSegment, Segment};
 use std::alloc::Global;
-use test_subjects::opening::Supply;
 
 /// The least capacity of a box for frames of 65,536 bytes.
 pub(super) const LEAST: u64 = 65_560;

@@ -5,6 +5,9 @@ ghost use Rattle.bw_care.specs.Found.{IsRecovered};
 ghost use Rattle.test_subjects.specs.Views.{IsSoundBeside};
 
 use super::boxes::{LEAST, fused, maker_of, plain, supplied};
+use super::opening::{Held, Supply, opened, reopened, shut};
+use super::steps::Step;
+use super::steps::Step::{Cuts, Flush, Frame, Lives, Page, Put, Refused, Segments, Turn};
 use super::telling::{holds, went};
 use super::turning::FAILED;
 use super::walking::{lives, wrong_step};
@@ -12,11 +15,8 @@ use bw_care::{RecoverCause, Recovered, recover};
 use bw_store::StoreFault;
 use std::alloc::Global;
 use std::sync::Wait;
-use test_subjects::opening::{Held, Supply, config_of, opened, reopened, shut};
 use test_subjects::putting::AGAIN;
-use test_subjects::steps::Step;
-use test_subjects::steps::Step::{Cuts, Flush, Frame, Lives, Page, Put, Refused, Segments, Turn};
-use test_subjects::subject::{BOTH, Over};
+use test_subjects::subject::{BOTH, Over, config_of};
 
 /// The third append fails.
 const SECOND: &[Step] = &[

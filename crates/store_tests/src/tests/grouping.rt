@@ -5,21 +5,21 @@ ghost use Rattle.bw_care.specs.Found.{IsRecovered};
 
 use super::boxes::{LEAST, maker_of, plain, supplied};
 use super::cutting::{dumped, shows};
+use super::opening::{Supply, opened, shut};
+use super::steps::Step;
+use super::steps::Step::{
+    Cuts, Evict, Flush, Frame, Full, FullGroup, Get, Group, History, Live, Page, Pages, Put, Same,
+    Settle, Stops, Turn,
+};
 use super::telling::went;
 use super::walking::{Stand, Tables, all_go, wrong_step};
 use bw_care::{Recovered, recover};
 use bw_store::StoreFault;
 use std::alloc::Global;
 use std::sync::Wait;
-use test_subjects::opening::{Supply, config_of, opened, shut};
 use test_subjects::putting::Op::{Set, Unset};
 use test_subjects::putting::{FOUR, NEXT};
-use test_subjects::steps::Step;
-use test_subjects::steps::Step::{
-    Cuts, Evict, Flush, Frame, Full, FullGroup, Get, Group, History, Live, Page, Pages, Put, Same,
-    Settle, Stops, Turn,
-};
-use test_subjects::subject::{BOTH, Over};
+use test_subjects::subject::{BOTH, Over, config_of};
 
 /// A turn counts groups and answers records; a settling takes one lane after the other.
 const WRITERS: &[Step] = &[

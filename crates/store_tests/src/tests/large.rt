@@ -5,14 +5,14 @@ ghost use Rattle.bw_ring.specs.Ends.{ring_of_feed};
 ghost use Rattle.test_subjects.specs.Views.{AreItsFeeds, IsSoundBeside};
 
 use super::boxes::{Row, supplied};
+use super::opening::{Held, opened, shut};
+use super::steps::Step::{Puts, Reads, Roll, Settle};
 use super::telling::holds;
 use super::walking::wrong_step;
 use bw_ring::Feed;
 use std::sync::Wait;
-use test_subjects::opening::{Held, config_of, opened, shut};
 use test_subjects::putting::{is_put, record};
-use test_subjects::steps::Step::{Puts, Reads, Roll, Settle};
-use test_subjects::subject::Over;
+use test_subjects::subject::{Over, config_of};
 
 /// Three segments of 24 MiB.
 const LARGE: Row = Row {

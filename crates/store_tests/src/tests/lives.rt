@@ -5,6 +5,9 @@ ghost use Rattle.bw_core.specs.Views.{IsSoundBeside as IsSoundCore};
 ghost use Rattle.test_subjects.specs.Views.{AreItsFeeds, IsSoundBeside};
 
 use super::boxes::{Row, fused, plain, supplied};
+use super::opening::{Held, opened, shut};
+use super::steps::Step;
+use super::steps::Step::{Cuts, Flush, Get, History, Page, Put, Turn};
 use super::telling::went;
 use super::turning::FAILED;
 use super::walking::wrong_step;
@@ -13,10 +16,7 @@ use bw_device::Segment;
 use bw_lives::relive;
 use std::alloc::Global;
 use std::sync::Wait;
-use test_subjects::opening::{Held, config_of, opened, shut};
-use test_subjects::steps::Step;
-use test_subjects::steps::Step::{Cuts, Flush, Get, History, Page, Put, Turn};
-use test_subjects::subject::{Over, Subject};
+use test_subjects::subject::{Over, Subject, config_of};
 
 // The second life of a core, with the same writers.
 fn relived<R: AllocGlobal + Wait>(rt: &R, held: Held) -> Option<Held>

@@ -5,15 +5,15 @@ ghost use Rattle.test_subjects.specs.Views.{AreItsFeeds, IsSoundBeside};
 
 use super::boxes::{dying, fused, supplied};
 use super::cutting::THREE;
+use super::opening::{Held, Supply, opened, shut};
+use super::steps::Step::{Clean, Evict, Frame, Frames, Get, Page, Put, Turn};
+use super::steps::{Step, goes};
 use super::telling::{all_went, holds};
 use super::walking::{lives_on, wrong_step};
 use bw_care::{RecoverCause, recover};
 use std::sync::Wait;
-use test_subjects::opening::{Held, Supply, config_of, opened, shut};
 use test_subjects::putting::FIVE;
-use test_subjects::steps::Step::{Clean, Evict, Frame, Frames, Get, Page, Put, Turn};
-use test_subjects::steps::{Step, goes};
-use test_subjects::subject::{BOTH, Over};
+use test_subjects::subject::{BOTH, Over, config_of};
 
 /// Five records, a frame each; the last one cuts its page.
 const FIVE_FRAMES: &[Step] = &[Frames(1, FIVE)];
