@@ -5,18 +5,17 @@
 //! begins, and the first fault in that order is the answer. No box is moved before the last step
 //! that may be refused: all come back on a refusal, and whoever was refused memory may try again.
 
-ghost use Rattle.std.specs.Prelude.{◌≡◌, Ok, IfOk, IfErr, map, false, length};
+ghost use Rattle.std.specs.Prelude.{◌≡◌, Ok, IfOk, IfErr, map};
 ghost use Rattle.bw_care.specs.Recovery.{recovery, limit_in, live_in, spares_in, ends_whole};
 ghost use Rattle.bw_care.specs.Found.{finding_of, IsRecovered, Refuses};
 ghost use Rattle.bw_log.specs.Views.{seen_by};
-ghost use Rattle.bw_log.specs.Segments.{following};
 
 use crate::boxes::{Parts, part};
+use crate::recovered::Recovered;
 use crate::steps::{Findings, boxes_of, places, prepare};
 use bw_device::Segment;
 use bw_lines::RecoverCause;
 use bw_log::Log;
-use bw_page::Leaves;
 use std::alloc::Global;
 use std::fmt::{self, Debug, Formatter};
 use thiserror::Error;
@@ -116,22 +115,4 @@ pub fn recover(alloc: Global, boxes: Vec<Box<dyn Segment>>) -> Result<Recovered,
             })
         }
     }
-}
-
-/// A log whose segments were read, and what they stand for.
-#[derive(Drop)]
-pub struct Recovered {
-    pub log: Log,
-    pub leaves: Leaves,
-    /// The numbers of the first and the last whole frame.
-    pub first: u64,
-    pub last: u64,
-    /// How many bytes follow the last whole frames of all segments.
-    pub tail: u64,
-    /// How many boxes held a part of a header, and were dropped.
-    pub dropped: u32,
-    ghost follows: { log.next ≡ following last },
-    ghost works: { log.is_failed ≡ false },
-    ghost limit: { leaves.m ≡ log.m },
-    ghost pages: { length leaves.leaves ≡ length log.pages.items },
 }

@@ -23,7 +23,7 @@ use Rattle.std.specs.declared.alloc.Global.{Global}
 use Rattle.bw_log.specs.Views.{seen_by}
 use Rattle.bw_care.specs.Found.{IsRecovered}
 use Rattle.bw_care.specs.Recovery.{last_number}
-use Rattle.bw_care.specs.declared.recovery.Recovered.{Recovered}
+use Rattle.bw_care.specs.declared.recovered.Recovered.{Recovered}
 use Rattle.bw_core.specs.Growing.{Grown, frames_upto}
 use Rattle.bw_core.specs.Kept.{leaves_at, TellsBy, TellsShare, IsSound}
 use Rattle.bw_core.specs.Reopened.{reopened}

@@ -63,8 +63,8 @@ impl Core {
             (TookKnown lane self.old.intake.lanes.items self.new.intake.lanes.items) }
         ensures noted { noted_of self.new ≡ noted_of self.old }
     {
-        let _ = item.key();
-        let _ = self.leaves.count();
+        let _ = item.key(); // For the proof.
+        let _ = self.leaves.count(); // For the proof.
         let entry = self.intake.packed_alone(lane, item, page)?;
         self.intake.reserve()?;
         self.newest.reserve(1)?;
@@ -111,8 +111,8 @@ impl Core {
             (TookKnown lane self.old.intake.lanes.items self.new.intake.lanes.items) }
         ensures noted { noted_of self.new ≡ noted_of self.old }
     {
-        let _ = item.key();
-        let _ = self.leaves.count();
+        let _ = item.key(); // For the proof.
+        let _ = self.leaves.count(); // For the proof.
         let back = self.newest[page as usize - 1];
         let entry = self.intake.packed_alone(lane, item, page)?;
         self.intake.reserve()?;

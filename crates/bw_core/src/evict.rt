@@ -97,7 +97,7 @@ impl Core {
         requires inside { (1 ≤ page) × (page ≤ length self.now.leaves.leaves) }
         ensures { result ≡ false → list_any (touches page) self.now.making.blocks ≡ false }
     {
-        let _ = self.newest.as_slice().len();
+        let _ = self.newest.as_slice().len(); // For the proof.
         self.newest[page as usize - 1].frame == self.making.frame()
     }
 

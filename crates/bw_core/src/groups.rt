@@ -53,7 +53,7 @@ impl Core {
         'records: for at in 0..records.len() {
             self.fetch_one(&records[at])?;
         }
-        let _ = self.leaves.count();
+        let _ = self.leaves.count(); // For the proof.
         Ok(())
     }
 
@@ -129,7 +129,7 @@ impl Core {
             (IsDraft (kept_by self.now holding) records.now)) }
     {
         let mut draft = Draft::new(*self.cuts.allocator(), &self.making);
-        let _ = self.making.room();
+        let _ = self.making.room(); // For the proof.
         'records: for at in 0..records.len() {
             if !self.lay_one(lane, &mut draft, records, steps, at)? {
                 return Ok(None);
@@ -200,7 +200,7 @@ impl Core {
         ensures noted { noted_of self.new ≡ noted_of self.old }
     {
         let rows = draft.rows.as_slice();
-        let _ = self.leaves.count();
+        let _ = self.leaves.count(); // For the proof.
         self.intake.reserve()?;
         self.newest.reserve(group.len())?;
         apply_entries(&mut self.leaves, group.as_slice(), entries.as_slice())?;

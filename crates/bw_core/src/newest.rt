@@ -57,6 +57,6 @@ fn renew_at(newest: &mut Vec<Place>, log: &Log, at: usize)
     let Some(place) = log.place_of(at as u32 + 1) else {
         unreachable!();
     };
-    let _ = newest.as_slice().len();
+    let _ = newest.as_slice().len(); // For the proof.
     newest[at] = place;
 }

@@ -36,7 +36,7 @@ impl Core {
             → IfErr result (λ fault. fault ≡ StoreFault.NoMemory) }
         ensures noted { noted_of self.new ≡ noted_of self.old }
     {
-        let _ = self.leaves.count();
+        let _ = self.leaves.count(); // For the proof.
         if let Some(leaf) = self.leaves.page(page) {
             return Ok(found_on(leaf, key, reach));
         }

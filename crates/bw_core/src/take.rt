@@ -245,7 +245,7 @@ impl Core {
             (kept_by self.old holding) result (kept_by self.new holding) }
         ensures noted { noted_of self.new ≡ noted_of self.old }
     {
-        let _ = item.key();
+        let _ = item.key(); // For the proof.
         self.goes_on()?;
         if self.making.has_room_for(page, item) {
             return self.enter_delta(lane, item, page, found);
@@ -300,7 +300,7 @@ impl Core {
             (kept_by self.old holding) result (kept_by self.new holding) }
         ensures noted { noted_of self.new ≡ noted_of self.old }
     {
-        let _ = group.len();
+        let _ = group.len(); // For the proof.
         self.goes_on()?;
         self.fetch_all(group.as_slice())?;
         let entries = self.intake.packed(lane, &group)?;
@@ -340,7 +340,7 @@ impl Core {
             (kept_by self.old holding) result (kept_by self.new holding) }
         ensures noted { noted_of self.new ≡ noted_of self.old }
     {
-        let _ = group.len();
+        let _ = group.len(); // For the proof.
         self.flush_making(false)?;
         match self.draft(lane, group.as_slice(), entries.as_slice())? {
             Some(draft) => self.enter_all(lane, group, entries, &draft),
@@ -396,8 +396,8 @@ impl Core {
             (IsUnplanned (kept_by self.now holding) (item.now ∷ [])) }
     {
         self.goes_on()?;
-        let _ = item.key();
-        let _ = self.making.room();
+        let _ = item.key(); // For the proof.
+        let _ = self.making.room(); // For the proof.
         let here = place_for(&self.making, page);
         let alloc = *self.cuts.allocator();
         let plan = planned_for(alloc, &self.leaves, &self.newest, here, page, item)?;

@@ -30,8 +30,8 @@ fn look_at(lanes: &mut Vec<Lane>, feeds: &mut Vec<Feed>, at: usize)
         ≡ slice_set (map given lanes.old.items) at
         (slice_index_or (map accepted feeds.old.items) at []) }
 {
-    let _ = lanes.as_slice().len();
-    let _ = feeds.as_slice().len();
+    let _ = lanes.as_slice().len(); // For the proof.
+    let _ = feeds.as_slice().len(); // For the proof.
     look_one(&mut lanes[at], &mut feeds[at]);
 }
 

@@ -54,7 +54,7 @@ impl Intake {
         let Ok((feeds, ends)) = lanes(alloc, writers, places) else {
             return Err(AllocError);
         };
-        let _ = ends.as_slice().len();
+        let _ = ends.as_slice().len(); // For the proof.
         let counts = no_counts(alloc, writers)?;
         let intake = Intake {
             lanes: ends,
@@ -161,7 +161,7 @@ impl Intake {
         requires { lane < length self.now.lanes.items }
         ensures { IsTrue result ↔ IsWaiting self.now.lanes.items lane }
     {
-        let _ = self.lanes.as_slice().len();
+        let _ = self.lanes.as_slice().len(); // For the proof.
         self.lanes[lane].is_known()
     }
 
@@ -171,7 +171,7 @@ impl Intake {
         requires waits { IsWaiting self.now.lanes.items lane }
         ensures { IsNext self.now.lanes.items lane result }
     {
-        let _ = self.lanes.as_slice().len();
+        let _ = self.lanes.as_slice().len(); // For the proof.
         self.lanes[lane].peek_known()
     }
 
@@ -181,7 +181,7 @@ impl Intake {
         requires { lane < length self.now.lanes.items }
         ensures { IfSome result (λ r. IsNext self.now.lanes.items lane (r ∷ [])) }
     {
-        let _ = self.lanes.as_slice().len();
+        let _ = self.lanes.as_slice().len(); // For the proof.
         Some(self.lanes[lane].alone()?.copy())
     }
 
@@ -211,7 +211,7 @@ impl Intake {
         ensures entries { IfOk result (λ v. v.items ≡ entered lane (marked group.now)) }
         ensures records { IfOk result (λ v. records v.items ≡ group.now) }
     {
-        let _ = self.lanes.len();
+        let _ = self.lanes.len(); // For the proof.
         pack(*self.counts.allocator(), lane as u16, group.as_slice())
     }
 
@@ -225,7 +225,7 @@ impl Intake {
         requires { lane < length self.now.lanes.items }
         ensures { IfOk result (λ e. e ≡ record { writer = lane; more = false; item = item.now }) }
     {
-        let _ = self.lanes.len();
+        let _ = self.lanes.len(); // For the proof.
         let entry = PackedEntry::of(*self.counts.allocator(), lane as u16, false, item)?;
         Ok(entry.on(page))
     }
@@ -339,7 +339,7 @@ fn count_more(counts: &mut Vec<u64>, lane: usize, records: u64, most: u64)
         (slice_index_or counts.old.items lane 0 + records) }
 {
     let _ = most;
-    let _ = counts.as_slice().len();
+    let _ = counts.as_slice().len(); // For the proof.
     counts[lane] += records;
 }
 
@@ -352,7 +352,7 @@ fn finds_at(lanes: &mut Vec<Lane>, at: usize) -> bool
     ensures waits { IsTrue result → IsWaiting lanes.new.items at }
     ensures none { result ≡ false → Dries at lanes.old.items lanes.new.items }
 {
-    let _ = lanes.as_slice().len();
+    let _ = lanes.as_slice().len(); // For the proof.
     finds_one(&mut lanes[at])
 }
 
@@ -376,7 +376,7 @@ fn take_at(lanes: &mut Vec<Lane>, at: usize, item: &Group)
     ensures given { map given lanes.new.items ≡ map given lanes.old.items }
     ensures known { TookKnown at lanes.old.items lanes.new.items }
 {
-    let _ = lanes.as_slice().len();
+    let _ = lanes.as_slice().len(); // For the proof.
     let _ = take_one(&mut lanes[at], item);
 }
 
@@ -390,7 +390,7 @@ fn pass_at(lanes: &mut Vec<Lane>, at: usize, item: &Record)
     ensures given { map given lanes.new.items ≡ map given lanes.old.items }
     ensures known { TookKnown at lanes.old.items lanes.new.items }
 {
-    let _ = lanes.as_slice().len();
+    let _ = lanes.as_slice().len(); // For the proof.
     lanes[at].pass_alone(item);
 }
 

@@ -50,7 +50,7 @@ fn put_at(feeds: &mut Vec<Feed>, writer: usize, group: Group) -> Result<(), Full
     ensures back { IfErr result (λ full. full.0 ≡ group) }
     ensures unchanged { OnErr result (map accepted feeds.new.items ≡ map accepted feeds.old.items) }
 {
-    let _ = feeds.as_slice().len();
+    let _ = feeds.as_slice().len(); // For the proof.
     feeds[writer].put_group(group)
 }
 

@@ -56,7 +56,7 @@ impl Block {
         requires { at < length self.now }
         ensures { result ≡ low_at self.now at }
     {
-        let _ = self.entries.as_slice().len();
+        let _ = self.entries.as_slice().len(); // For the proof.
         self.entries[at].low()
     }
 
@@ -65,7 +65,7 @@ impl Block {
         requires { at < length self.now }
         ensures { result ≡ page_at self.now at }
     {
-        let _ = self.entries.as_slice().len();
+        let _ = self.entries.as_slice().len(); // For the proof.
         self.entries[at].page()
     }
 
@@ -74,7 +74,7 @@ impl Block {
         requires { at < length self.now }
         ensures { result ≡ is_eq (order key.now (low_at self.now at)) }
     {
-        let _ = self.entries.as_slice().len();
+        let _ = self.entries.as_slice().len(); // For the proof.
         self.entries[at].compare(key) == Ordering::Equal
     }
 
@@ -85,7 +85,7 @@ impl Block {
         requires bytes { IsBytes key.now }
         ensures { result ≡ is_below key.now (low_at self.now at) }
     {
-        let _ = self.entries.as_slice().len();
+        let _ = self.entries.as_slice().len(); // For the proof.
         self.entries[at].is_above(start, key)
     }
 
@@ -123,7 +123,7 @@ impl Block {
         ensures ok { OnOk result (self.new ≡ insert self.old at entry) }
         ensures err { OnErr result (self.new ≡ self.old) }
     {
-        let _ = self.entries.as_slice().len();
+        let _ = self.entries.as_slice().len(); // For the proof.
         let count = self.len();
         make_room(&mut self.entries)?;
         let head = self.row.head(&entry);
@@ -140,7 +140,7 @@ impl Block {
         requires { at < length self.old }
         ensures { self.new ≡ slice_set self.old at (low_at self.old at, page) }
     {
-        let _ = self.entries.as_slice().len();
+        let _ = self.entries.as_slice().len(); // For the proof.
         self.entries[at].set_page(page);
     }
 
@@ -149,7 +149,7 @@ impl Block {
         requires { at < length self.old }
         ensures { self.new ≡ remove self.old at }
     {
-        let _ = self.entries.as_slice().len();
+        let _ = self.entries.as_slice().len(); // For the proof.
         let _ = self.entries.remove(at);
         self.row.remove(at);
     }

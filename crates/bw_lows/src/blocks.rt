@@ -61,7 +61,7 @@ impl Blocks {
         requires { at < length self.now }
         ensures { result.now ≡ block_at self.now at }
     {
-        let _ = self.blocks.as_slice().len();
+        let _ = self.blocks.as_slice().len(); // For the proof.
         &self.blocks[at]
     }
 
@@ -117,7 +117,7 @@ impl Blocks {
             ≡ slice_set self.old at (insert (block_at self.old at) index entry)) }
         ensures err { OnErr result (self.new ≡ self.old) }
     {
-        let _ = self.blocks.as_slice().len();
+        let _ = self.blocks.as_slice().len(); // For the proof.
         self.blocks[at].insert(index, entry)?;
         note_first(&mut self.begins, self.blocks.as_slice(), at);
         mend(&mut self.begins, self.blocks.as_slice());
@@ -131,7 +131,7 @@ impl Blocks {
         ensures { self.new ≡ slice_set self.old at
             (slice_set (block_at self.old at) index (low_at (block_at self.old at) index, page)) }
     {
-        let _ = self.blocks.as_slice().len();
+        let _ = self.blocks.as_slice().len(); // For the proof.
         self.blocks[at].set_page(index, page);
     }
 
@@ -163,7 +163,7 @@ impl Blocks {
             ≡ lows_before self.old at index ++ lows_behind self.old at (index + 1) }
         ensures filled { AreFilled self.old → AreFilled self.new }
     {
-        let _ = self.blocks.as_slice().len();
+        let _ = self.blocks.as_slice().len(); // For the proof.
         self.blocks[at].remove(index);
         if self.blocks[at].len() == 0 {
             let _ = self.blocks.remove(at);

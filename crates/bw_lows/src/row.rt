@@ -109,7 +109,7 @@ impl Row {
             → IsRow self.old.shared.items self.old.heads.items lows
             → IsRow self.new.shared.items self.new.heads.items (insert lows at low) }
     {
-        let _ = self.heads.as_slice().len();
+        let _ = self.heads.as_slice().len(); // For the proof.
         let Some(head) = head else {
             self.heads.clear();
             return;

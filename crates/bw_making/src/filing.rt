@@ -35,7 +35,7 @@ pub fn file(making: &mut Buffer, newest: &mut Vec<Place>, page: u32, blocks: &[B
     let Ok(first) = making.put_all(blocks) else {
         unreachable!();
     };
-    let _ = newest.as_slice().len();
+    let _ = newest.as_slice().len(); // For the proof.
     if blocks.len() <= 1 {
         newest[page as usize - 1] = first;
         return;
@@ -68,7 +68,7 @@ pub fn file_delta(
     let Ok(place) = making.put_record(page, &back, item) else {
         unreachable!();
     };
-    let _ = newest.as_slice().len();
+    let _ = newest.as_slice().len(); // For the proof.
     newest[page as usize - 1] = place;
 }
 
@@ -108,7 +108,7 @@ fn set_one(newest: &mut Vec<Place>, row: Row)
     ensures len { vec_len newest.new ≤ vec_len newest.old + 1 }
     ensures capacity { vec_capacity newest.new ≡ vec_capacity newest.old }
 {
-    let _ = newest.as_slice().len();
+    let _ = newest.as_slice().len(); // For the proof.
     newest[row.page as usize - 1] = row.place;
     match row.made {
         Some(_) => newest.push_reserved(row.place),

@@ -71,7 +71,7 @@ pub fn planned_for(
     ensures refused { IfErr result (IsWantingAt leaves.now.m
         (length (result_of leaves.now.leaves item.now).pairs) (length leaves.now.leaves)) }
 {
-    let _ = item.key();
+    let _ = item.key(); // For the proof.
     let back = newest[page as usize - 1];
     let pages = leaves.count();
     let Some(leaf) = leaves.page(page) else {

@@ -106,7 +106,7 @@ fn guess_at(entries: &mut Vec<PackedEntry>, at: usize, page: u32)
     requires { at < length entries.old.items }
     ensures { entries.new.items ≡ entries.old.items }
 {
-    let _ = entries.as_slice().len();
+    let _ = entries.as_slice().len(); // For the proof.
     entries[at].direct_at(page);
 }
 

@@ -149,7 +149,7 @@ fn move_all(to: &mut Vec<Pair>, from: Pairs)
     ensures capacity { vec_capacity to.old ≤ vec_capacity to.new }
 {
     let mut from = from.into_vec();
-    let _ = from.as_slice().len();
+    let _ = from.as_slice().len(); // For the proof.
     match to.append(&mut from) {
         Ok(()) => {}
         Err(_) => unreachable!(),

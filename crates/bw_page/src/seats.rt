@@ -313,7 +313,7 @@ impl Seats {
         ensures kept { is_among (at + 1) self.old.evicted ≡ false → self.new.evicted ≡ self.old.evicted }
         ensures room { self.new.room ≡ self.old.room }
     {
-        let _ = self.seats.as_slice().len();
+        let _ = self.seats.as_slice().len(); // For the proof.
         self.seats[at] = Seat::of(leaf);
     }
 
@@ -326,7 +326,7 @@ impl Seats {
         ensures evicted { self.new.evicted ≡ self.old.evicted }
         ensures room { self.new.room ≡ self.old.room }
     {
-        let _ = self.seats.as_slice().len();
+        let _ = self.seats.as_slice().len(); // For the proof.
         mem::replace(&mut self.seats[at], Seat::of(leaf)).into_leaf()
     }
 
@@ -352,7 +352,7 @@ impl Seats {
             (find order (key_of item.now) (slice_index_or self.old.items at d).pairs)) }
         ensures unchanged { OnErr result (self.new.items ≡ self.old.items) }
     {
-        let _ = self.seats.as_slice().len();
+        let _ = self.seats.as_slice().len(); // For the proof.
         self.seats[at].change(found, item)
     }
 
@@ -389,7 +389,7 @@ impl Seats {
         ensures unchanged { OnErr result (self.new.items ≡ self.old.items) }
         ensures index_stays { OnErr result (index.new ≡ index.old) }
     {
-        let _ = self.seats.as_slice().len();
+        let _ = self.seats.as_slice().len(); // For the proof.
         self.seats[at].cut(index, m, found, item, page)
     }
 
@@ -407,7 +407,7 @@ impl Seats {
             ≡ slice_set self.old.items at (changed_at back self.old.items at d) }
         ensures evicted { self.new.evicted ≡ self.old.evicted }
     {
-        let _ = self.seats.as_slice().len();
+        let _ = self.seats.as_slice().len(); // For the proof.
         self.seats[at].take_back(found, back);
     }
 
@@ -419,7 +419,7 @@ impl Seats {
             (λ leaf. result ≡ length (block_bytes (Base leaf))) }
         ensures small { result < 2 ^ 32 }
     {
-        let _ = self.seats.as_slice().len();
+        let _ = self.seats.as_slice().len(); // For the proof.
         self.seats[at].base_length()
     }
 
@@ -431,7 +431,7 @@ impl Seats {
         ensures evicted { (p : ℕ) → is_among p self.new.evicted
             ≡ (if p == at + 1 then true else is_among p self.old.evicted) }
     {
-        let _ = self.seats.as_slice().len();
+        let _ = self.seats.as_slice().len(); // For the proof.
         self.seats[at].evict_page();
     }
 }

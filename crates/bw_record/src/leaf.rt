@@ -139,7 +139,7 @@ impl Pairs {
         requires { at < length self.old }
         ensures { self.new ≡ remove self.old at }
     {
-        let _ = self.items.as_slice().len();
+        let _ = self.items.as_slice().len(); // For the proof.
         self.row.remove(at);
         let _ = self.items.remove(at);
     }
@@ -160,7 +160,7 @@ impl Pairs {
         ensures rest { IfOk result (λ rest. rest ≡ drop at self.old) }
         ensures err { OnErr result (self.new ≡ self.old) }
     {
-        let _ = self.items.as_slice().len();
+        let _ = self.items.as_slice().len(); // For the proof.
         let rest = self.items.split_off(at)?;
         self.row.truncate(at);
         Ok(Pairs::of(rest))
@@ -175,7 +175,7 @@ impl Pairs {
         ensures kept { self.new ≡ take at self.old }
         ensures rest { result ≡ drop at self.old }
     {
-        let _ = self.items.as_slice().len();
+        let _ = self.items.as_slice().len(); // For the proof.
         let mut rest = room;
         move_last(&mut self.items, at, &mut rest);
         rest.reverse();

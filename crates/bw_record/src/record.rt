@@ -24,12 +24,12 @@ impl Record {
         match self {
             // The calls tell the proof that these lengths are lawful.
             Record::Put(key, value) => {
-                let _ = key.as_slice();
-                let _ = value.as_slice();
+                let _ = key.as_slice(); // For the proof.
+                let _ = value.as_slice(); // For the proof.
                 key
             }
             Record::Del(key) => {
-                let _ = key.as_slice();
+                let _ = key.as_slice(); // For the proof.
                 key
             }
         }

@@ -56,15 +56,15 @@ pub fn page_before(leaves: &Leaves, low: &Key) -> u32
     ensures within { (1 ≤ result) × (result ≤ length leaves.now.leaves) }
     ensures before { IsPageBefore leaves.now.leaves low.now result }
 {
-    let _ = leaves.count();
+    let _ = leaves.count(); // For the proof.
     let Some(last) = last_below(low) else {
         return 1;
     };
     match leaves.low_above(&last) {
         // That it is a key tells the proof that no low stands between the two.
         Some(next) => {
-            let _ = next.head();
-            let _ = next.as_slice();
+            let _ = next.head(); // For the proof.
+            let _ = next.as_slice(); // For the proof.
             leaves.find(&last)
         }
         None => leaves.find(&last),

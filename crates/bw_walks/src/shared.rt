@@ -82,7 +82,7 @@ fn share_home(
     ensures { OnOk result (found.new.items ≡ with_some most found.old.items
         (pairs_above key.now (home key.now leaves.now.leaves).pairs)) }
 {
-    let _ = leaves.count();
+    let _ = leaves.count(); // For the proof.
     match leaves.page(leaves.find(key)) {
         Some(leaf) => share_pairs(leaf, key, most, found),
         None => unreachable!(),
@@ -103,7 +103,7 @@ pub fn share_stretch(
     requires { leaves.now.evicted ≡ [] }
     ensures { OnOk result (IsStretch (union leaves.now.leaves) key.now most found.new.items) }
 {
-    let _ = leaves.count();
+    let _ = leaves.count(); // For the proof.
     found.clear();
     let mut from = key.copy();
     'pages: while found.len() < most {

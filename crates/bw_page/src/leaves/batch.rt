@@ -97,7 +97,7 @@ impl Leaves {
             → SomeIsSpent self.old (map T.record_of items.now) }
         ensures unchanged { OnErr result (self.new ≡ self.old) }
     {
-        let _ = self.count();
+        let _ = self.count(); // For the proof.
         let ahead = (self.read_ahead(items) % 2) as usize;
         let mut journal = Vec::with_capacity(self.leaves.allocator(), items.len().max(ahead))?;
         for item in items {
@@ -166,7 +166,7 @@ impl Leaves {
         ensures only_spent { result ≡ Err ApplyError.Spent
             → SomeIsSpent self.old (map T.record_of items.now) }
     {
-        let _ = self.count();
+        let _ = self.count(); // For the proof.
         for item in items {
             let change = item.record();
             steps.push_reserved(self.step(change)?);

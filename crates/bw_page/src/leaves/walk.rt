@@ -18,7 +18,7 @@ impl Leaves {
         requires { self.now.evicted ≡ [] }
         ensures { IsFirst (union self.now.leaves) key.now result }
     {
-        let _ = self.count();
+        let _ = self.count(); // For the proof.
         let mut from = key.copy();
         'pages: loop {
             let found = pair_from(self.home_of(&from), &from);
@@ -46,7 +46,7 @@ impl Leaves {
         requires { self.now.evicted ≡ [] }
         ensures { OnOk result (IsStretch (union self.now.leaves) key.now most found.new.items) }
     {
-        let _ = self.count();
+        let _ = self.count(); // For the proof.
         found.clear();
         let mut from = key.copy();
         'pages: while found.len() < most {
