@@ -1,8 +1,7 @@
 //! The writer of a store's versions, with the book of its batches.
 //!
 //! A batch is entered in the book before the writer takes it, so one whose publication is refused
-//! is kept, and the next publication brings it, as a batch of its own. A reader that is made later
-//! is told the book at once, and has seen nothing of it: it may be shown any board.
+//! is kept, and the next publication brings it, as a batch of its own.
 
 ghost use Rattle.std.specs.Prelude.{◌≡◌, ◌↔◌, ◌++◌, ◌∷◌, ◌<◌, ◌-◌, ◌^◌, [], Some, None, Err, IsOk, IsTrue, IfOk, OnOk, OnErr, IfErr, MatchResult, drop};
 ghost use mathlib.Core.List.{IsPrefix};
