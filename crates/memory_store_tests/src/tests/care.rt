@@ -4,14 +4,13 @@ ghost use Rattle.bw_care.specs.Views.{IsSound};
 ghost use Rattle.bw_log.specs.Views.{IsSound as IsSoundBeside};
 
 use super::boxes::{Supply, supplied};
-use super::recovering::recovered;
+use super::recovering::{found_in, recovered};
 use bw_care::{CleanFault, Cleaned, Upgraded, clean, upgrade};
 use bw_device::Segment;
 use bw_log::{Log, LogFault};
 use std::alloc::Global;
 use std::sync::Wait;
 use std::thread::Threads;
-use test_boxes::found_in;
 use test_marks::{begin, end};
 use test_refusals::{Row, Try, then, tried, wrong_row};
 use test_vectors::{

@@ -6,9 +6,18 @@ ghost use Rattle.bw_care.specs.Found.{IsRecovered};
 use bw_care::{RecoverCause, Recovered, recover};
 use bw_device::Segment;
 use std::alloc::Global;
-use test_boxes::found_in;
 use test_marks::{begin, end};
 use test_refusals::Try;
+
+/// What is recovered from boxes.
+pub(super) fn found_in(alloc: Global, boxes: Vec<Box<dyn Segment>>) -> Option<Recovered>
+    ensures { IfSome result (λ r. IsRecovered holding r) }
+{
+    match recover(alloc, boxes) {
+        Ok(found) => Some(found),
+        Err(_) => None,
+    }
+}
 
 // A mark of boxes: their leases and lengths, in order.
 fn row_of(boxes: &[Box<dyn Segment>]) -> u64 {
