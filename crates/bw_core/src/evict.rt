@@ -5,7 +5,7 @@
 //! the log, or with a range that it no longer has. It stays until the frame is appended.
 //!
 //! A record of an evicted page brings it back first. Its turn is refused as a read is, and nothing
-//! was taken then: the page may be there already, which no clause tells from before.
+//! was taken then.
 
 ghost use Rattle.std.specs.Prelude.{ℕ, ◌≡◌, ◌≤◌, ◌==◌, ◌↔◌, ◌&&◌, not, true, false, None, Some, length, if◌then◌else◌, List, IfOk, IfErr, IsErrOf, MatchOption, MatchResult, OnErr, OnOk};
 ghost use Rattle.std.specs.List.{list_any};

@@ -8,9 +8,9 @@
 //! refused finds the same group first in its ring, and may ask again.
 //!
 //! A record by itself is the common case, and nearly none splits its page: it is lent all the way
-//! down, and written where it belongs. Where its page is cut, its blocks are planned first
-//! (`plan.rt`). Several records are planned one behind the other (`groups.rt`) before the first of
-//! them changes a page.
+//! down, and written where it belongs. Where its page is cut, its blocks are planned first, by
+//! `plan`. Several records are planned one behind the other (`groups.rt`) before the first of them
+//! changes a page.
 
 ghost use Rattle.std.specs.Prelude.{◌≡◌, ◌≤◌, ◌<◌, ◌+◌, ◌-◌, ◌∷◌, [], Some, None, false, length, map, IsTrue, IfSome, IfNone, IfOk, IfErr, OnOk, OnErr, MatchResult};
 ghost use Rattle.std.specs.List.{AllByRecursion};
