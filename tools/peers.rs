@@ -1,10 +1,11 @@
 //! Other stores under the load of `bw_bench`: as many keys in the same scattered order, batches of puts, no sync. `make peers` builds it with
 //! rustc, over the C libraries of LMDB and LevelDB.
 //!
-//!     peers FOLDER KEYS [--shared N] [--value N] [--batch N] [--readers N]
+//!     peers FOLDER KEYS [--shared N] [--value N] [--batch N] [--readers N] [--synced]
 //!
 //! Keys share so many bytes and have 8 of their own, 0 where it is not said; values have 100 bytes, batches 64 puts. With `--readers` only LMDB
-//! over a writable map is asked, with so many threads that look keys up while it is written to.
+//! over a writable map is asked, with so many threads that look keys up while it is written to; with `--synced` only LevelDB, which then syncs its
+//! log behind each batch.
 
 use std::collections::BTreeMap;
 use std::ffi::{c_char, c_int, c_uint, c_void, CString};
@@ -188,6 +189,7 @@ extern "C" {
     fn leveldb_options_set_create_if_missing(options: *mut c_void, to: u8);
     fn leveldb_open(options: *mut c_void, name: *const c_char, error: *mut *mut c_char) -> *mut c_void;
     fn leveldb_writeoptions_create() -> *mut c_void;
+    fn leveldb_writeoptions_set_sync(options: *mut c_void, to: u8);
     fn leveldb_readoptions_create() -> *mut c_void;
     fn leveldb_writebatch_create() -> *mut c_void;
     fn leveldb_writebatch_clear(batch: *mut c_void);
@@ -211,7 +213,7 @@ struct Level {
 }
 
 impl Level {
-    fn open(folder: &str) -> Level {
+    fn open(folder: &str, is_synced: bool) -> Level {
         let path = CString::new(folder).expect("a path");
         let mut error = null_mut();
         unsafe {
@@ -219,7 +221,9 @@ impl Level {
             leveldb_options_set_create_if_missing(options, 1);
             let db = leveldb_open(options, path.as_ptr(), &mut error);
             assert!(error.is_null());
-            Level { db, batch: leveldb_writebatch_create(), writes: leveldb_writeoptions_create(), reads: leveldb_readoptions_create() }
+            let writes = leveldb_writeoptions_create();
+            leveldb_writeoptions_set_sync(writes, u8::from(is_synced));
+            Level { db, batch: leveldb_writebatch_create(), writes, reads: leveldb_readoptions_create() }
         }
     }
 }
@@ -374,8 +378,12 @@ fn main() {
         measure_beside(readers, &mut Lmdb::open(&format!("{folder}/beside"), WRITE_MAP), shape);
         return;
     }
+    if words.iter().any(|word| word == "--synced") {
+        measure("LevelDB, synced", &mut Level::open(&format!("{folder}/synced"), true), shape);
+        return;
+    }
     measure("a BTreeMap", &mut Map(BTreeMap::new()), shape);
     measure("LMDB", &mut Lmdb::open(&format!("{folder}/lmdb"), 0), shape);
     measure("LMDB, a writable map", &mut Lmdb::open(&format!("{folder}/map"), WRITE_MAP), shape);
-    measure("LevelDB", &mut Level::open(&format!("{folder}/level")), shape);
+    measure("LevelDB", &mut Level::open(&format!("{folder}/level"), false), shape);
 }

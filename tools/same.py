@@ -10,7 +10,7 @@ import sys
 
 EXAMPLES = {
     "README.md": ["crates/first/src/main.rt"],
-    "docs/INSIDE.md": ["crates/bw_file/src/segment.rt", "crates/bw_versions/src/writer.rt", "crates/bw_codec/src/decoder.rt"],
+    "docs/INSIDE.md": ["crates/bw_file/src/segment.rt", "crates/bw_versions/src/writer.rt", "crates/bw_codec/src/check.rt"],
 }
 PAGES = ["README.md"] + ["docs/%s.md" % name for name in ("USING", "FORMAT", "PROMISES", "INSIDE", "DECISIONS", "TESTING", "MEASURED")]
 # What a run or a reader of a page makes.

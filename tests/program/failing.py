@@ -21,10 +21,10 @@ import subprocess
 import sys
 import tempfile
 
-HERE = os.path.dirname(os.path.abspath(__file__))
-PROGRAM = os.path.abspath(sys.argv[1]) if len(sys.argv) > 1 else os.path.join(HERE, "..", "..", "crates", "bwlog", "out", "bwlog")
+from checks import BUILT, FAST, held_in, shim_of
+
+PROGRAM = os.path.abspath(sys.argv[1]) if len(sys.argv) > 1 else BUILT
 EVERY = int(sys.argv[2]) if len(sys.argv) > 2 else 1
-FAST = "/dev/shm" if os.path.isdir("/dev/shm") else None
 LIMIT = 60
 
 
@@ -45,14 +45,6 @@ def beside(shim, words, text, folder, number):
         made = int.from_bytes(cell.read(8), sys.byteorder)
     os.remove(count)
     return answer, made
-
-
-def bytes_of(folder):
-    found = {}
-    for name in sorted(os.listdir(folder)):
-        with open(os.path.join(folder, name), "rb") as file:
-            found[name] = file.read()
-    return found
 
 
 def pairs_of(folder):
@@ -78,10 +70,10 @@ class Reads:
                 byte = file.read(1)
                 file.seek(60)
                 file.write(bytes([byte[0] ^ 1]))
-        self.before = bytes_of(os.path.join(folder, "from"))
+        self.before = held_in(os.path.join(folder, "from"))
 
     def left_wrong(self, folder, answer, whole):
-        if bytes_of(os.path.join(folder, "from")) != self.before:
+        if held_in(os.path.join(folder, "from")) != self.before:
             return "the folder that is read has changed"
         new = os.path.join(folder, "to")
         if not os.path.exists(new):
@@ -216,8 +208,7 @@ def made_folder(outer):
 def main():
     wrong = count = 0
     with tempfile.TemporaryDirectory(dir=FAST) as outer:
-        shim = os.path.join(outer, "failing.so")
-        subprocess.run(["cc", "-O2", "-shared", "-fPIC", "-o", shim, os.path.join(HERE, "..", "..", "tools", "failing.c")], check=True)
+        shim = shim_of("failing", outer)
         made = made_folder(outer)
         with concurrent.futures.ThreadPoolExecutor(min(4, os.cpu_count() or 1)) as pool:
             for mode in MODES:

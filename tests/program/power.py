@@ -26,14 +26,10 @@ import subprocess
 import sys
 import tempfile
 
-from checks import Wrong, ask, notes_of
+from checks import BUILT as PROGRAM, FAST, Wrong, ask, held_in, notes_of, shim_of, write
 from hostile.reader import log_of
 from hostile.upgrades import a_page_a_segment
 
-HERE = os.path.dirname(os.path.abspath(__file__))
-PROGRAM = os.path.join(HERE, "..", "..", "crates", "bwlog", "out", "bwlog")
-SOURCE = os.path.join(HERE, "..", "..", "tools", "watch.c")
-FAST = "/dev/shm" if os.path.isdir("/dev/shm") else None
 FOLDERS = int(sys.argv[1]) if len(sys.argv) > 1 else 10000
 SEED = int(sys.argv[2]) if len(sys.argv) > 2 else 1
 OPTIONS = ["--places", "64", "--m", "4", "--segments", "6", "--capacity", "65560"]
@@ -170,14 +166,6 @@ class Disk:
             yield {**self.stands, name: held}, number or self.last
 
 
-def write(folder, files):
-    shutil.rmtree(folder, ignore_errors=True)
-    os.makedirs(folder)
-    for name, data in files.items():
-        with open(os.path.join(folder, name), "wb") as file:
-            file.write(data)
-
-
 def look(folder, last, life):
     """Whether the folder holds what it has to hold up to this frame."""
     ran = subprocess.run([PROGRAM, "scan", "--dir", folder], capture_output=True, text=True, check=False)
@@ -279,14 +267,6 @@ class Watched:
         ask(ran.returncode in statuses, words, "ended with status", ran.returncode, ran.stdout[-300:], ran.stderr)
         self.status, self.printed = ran.returncode, ran.stdout.splitlines()
         self.notes = notes_of(log) if os.path.exists(log) else []
-
-
-def held_in(folder):
-    found = {}
-    for name in sorted(os.listdir(folder)):
-        with open(os.path.join(folder, name), "rb") as file:
-            found[name] = file.read()
-    return found
 
 
 def states(disk, notes, draw):
@@ -441,8 +421,7 @@ def main():
     draw = random.Random(SEED)
     seen, runs = 0, 0
     with tempfile.TemporaryDirectory(dir=FAST, prefix="bwlog-power-") as room:
-        shim = os.path.join(room, "watch.so")
-        subprocess.run(["cc", "-O2", "-shared", "-fPIC", "-o", shim, SOURCE], check=True)
+        shim = shim_of("watch", room)
         end_again(shim, room)
         try:
             beside = restores(shim, room, draw) + by_table(shim, room, draw)

@@ -20,12 +20,8 @@ import subprocess
 import sys
 import tempfile
 
-from checks import Wrong, ask, notes_of
+from checks import BUILT as PROGRAM, FAST, Wrong, ask, held_in, notes_of, shim_of, write
 
-HERE = os.path.dirname(os.path.abspath(__file__))
-PROGRAM = os.path.join(HERE, "..", "..", "crates", "bwlog", "out", "bwlog")
-SOURCE = os.path.join(HERE, "..", "..", "tools", "watch.c")
-FAST = "/dev/shm" if os.path.isdir("/dev/shm") else None
 STATES = int(sys.argv[1]) if len(sys.argv) > 1 else 20000
 SEED = int(sys.argv[2]) if len(sys.argv) > 2 else 1
 OPTIONS = ["--places", "64", "--m", "4", "--segments", "3", "--capacity", "65560"]
@@ -169,14 +165,6 @@ class Disk:
         return {name: (self.sums if name.endswith(".sum") else self.segment)(name, draw) for name in self.stands}
 
 
-def write(folder, files):
-    shutil.rmtree(folder, ignore_errors=True)
-    os.makedirs(folder)
-    for name, data in files.items():
-        with open(os.path.join(folder, name), "wb") as file:
-            file.write(data)
-
-
 def segments_of(files):
     return [name for name in sorted(files) if name.endswith(".bw")]
 
@@ -217,14 +205,6 @@ def states_of(notes, disk, draw, many, image):
 # ---- changed bits
 
 
-def held_in(folder):
-    found = {}
-    for name in sorted(os.listdir(folder)):
-        with open(os.path.join(folder, name), "rb") as file:
-            found[name] = file.read()
-    return found
-
-
 def with_bit(data, bit):
     return data[: bit // 8] + bytes([data[bit // 8] ^ 1 << bit % 8]) + data[bit // 8 + 1 :]
 
@@ -255,21 +235,20 @@ def main():
     ask(digest(b"abc") == 0xC03BC3A0042630F2, "SipHash-1-3 is another")
     draw, seen, bits, runs = random.Random(SEED), 0, 0, 0
     with tempfile.TemporaryDirectory(dir=FAST, prefix="bwlog-sums-") as room:
-        shim = os.path.join(room, "watch.so")
-        subprocess.run(["cc", "-O2", "-shared", "-fPIC", "-o", shim, SOURCE], check=True)
-        while seen < STATES:
-            folder, image = os.path.join(room, "run"), os.path.join(room, "left")
-            shutil.rmtree(folder, ignore_errors=True)
-            os.makedirs(folder)
-            try:
+        shim = shim_of("watch", room)
+        folder, image = os.path.join(room, "run"), os.path.join(room, "left")
+        try:
+            while seen < STATES:
+                shutil.rmtree(folder, ignore_errors=True)
+                os.makedirs(folder)
                 disk = Disk({})
                 for _ in range(2):
                     seen += states_of(run(shim, room, folder, draw), disk, draw, 20, image)
                 bits += flipped(held_in(folder), image, draw)
-            except Wrong as wrong:
-                print("seed %d, script %d: %s" % (SEED, runs, wrong))
-                return 1
-            runs += 1
+                runs += 1
+        except Wrong as wrong:
+            print("seed %d, script %d: %s" % (SEED, runs, wrong))
+            return 1
     print("%d folders of %d scripts: none is damaged; of %d changed bits each was told, or changed nothing" % (seen, runs, bits))
     return 0
 

@@ -8,7 +8,7 @@ use crate::bench::Bench;
 use crate::shape::Shape;
 use crate::stop::Stop;
 use bw_codec::{Key, Pair, Value};
-use bw_store::Store;
+use bw_store::{Store, StoreFault};
 
 /// How the pairs of a stretch are taken.
 #[derive(Clone, Copy)]
@@ -97,53 +97,29 @@ fn bytes_of_shared(pairs: &[Pair]) -> u64 {
     bytes
 }
 
-/// How many bytes the value of the first pair from a key on has.
-fn next_from(bench: &Bench, store: &mut Store, from: &Key) -> Option<u64>
+/// How many bytes the values of a stretch have, which begins at a key.
+fn taken(store: &mut Store, walk: Walk, from: &Key, found: &mut Found) -> Result<u64, StoreFault>
     requires { IsSound store.old holding }
     ensures { Keeps store.old store.new holding }
 {
-    match store.next_at(from) {
-        Ok(Some((_, value))) => Some(value.as_slice().len() as u64),
-        Ok(None) => Some(0),
-        Err(fault) => bench.refused(fault),
+    let most = walk.most as usize;
+    match walk.way {
+        Way::PairByPair => match store.next_at(from)? {
+            Some((_, value)) => Ok(value.as_slice().len() as u64),
+            None => Ok(0),
+        },
+        Way::Copied => {
+            store.scan(from, most, &mut found.copied)?;
+            Ok(bytes_of_copies(&found.copied))
+        }
+        Way::Shared => {
+            store.scan_shared(from, most, &mut found.shared)?;
+            Ok(bytes_of_shared(&found.shared))
+        }
     }
 }
 
-/// How many bytes the values of so many pairs have, which are copied.
-fn copied_from(
-    bench: &Bench,
-    store: &mut Store,
-    from: &Key,
-    most: usize,
-    found: &mut Found,
-) -> Option<u64>
-    requires { IsSound store.old holding }
-    ensures { Keeps store.old store.new holding }
-{
-    match store.scan(from, most, &mut found.copied) {
-        Ok(()) => Some(bytes_of_copies(&found.copied)),
-        Err(fault) => bench.refused(fault),
-    }
-}
-
-/// The same of pairs that are shared.
-fn shared_from(
-    bench: &Bench,
-    store: &mut Store,
-    from: &Key,
-    most: usize,
-    found: &mut Found,
-) -> Option<u64>
-    requires { IsSound store.old holding }
-    ensures { Keeps store.old store.new holding }
-{
-    match store.scan_shared(from, most, &mut found.shared) {
-        Ok(()) => Some(bytes_of_shared(&found.shared)),
-        Err(fault) => bench.refused(fault),
-    }
-}
-
-/// The same of a stretch of a walk.
+/// The same, and where that is refused, it is told.
 fn stretch(
     bench: &Bench,
     store: &mut Store,
@@ -154,10 +130,9 @@ fn stretch(
     requires { IsSound store.old holding }
     ensures { Keeps store.old store.new holding }
 {
-    match walk.way {
-        Way::PairByPair => next_from(bench, store, from),
-        Way::Copied => copied_from(bench, store, from, walk.most as usize, found),
-        Way::Shared => shared_from(bench, store, from, walk.most as usize, found),
+    match taken(store, walk, from, found) {
+        Ok(bytes) => Some(bytes),
+        Err(fault) => bench.refused(fault),
     }
 }
 

@@ -1,14 +1,17 @@
 -- Frames read one after the other behind a header.
 
-use Rattle.std.proofs.Common.{◌≡◌, ℕ, zero, suc, ◌+◌, ◌-◌, ◌^◌, ◌<◌, ◌≤◌, Option, Some, None, Result, Ok, Err, IfOk, List, [], ◌∷◌, ◌++◌, length}
+use Rattle.std.proofs.Common.{◌≡◌, ℕ, zero, suc, ◌+◌, ◌-◌, ◌^◌, ◌<◌, ◌≤◌, Option, Some, None, Result, Ok, Err, IfOk, IfErr, List, [], ◌∷◌, ◌++◌, length}
 use Rattle.std.proofs.Common.{take, drop, map, refl, sym, ap, subst, ◌∙◌, append_assoc, append-nil, arith, length-append, length-drop}
-use Rattle.std.proofs.lemmas.List.{drop_at, drop-drop, map-append, take_all}
+use Rattle.std.proofs.lemmas.List.{drop_at, take_at, drop-drop, map-append, take_all}
 use Rattle.std.specs.List.{flat_map, AllByRecursion}
 use Rattle.std.proofs.lemmas.Grind.{flat_map-append}
 use Rattle.bw_log.proofs.Reread.{all-push}
 use Rattle.bw_record.specs.Keys.{IsBytes}
 use Rattle.bw_codec.specs.Grammar.{frame_bytes_in, IsFrameIn, IsTailIn, IsFront}
 use Rattle.bw_codec.specs.Reading.{Says, Gives, front_at}
+use Rattle.bw_codec.specs.Checking.{seen_of, IsSeen}
+use Rattle.bw_codec.specs.declared.check.FrameSeen.{FrameSeen}
+use Rattle.bw_codec.specs.declared.check.FrameSeen.TheVariants as seen
 use Rattle.bw_codec.specs.declared.block.Frame.{Frame}
 use Rattle.bw_codec.specs.declared.block.FrameRead.{FrameRead}
 use Rattle.bw_codec.specs.declared.block.Header.{Header}
@@ -21,6 +24,7 @@ use Rattle.bw_log.specs.Segments.{frames_at, entry_of, entries_from}
 use Rattle.bw_log.specs.declared.places.FrameAt.{FrameAt}
 use Rattle.bw_log.proofs.Reread.{length-frame_in}
 use Rattle.bw_care.specs.Scanning.{rest_of, fault_by}
+use Rattle.bw_care.specs.Spelling.{IsSpelling}
 use Rattle.bw_log.proofs.Adding.{entries_more}
 
 -- ---- what `read_frame` answers is what reading gives
@@ -40,6 +44,52 @@ pub front_told : (v m f : ℕ) (bytes : List ℕ) (result : Result FrameRead Cod
 front_told v m f bytes (Ok read) small limit fits found only = is_front v m f bytes read small limit found
 front_told v m f bytes (Err NoMemory) small limit fits found only = tt
 front_told v m f bytes (Err BadBytes) small limit fits found only = nothing_by v m f bytes (front_at v m f bytes) refl small fits only
+
+-- ---- what `check_frame` answers is what reading gives, in short
+
+abbrev pub OnlySeen : ℕ → ℕ → ℕ → List ℕ → Result FrameSeen CodecFault → Type 0
+OnlySeen v m f bytes result = (read : FrameRead) → IsFront v m f bytes read → result ≡ Ok (seen_of read)
+
+unseen_by : (v m f : ℕ) (bytes : List ℕ) (fault : CodecFault) (o : Option FrameRead) → front_at v m f bytes ≡ o → m < 2 ^ 16 → IsBytes bytes
+    → OnlySeen v m f bytes (Err fault) → o ≡ None
+unseen_by v m f bytes fault None is small fits only = refl
+unseen_by v m f bytes fault (Some read) is small fits only = let no = only read (front_is v m f bytes read small fits is) in cc
+
+pub unseen : (v m f : ℕ) (bytes : List ℕ) (result : Result FrameSeen CodecFault) → m < 2 ^ 16 → IsBytes bytes
+    → OnlySeen v m f bytes result → IfErr result (λ fault. front_at v m f bytes ≡ None)
+unseen v m f bytes (Ok told) small fits only = tt
+unseen v m f bytes (Err fault) small fits only = unseen_by v m f bytes fault (front_at v m f bytes) refl small fits only
+
+abbrev number_in : FrameSeen → ℕ
+number_in (seen.Whole number used) = number
+number_in seen.Tail = 0
+
+abbrev used_in : FrameSeen → ℕ
+used_in (seen.Whole number used) = used
+used_in seen.Tail = 0
+
+-- the frame that was told
+pub record IsWhole (v m f : ℕ) (bytes : List ℕ) (number used : ℕ) : Type 0 where
+  pub frame : Frame
+  pub number_is : frame.number ≡ number
+  pub there : IsFront v m f bytes (Whole frame used)
+
+whole_by : (v m f : ℕ) (bytes : List ℕ) (told : FrameSeen) (number used : ℕ) (read : FrameRead) → IsFront v m f bytes read → told ≡ seen_of read
+    → told ≡ seen.Whole number used → IsWhole v m f bytes number used
+whole_by v m f bytes told number used (Whole frame len) there is same =
+    let one = sym is ∙ same in
+    record { frame = frame; number_is = ap number_in one; there = subst (λ (n : ℕ). IsFront v m f bytes (Whole frame n)) (ap used_in one) there }
+whole_by v m f bytes told number used Tail there is same = let no = sym is ∙ same in cc
+
+tail_by : (v m f : ℕ) (bytes : List ℕ) (told : FrameSeen) (read : FrameRead) → IsFront v m f bytes read → told ≡ seen_of read
+    → told ≡ seen.Tail → IsFront v m f bytes Tail
+tail_by v m f bytes told (Whole frame len) there is same = let no = sym is ∙ same in cc
+tail_by v m f bytes told Tail there is same = there
+
+-- what is there is no fault
+pub never_bad : {X : Type 0} (fault : CodecFault) (x : X) → fault ≡ BadBytes → Says fault (Some x) → ⊥
+never_bad NoMemory x bad says = cc
+never_bad BadBytes x bad says = cc
 
 -- ---- steps
 
@@ -207,6 +257,51 @@ pub there_from : (k : Header) (bytes : List ℕ) (at : ℕ) (read again : FrameR
 there_from k bytes at read again there same =
     subst (λ (b : List ℕ). IsFront k.version k.m k.f b again) (from_here bytes at)
     (subst (IsFront k.version k.m k.f (take (length bytes - at) (drop at bytes))) same there)
+
+-- the same, of what was told in short
+pub whole_from : (k : Header) (bytes : List ℕ) (at : ℕ) (told : FrameSeen) (number used : ℕ)
+    → IsSeen k.version k.m k.f (take (length bytes - at) (drop at bytes)) told → told ≡ seen.Whole number used
+    → IsWhole k.version k.m k.f (drop at bytes) number used
+whole_from k bytes at told number used s same =
+    subst (λ (b : List ℕ). IsWhole k.version k.m k.f b number used) (from_here bytes at)
+    (whole_by k.version k.m k.f (take (length bytes - at) (drop at bytes)) told number used s.read s.there s.is same)
+
+pub tail_from : (k : Header) (bytes : List ℕ) (at : ℕ) (told : FrameSeen)
+    → IsSeen k.version k.m k.f (take (length bytes - at) (drop at bytes)) told → told ≡ seen.Tail
+    → IsFront k.version k.m k.f (drop at bytes) Tail
+tail_from k bytes at told s same =
+    subst (λ (b : List ℕ). IsFront k.version k.m k.f b Tail) (from_here bytes at)
+    (tail_by k.version k.m k.f (take (length bytes - at) (drop at bytes)) told s.read s.there s.is same)
+
+pub unseen_from : (k : Header) (bytes : List ℕ) (at : ℕ) → front_at k.version k.m k.f (take (length bytes - at) (drop at bytes)) ≡ None
+    → front_at k.version k.m k.f (drop at bytes) ≡ None
+unseen_from k bytes at none = ap (front_at k.version k.m k.f) (sym (from_here bytes at)) ∙ none
+
+-- the bytes of the frame that was told
+pub spelled_from : (k : Header) (bytes : List ℕ) (at number used : ℕ) (w : IsWhole k.version k.m k.f (drop at bytes) number used) → k.m < 2 ^ 16
+    → IsSpelling k.version k.m k.f w.frame (take (at + used - at) (drop at bytes))
+spelled_from k bytes at number used w small =
+    let n : at + used - at ≡ used = omega arith in
+    record {
+      small = small;
+      law = w.there.0;
+      parts = ap (λ (i : ℕ). take i (drop at bytes)) n ∙ ap (λ (b : List ℕ). take used b) w.there.2
+          ∙ take_at (frame_bytes_in k.version w.frame) w.there.1 used (sym w.there.3);
+    }
+
+pub len_from : (k : Header) (bytes : List ℕ) (at number used : ℕ) (w : IsWhole k.version k.m k.f (drop at bytes) number used) → k.m < 2 ^ 16
+    → length (take (at + used - at) (drop at bytes)) ≡ used
+len_from k bytes at number used w small =
+    ap (λ (b : List ℕ). length b) (spelled_from k bytes at number used w small).parts ∙ sym w.there.3
+
+-- and its line
+pub line_from : (k : Header) (bytes : List ℕ) (at number used : ℕ) (line : FrameAt) (w : IsWhole k.version k.m k.f (drop at bytes) number used) → k.m < 2 ^ 16
+    → line ≡ record { number = number; segment = 0; at = at; len = length (take (at + used - at) (drop at bytes)); starts = starts_of k.version w.frame }
+    → line ≡ record { number = w.frame.number; segment = 0; at = at; len = used; starts = starts_of k.version w.frame }
+line_from k bytes at number used line w small is =
+    let len = len_from k bytes at number used w small in
+    let same = sym w.number_is in
+    is ∙ (λ i. record { number = same i; segment = 0; at = at; len = len i; starts = starts_of k.version w.frame })
 
 pub none_from : (k : Header) (bytes : List ℕ) (at : ℕ) (fault : CodecFault) → Says fault (front_at k.version k.m k.f (take (length bytes - at) (drop at bytes)))
     → fault ≡ BadBytes → front_at k.version k.m k.f (drop at bytes) ≡ None

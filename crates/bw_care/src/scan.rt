@@ -6,15 +6,21 @@
 //! refused after each loss of power. No beginning of a lawful frame is a whole one or begins
 //! another, so the bytes alone decide.
 
-ghost use Rattle.std.specs.Prelude.{◌≡◌, ◌≤◌, ◌<◌, ◌^◌, Some, IfOk, IfErr, Result, Ok, Err, length, drop, map, slice_get, OnOk, IfSome};
+ghost use Rattle.std.specs.Prelude.{◌≡◌, ◌≤◌, ◌<◌, ◌^◌, ℕ, Some, None, IfOk, IfErr, Result, Ok, Err, length, drop, map, slice_get, OnOk, IfSome};
 ghost use Rattle.bw_codec.specs.Grammar.{IsFront};
+ghost use Rattle.bw_codec.specs.Checking.{IsSeen};
 ghost use Rattle.bw_codec.specs.Reading.{Gives, front_at};
+ghost use Rattle.bw_codec.specs.declared.block.Frame.{Frame};
+ghost use Rattle.bw_log.specs.Starts.{starts_of};
 ghost use Rattle.bw_care.specs.Scanning.{fault_behind, fault_in, FaultIs};
 ghost use Rattle.bw_care.specs.Scanned.{IsScan, AreScans};
 ghost use Rattle.bw_care.specs.Behind.{IsBehind};
+ghost use Rattle.bw_care.specs.Spelling.{IsSpelling};
 ghost use Rattle.bw_care.specs.Passing.{ReadStops, PassStops};
 
-use bw_codec::{CodecFault, FrameRead, Header, HeaderRead, read_frame, read_header};
+use bw_codec::{
+    CodecFault, FrameRead, FrameSeen, Header, HeaderRead, check_frame, read_frame, read_header,
+};
 use bw_device::{Segment, failures_of, lease_of, len_of, read_from};
 use bw_lines::RecoverCause;
 use bw_log::{FrameAt, Starts};
@@ -87,6 +93,53 @@ pub(crate) fn front(
     read_frame(alloc, bytes, &header)
 }
 
+/// The same in short: nothing is made of the frame, and no memory is taken.
+fn seen(version: u16, m: u16, f: u32, bytes: &[u8]) -> Result<FrameSeen, CodecFault>
+    ensures found { IfOk result (IsSeen version m f bytes.now) }
+    ensures none { IfErr result (λ _. front_at version m f bytes.now ≡ None) }
+{
+    let header = Header {
+        version,
+        number: 1,
+        m,
+        f,
+    };
+    check_frame(bytes, &header)
+}
+
+/// A whole frame with this number, which these bytes are, at this place of segment 0.
+fn line_of(
+    alloc: Global,
+    version: u16,
+    number: u64,
+    at: usize,
+    bytes: &[u8],
+) -> Result<FrameAt, ScanFault>
+    requires short { length bytes.now < 2 ^ 32 }
+    requires there { (m f : ℕ) × (frame : Frame) × IsSpelling version m f frame bytes.now }
+    ensures line { (m f : ℕ) (frame : Frame) → IsSpelling version m f frame bytes.now
+        → IfOk result (λ line. line ≡ record {
+          number = number;
+          segment = 0;
+          at = at;
+          len = length bytes.now;
+          starts = starts_of version frame;
+        }) }
+    ensures fault { IfErr result (λ fault. fault ≡ ScanFault.NoMemory) }
+{
+    match Starts::of_found(alloc, version, bytes) {
+        Ok(starts) => Ok(FrameAt {
+            number,
+            segment: 0,
+            at: at as u64,
+            len: bytes.len() as u32,
+            starts,
+        }),
+        Err(CodecFault::NoMemory) => Err(ScanFault::NoMemory),
+        Err(CodecFault::BadBytes) => unreachable!(),
+    }
+}
+
 /// All whole frames behind this header of a segment. It costs what the bytes do.
 pub fn read_behind(alloc: Global, bytes: &[u8], header: Header) -> Result<Behind, ScanFault>
     requires { 24 ≤ length bytes.now }
@@ -96,25 +149,19 @@ pub fn read_behind(alloc: Global, bytes: &[u8], header: Header) -> Result<Behind
     let mut lines = Vec::new(alloc);
     let mut at = 24;
     'frames: loop {
-        match front(alloc, &bytes[at..], header.version, header.m, header.f) {
-            Ok(FrameRead::Whole(frame, used)) => {
-                lines.push(FrameAt {
-                    number: frame.number,
-                    segment: 0,
-                    at: at as u64,
-                    len: used as u32,
-                    starts: Starts::of_found(alloc, header.version, &frame),
-                })?;
+        match seen(header.version, header.m, header.f, &bytes[at..]) {
+            Ok(FrameSeen::Whole(number, used)) => {
+                let frame = &bytes[at..at + used];
+                lines.push(line_of(alloc, header.version, number, at, frame)?)?;
                 at += used;
             }
-            Ok(FrameRead::Tail) => {
+            Ok(FrameSeen::Tail) => {
                 return Ok(Behind {
                     lines,
                     tail: bytes.len() - at,
                 });
             }
-            Err(CodecFault::NoMemory) => return Err(ScanFault::NoMemory),
-            Err(CodecFault::BadBytes) => return Err(ScanFault::BadBytes(at as u64)),
+            Err(_) => return Err(ScanFault::BadBytes(at as u64)),
         }
     }
 }

@@ -9,6 +9,7 @@ pub mod Lengths
 pub mod Sizing
 pub mod FirstBlock
 pub mod Stepping
+pub mod Checked
 pub mod Vectors
 pub mod Wider
 pub mod Versions

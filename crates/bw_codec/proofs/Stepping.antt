@@ -29,6 +29,7 @@ use Rattle.bw_codec.specs.declared.outline.Outline.{Outline}
 use Rattle.bw_codec.proofs.Format.{found, again_on, number_format, number_reads, run_again, IsValue, value_sizes}
 use Rattle.bw_codec.proofs.FrontFormat.{length-number}
 use Rattle.bw_codec.proofs.BlockFormat.{page_format, place_format}
+use Rattle.bw_codec.proofs.Many.{fault_goes_on}
 
 -- ---- loops
 
@@ -52,6 +53,18 @@ steps_stop one count i bytes h e =
 pub steps_end : (one : List ℕ → Option (List ℕ)) (count : ℕ) (bytes : List ℕ) → many_after one (count - count) bytes ≡ Some bytes
 unfolding many_after
 steps_end one count bytes = let n : count - count ≡ 0 = omega arith in ap (λ k. many_after one k bytes) n
+
+-- a loop that met a fault, which is the whole's
+pub steps_fault : (one : List ℕ → Option (List ℕ)) (count i : ℕ) (bytes rest : List ℕ) (fault : CodecFault) → i < count
+    → many_after one (count - i) rest ≡ many_after one count bytes → Says fault (one rest) → Says fault (many_after one count bytes)
+steps_fault one count i bytes rest fault h so_far says =
+    fault_goes_on fault (one rest) (many_after one count bytes) (λ none. sym so_far ∙ steps_stop one count i rest h none) says
+
+-- a loop that ended
+pub steps_done : (one : List ℕ → Option (List ℕ)) (count i : ℕ) (bytes rest : List ℕ) → i ≡ count
+    → many_after one (count - i) rest ≡ many_after one count bytes → many_after one count bytes ≡ Some rest
+steps_done one count i bytes rest all so_far =
+    sym so_far ∙ ap (λ n. many_after one (count - n) rest) all ∙ steps_end one count rest
 
 -- ---- parts
 

@@ -1,5 +1,6 @@
 -- what callers see, in reading order
 pub mod Bytes
+pub mod Checking
 pub mod Grammar
 pub mod Touch
 pub mod Outline

@@ -122,14 +122,14 @@ fn some_blocks(
 }
 
 /// Whether bytes agree with a word as far as both go.
-fn begins_as(bytes: &[u8], word: &[u8]) -> bool
+pub(crate) fn begins_as(bytes: &[u8], word: &[u8]) -> bool
     ensures { result ≡ agrees bytes.now word.now }
 {
     word.iter().zip(bytes).all(|(a, b)| *a == *b)
 }
 
 #[tactic(auto, unfolding(crate::specs::Reading::head_at))]
-fn head_of(version: u16, limit: u32, bytes: &[u8]) -> Result<(Head, &[u8]), CodecFault>
+pub(crate) fn head_of(version: u16, limit: u32, bytes: &[u8]) -> Result<(Head, &[u8]), CodecFault>
     requires { 20 ≤ length bytes.now }
     ensures gives { Gives (λ x. (x.0, x.1.now)) result (head_at version limit bytes.now) }
     ensures bad { IfErr result (λ fault. fault ≡ CodecFault.BadBytes) }

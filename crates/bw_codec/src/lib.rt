@@ -17,6 +17,7 @@
 #![tactic(auto)]
 
 mod block;
+mod check;
 mod decoder;
 mod encoder;
 mod fault;
@@ -30,6 +31,7 @@ pub use block::{Block, Blocks, Frame, FrameRead, Head, Header, HeaderRead, Place
 pub use bw_record::{
     Key, Leaf, LengthError, Low, Ops, Packed, Pair, Pairs, Record, Value, ascend, is_before,
 };
+pub use check::{FrameSeen, check_frame};
 pub use decoder::{read_block, read_frame, read_header};
 pub use encoder::{
     base_length, block_length, encode_block, encode_frame_head, encode_header, frame_cells,

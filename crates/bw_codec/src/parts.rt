@@ -117,14 +117,24 @@ pub(crate) fn value_at(version: u16, bytes: &[u8]) -> Result<(&[u8], &[u8]), Cod
     Ok((&rest[..size], &rest[size..]))
 }
 
+/// A low key, which may be empty.
 #[tactic(auto, unfolding(crate::specs::Reading::text_at))]
-pub(crate) fn low_of(alloc: Global, version: u16, bytes: &[u8]) -> Result<(Low, &[u8]), CodecFault>
-    ensures { Gives (λ x. (x.0, x.1.now)) result (text_at 0 (key_limit version) bytes.now) }
+pub(crate) fn low_at(version: u16, bytes: &[u8]) -> Result<(&[u8], &[u8]), CodecFault>
+    ensures gives { Gives (λ x. (x.0.now, x.1.now)) result
+        (text_at 0 (key_limit version) bytes.now) }
+    ensures bad { IfErr result (λ fault. fault ≡ CodecFault.BadBytes) }
 {
     let (run, rest) = run_of(bytes)?;
     if key_limit(version) < run.len() {
         return Err(CodecFault::BadBytes);
     }
+    Ok((run, rest))
+}
+
+pub(crate) fn low_of(alloc: Global, version: u16, bytes: &[u8]) -> Result<(Low, &[u8]), CodecFault>
+    ensures { Gives (λ x. (x.0, x.1.now)) result (text_at 0 (key_limit version) bytes.now) }
+{
+    let (run, rest) = low_at(version, bytes)?;
     let low = Vec::from_slice(alloc, run)?;
     Ok((Low::of(low), rest))
 }
@@ -205,7 +215,23 @@ pub(crate) fn some_pairs(
     Ok((Pairs::of(items), rest))
 }
 
+/// So many records, one behind the other. One by itself takes no list.
 pub(crate) fn some_ops(
+    alloc: Global,
+    version: u16,
+    count: u16,
+    bytes: &[u8],
+) -> Result<(Ops, &[u8]), CodecFault>
+    ensures { Gives (λ x. (x.0, x.1.now)) result (many_at (op_at version) count bytes.now) }
+{
+    if count == 1 {
+        let (op, rest) = op_of(alloc, version, bytes)?;
+        return Ok((Ops::single(op), rest));
+    }
+    several_ops(alloc, version, count, bytes)
+}
+
+fn several_ops(
     alloc: Global,
     version: u16,
     count: u16,

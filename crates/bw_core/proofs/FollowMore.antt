@@ -185,10 +185,6 @@ follows_read old new r =
     } in
     follows_then old (with_log old new.log) new step (follows_as (with_log old new.log) new r.is))
 
--- a read behind steps that left all as it was
-pub read_follows : (s t new : Kept) → t ≡ s → HasRead t new → Follows s new
-read_follows s t new same read = (follows_read s new (subst (λ (k : Kept). HasRead k new) same read)).follows
-
 -- a flush, whatever its answer
 pub follows_left : (old new : Kept) (r : Result (Option ℕ) StoreFault) → FlushLeaves old r new → Turned 0 old new
 follows_left old new (Ok None) left = follows_as old new left.0

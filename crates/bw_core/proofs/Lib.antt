@@ -34,9 +34,11 @@ pub mod Logs
 pub mod Edging
 pub mod Stopping
 pub mod EvictedPages
+pub mod LookingMore
 pub mod Walks
 pub mod Backwards
 pub mod Counted
 pub mod NeededMore
 pub mod CountsMore
 pub mod Machines
+pub mod GoesMore

@@ -13,9 +13,12 @@ pub mod Settled
 pub mod Emptied
 pub mod Reading
 pub mod Taking
+pub mod Takes
 pub mod Opened
 pub mod Reopened
 pub mod Following
+pub mod Going
+pub mod Looking
 pub mod Cleaning
 pub mod Settling
 pub mod Goal

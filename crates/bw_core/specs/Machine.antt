@@ -11,7 +11,7 @@ use Rattle.bw_history.specs.Entries.{records}
 use Rattle.bw_history.specs.History.{cut}
 use Rattle.bw_history.specs.Machine.{Machine, MayLeave, Stops, keeps}
 use Rattle.bw_core.specs.declared.fault.StoreFault.{StoreFault}
-use Rattle.bw_core.specs.Kept.{Kept}
+use Rattle.bw_core.specs.Kept.{EachCutStands, Kept}
 
 -- what a store took and kept; nobody else reads a core
 abbrev pub machine_of : Kept → Machine
@@ -33,3 +33,10 @@ FindsLeft s held =
 -- what is found, were the store stopped now: where no call appends, or in the middle of the append that failed
 abbrev pub MayBeStopped : Kept → Type 0
 MayBeStopped s = FindsLeft s (boxes s.log)
+
+-- a call that writes pages again, as the machine: each cut stands behind it, and what a stop leaves
+-- is found
+pub record RunsAs {A : Type 0} (old : Kept) (result : Result A StoreFault) (new : Kept) : Type 0 where
+  pub each_cut : EachCutStands new
+  pub steps : KeepsAs result old new
+  pub may_leave : MayBeStopped new

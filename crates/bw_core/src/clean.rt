@@ -14,9 +14,8 @@ ghost use Rattle.std.specs.Vec.{vec_capacity};
 ghost use Rattle.bw_core.specs.Cleaning.{MoveLeaves, CleanLeaves, HasBoxesBut, HasFloorBut};
 ghost use Rattle.bw_core.specs.Counting.{counted_gone, CountsClean};
 ghost use Rattle.bw_core.specs.Emptied.{Emptied, IsUnready};
-ghost use Rattle.bw_core.specs.Following.{Continues, Follows, HasBoxes};
-ghost use Rattle.bw_core.specs.Kept.{EachCutStands};
-ghost use Rattle.bw_core.specs.Machine.{KeepsAs, MayBeStopped};
+ghost use Rattle.bw_core.specs.Following.{Continues};
+ghost use Rattle.bw_core.specs.Machine.{RunsAs};
 ghost use Rattle.bw_core.specs.Settled.{IsSettled};
 
 use crate::fault::StoreFault;
@@ -25,7 +24,8 @@ use bw_care::{Cleaned, bytes_upto, clean, live_bytes};
 
 impl Core {
     ghost use Rattle.bw_core.specs.Moving.{MayMove};
-    ghost use Rattle.bw_core.specs.Views.{forgotten_of, kept_by, noted_of, IsSound};
+    ghost use Rattle.bw_core.specs.Going.{GoesOn, IsQuiet};
+    ghost use Rattle.bw_core.specs.Views.{forgotten_of, kept_by, IsSound};
 
     /// Gives up the oldest live segment: what waits is flushed, then each page that was last set in
     /// that segment is written again, and its box is dropped.
@@ -47,7 +47,6 @@ impl Core {
 
         // The floor is what is durable once a segment is given up, and stays else.
         ensures floor { HasFloorBut (kept_by self.old holding) result (kept_by self.new holding) }
-        ensures each_cut { EachCutStands (kept_by self.new holding) }
 
         // Nothing is forgotten, and what is counted is what the cleaner did.
         ensures gone { forgotten_of self.new ≡ forgotten_of self.old }
@@ -58,8 +57,7 @@ impl Core {
         ensures boxes { HasBoxesBut 1 (kept_by self.old holding) result (kept_by self.new holding) }
 
         // As the machine: all that was taken is kept, and what a stop leaves is found.
-        ensures steps { KeepsAs result (kept_by self.old holding) (kept_by self.new holding) }
-        ensures may_leave { MayBeStopped (kept_by self.new holding) }
+        ensures runs { RunsAs (kept_by self.old holding) result (kept_by self.new holding) }
     {
         if self.log.live() < 2 {
             return Err(StoreFault::NothingOld);
@@ -72,7 +70,7 @@ impl Core {
     // again adds no more frames than that.
     pub(crate) fn make_ready(&mut self) -> Result<(), StoreFault>
         requires sound { IsSound self.old holding }
-        ensures sound { IsSound self.new holding }
+        ensures goes { GoesOn self.old self.new holding }
         ensures emptied { OnOk result
             (Emptied true (kept_by self.old holding) (kept_by self.new holding)) }
         ensures settled { OnOk result (IsSettled (kept_by self.new holding)) }
@@ -82,9 +80,6 @@ impl Core {
             + length (kept_by self.new holding).log.pages ≤ vec_capacity self.new.cuts) }
         ensures refused { IfErr result (λ fault. IsUnready (kept_by self.old holding) fault
             (kept_by self.new holding)) }
-        ensures follows { Follows (kept_by self.old holding) (kept_by self.new holding) }
-        ensures boxes { HasBoxes (kept_by self.old holding) (kept_by self.new holding) }
-        ensures noted { noted_of self.new ≡ noted_of self.old }
     {
         self.flush_making(true)?;
         let pages = self.log.pages() as usize;
@@ -117,9 +112,8 @@ impl Core {
     fn move_all(&mut self) -> Result<Cleaned, StoreFault>
         requires ready { MayMove self.old holding }
         requires two { 2 ≤ length (kept_by self.old holding).log.live }
-        ensures sound { IsSound self.new holding }
+        ensures quiet { IsQuiet self.old self.new holding }
         ensures leaves { MoveLeaves (kept_by self.old holding) result (kept_by self.new holding) }
-        ensures noted { noted_of self.new ≡ noted_of self.old }
     {
         let alloc = *self.cuts.allocator();
         let first = self.log.next_frame();

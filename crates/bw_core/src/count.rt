@@ -4,20 +4,18 @@
 //! page tells: a count that is kept would cost each record of an evicted page a read. So it is
 //! asked for, and costs a look at each page.
 
-ghost use Rattle.std.specs.Prelude.{ℕ, ◌≡◌, ◌≤◌, ◌-◌, false, length, slice_index_or, IfOk, IfErr};
+ghost use Rattle.std.specs.Prelude.{◌≡◌, ◌≤◌, ◌-◌, false, length, slice_index_or, IfOk, IfErr};
 ghost use Rattle.std.specs.FinMap as finite;
-ghost use Rattle.bw_log.specs.Reads.{HoldsPage};
 ghost use Rattle.bw_leaf.specs.Changed.{empty_leaf};
 ghost use Rattle.bw_page.specs.Leaves.{plain};
 ghost use Rattle.bw_history.specs.Entries.{records};
-ghost use Rattle.bw_core.specs.Following.{Follows, HasBoxes};
-ghost use Rattle.bw_core.specs.Reading.{HasRead, ReadLeaves, WalkLeaves};
 
 use crate::fault::StoreFault;
 use crate::store::Core;
 
 impl Core {
-    ghost use Rattle.bw_core.specs.Views.{kept_by, is_evicted, noted_of, IsSound};
+    ghost use Rattle.bw_core.specs.Looking.{LooksAt, OnlyReads, Walks};
+    ghost use Rattle.bw_core.specs.Views.{kept_by, is_evicted, IsSound};
 
     // How many pairs a page has.
     fn pairs_on(&mut self, page: u32) -> Result<u64, StoreFault>
@@ -25,14 +23,9 @@ impl Core {
         requires inside { (1 ≤ page) × (page ≤ length self.old.leaves.leaves) }
         ensures value { IfOk result (λ count. count
             ≡ length (slice_index_or self.old.leaves.leaves (page - 1) empty_leaf).pairs) }
-        ensures sound { IsSound self.new holding }
-        ensures pages { self.new.leaves ≡ self.old.leaves }
-        ensures read { HasRead (kept_by self.old holding) (kept_by self.new holding) }
-        ensures leaves { ReadLeaves (HoldsPage (kept_by self.old holding).log page)
-            (kept_by self.old holding) result (kept_by self.new holding) }
+        ensures looks { LooksAt page self.old result self.new holding }
         ensures memory { is_evicted page self.old ≡ false
             → IfErr result (λ fault. fault ≡ StoreFault.NoMemory) }
-        ensures noted { noted_of self.new ≡ noted_of self.old }
     {
         if let Some(leaf) = self.leaves.page(page) {
             return Ok(leaf.pairs.as_slice().len() as u64);
@@ -50,17 +43,8 @@ impl Core {
         ensures value { IfOk result (λ count. count
             ≡ finite.len (plain (kept_by self.old holding).start
             (records (kept_by self.old holding).entries))) }
-        ensures sound { IsSound self.new holding }
-        ensures read { HasRead (kept_by self.old holding) (kept_by self.new holding) }
-        ensures leaves { WalkLeaves (kept_by self.old holding) result
-            (kept_by self.new holding) }
-        ensures memory { ((p : ℕ) → is_evicted p self.old ≡ false)
-            → IfErr result (λ fault. fault ≡ StoreFault.NoMemory) }
-        ensures evicted { (p : ℕ) → is_evicted p self.new ≡ is_evicted p self.old }
-
-        ensures follows { Follows (kept_by self.old holding) (kept_by self.new holding) }
-        ensures boxes { HasBoxes (kept_by self.old holding) (kept_by self.new holding) }
-        ensures noted { noted_of self.new ≡ noted_of self.old }
+        ensures reads { OnlyReads self.old self.new holding }
+        ensures walks { Walks self.old result self.new holding }
     {
         let pages = self.leaves.count();
         let mut pairs = 0;

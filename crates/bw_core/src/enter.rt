@@ -6,17 +6,14 @@
 //! unused, and the page, which may be refused all the same, changes before the others. What comes
 //! behind it cannot be refused, and its types say so: it answers nothing.
 
-ghost use Rattle.std.specs.Prelude.{◌≡◌, ◌≤◌, ◌<◌, ◌+◌, ◌-◌, ◌^◌, ◌∷◌, [], Some, false, length, map, slice_get, OnOk, OnErr, IfOk, IfErr};
+ghost use Rattle.std.specs.Prelude.{◌≡◌, ◌≤◌, ◌<◌, ◌-◌, ◌∷◌, [], Some, length, slice_get, OnOk, OnErr, IfErr};
 ghost use Rattle.bw_record.specs.Record.{key_of};
 ghost use Rattle.bw_page.specs.Aim.{IsFound};
-ghost use Rattle.bw_page.specs.Leaves.{directed_at, result_of};
-ghost use Rattle.bw_page.specs.Shown.{IsHere};
-ghost use Rattle.bw_ring.specs.Ends.{given};
+ghost use Rattle.bw_page.specs.Leaves.{result_of};
 ghost use Rattle.bw_buffer.specs.Filling.{frame_of, size_of, with_all};
 ghost use Rattle.bw_making.specs.Adding.{blocks_for, here_for};
 ghost use Rattle.bw_making.specs.Filing.{FitsDelta};
 ghost use Rattle.bw_core.specs.Fitting.{back_for};
-ghost use Rattle.bw_history.specs.Lanes.{IsNext, TookKnown};
 ghost use Rattle.bw_core.specs.Taken.{alone, taken};
 ghost use Rattle.bw_core.specs.Taking.{IsWanting};
 
@@ -26,7 +23,8 @@ use bw_codec::{Block, Place, Record};
 use bw_making::{apply_entry, apply_found, file, file_delta};
 
 impl Core {
-    ghost use Rattle.bw_core.specs.Views.{kept_by, noted_of, IsSound};
+    ghost use Rattle.bw_core.specs.Takes.{Comes, HasFrame, IsAt, TakesGroup};
+    ghost use Rattle.bw_core.specs.Views.{kept_by};
 
     // Enters a record whose blocks fit the frame in the making: one that splits its page.
     pub(crate) fn enter(
@@ -37,31 +35,19 @@ impl Core {
         back: Place,
         blocks: &[Block],
     ) -> Result<(), StoreFault>
-        requires sound { IsSound self.old holding }
-        requires inside { lane < length self.old.intake.lanes.items }
-        requires comes { IsNext self.old.intake.lanes.items lane (item.now ∷ []) }
-        requires here { IsHere (key_of item.now) self.old.leaves }
-        requires next { (kept_by self.old holding).log.next ≡ Some self.old.making.frame }
-        requires unsealed { self.old.making.is_sealed ≡ false }
-        requires page { page ≡ directed_at self.old.leaves.leaves item.now }
+        requires comes { Comes lane (item.now ∷ []) self.old holding }
+        requires at { IsAt page item.now self.old }
+        requires frame { HasFrame self.old holding }
         requires back { slice_get self.old.newest.items (page - 1) ≡ Some back }
         requires blocks { blocks.now ≡ blocks_for self.old.leaves.m self.old.leaves.leaves back
             (here_for (frame_of self.old.making) page) item.now }
         requires fits { size_of (with_all self.old.making blocks.now) ≤ self.old.making.limit }
-        ensures sound { IsSound self.new holding }
-        ensures count { length self.new.intake.lanes.items ≡ length self.old.intake.lanes.items }
+        ensures takes { TakesGroup lane self.old result self.new holding }
         ensures ok { OnOk result (kept_by self.new holding
             ≡ taken (kept_by self.old holding) lane (alone item.now) back) }
         ensures unchanged { OnErr result (kept_by self.new holding ≡ kept_by self.old holding) }
-        ensures stays { OnErr result
-            (self.new.intake.lanes.items ≡ self.old.intake.lanes.items) }
         ensures refused { IfErr result
             (IsWanting (kept_by self.old holding) (item.now ∷ [])) }
-        ensures given { OnOk result (map given self.new.intake.lanes.items
-            ≡ map given self.old.intake.lanes.items) }
-        ensures known { OnOk result
-            (TookKnown lane self.old.intake.lanes.items self.new.intake.lanes.items) }
-        ensures noted { noted_of self.new ≡ noted_of self.old }
     {
         let _ = item.key(); // For the proof.
         let _ = self.leaves.count(); // For the proof.
@@ -84,32 +70,20 @@ impl Core {
         page: u32,
         found: Result<usize, usize>,
     ) -> Result<(), StoreFault>
-        requires sound { IsSound self.old holding }
-        requires inside { lane < length self.old.intake.lanes.items }
-        requires comes { IsNext self.old.intake.lanes.items lane (item.now ∷ []) }
-        requires here { IsHere (key_of item.now) self.old.leaves }
-        requires next { (kept_by self.old holding).log.next ≡ Some self.old.making.frame }
-        requires unsealed { self.old.making.is_sealed ≡ false }
-        requires page { page ≡ directed_at self.old.leaves.leaves item.now }
+        requires comes { Comes lane (item.now ∷ []) self.old holding }
+        requires at { IsAt page item.now self.old }
+        requires frame { HasFrame self.old holding }
         requires found { IsFound self.old.leaves.leaves (key_of item.now) found }
         requires whole { length (result_of self.old.leaves.leaves item.now).pairs
             ≤ self.old.leaves.m }
         requires fits { FitsDelta self.old.making page item.now }
-        ensures sound { IsSound self.new holding }
-        ensures count { length self.new.intake.lanes.items ≡ length self.old.intake.lanes.items }
+        ensures takes { TakesGroup lane self.old result self.new holding }
         ensures ok { OnOk result (kept_by self.new holding
             ≡ taken (kept_by self.old holding) lane (alone item.now)
             (back_for (kept_by self.old holding) item.now)) }
         ensures unchanged { OnErr result (kept_by self.new holding ≡ kept_by self.old holding) }
-        ensures stays { OnErr result
-            (self.new.intake.lanes.items ≡ self.old.intake.lanes.items) }
         ensures refused { IfErr result
             (IsWanting (kept_by self.old holding) (item.now ∷ [])) }
-        ensures given { OnOk result (map given self.new.intake.lanes.items
-            ≡ map given self.old.intake.lanes.items) }
-        ensures known { OnOk result
-            (TookKnown lane self.old.intake.lanes.items self.new.intake.lanes.items) }
-        ensures noted { noted_of self.new ≡ noted_of self.old }
     {
         let _ = item.key(); // For the proof.
         let _ = self.leaves.count(); // For the proof.

@@ -25,6 +25,7 @@ use bw_codec::Key;
 use bw_making::makes;
 
 impl Core {
+    ghost use Rattle.bw_core.specs.Going.{KeepsIntake};
     ghost use Rattle.bw_core.specs.Views.{away_in, kept_by, is_evicted, noted_of, IsSound};
 
     /// From how many frames a page would be read, if it were evicted: those that were appended and
@@ -109,15 +110,13 @@ impl Core {
         ensures here { OnOk result (IsHere key.now self.new.leaves) }
         ensures others { OnOk result ((other : List ℕ) → IsHere other self.old.leaves
             → IsHere other self.new.leaves) }
-        ensures sound { IsSound self.new holding }
-        ensures intake { self.new.intake ≡ self.old.intake }
+        ensures keeps { KeepsIntake self.old self.new holding }
         ensures read { HasRead (kept_by self.old holding) (kept_by self.new holding) }
         ensures leaves { ReadLeaves (HoldsPage (kept_by self.old holding).log
             (home key.now (kept_by self.old holding).filed.leaves).page)
             (kept_by self.old holding) result (kept_by self.new holding) }
         ensures away { OnErr result (away_in self.new
             (home key.now (kept_by self.old holding).filed.leaves).page ≡ true) }
-        ensures noted { noted_of self.new ≡ noted_of self.old }
     {
         let page = self.leaves.find(key);
         if self.leaves.is_here(page) {

@@ -9,7 +9,7 @@
 //! `durable` is counted behind the append and nowhere else: it is what receipts, readers and
 //! `forget` go by.
 
-ghost use Rattle.std.specs.Prelude.{◌≡◌, ◌≤◌, ◌<◌, Some, [], true, false, length, vec_len, OnOk, IfErr, MatchResult};
+ghost use Rattle.std.specs.Prelude.{◌≡◌, ◌≤◌, ◌<◌, Some, true, false, length, vec_len, OnOk, IfErr, MatchResult};
 ghost use Rattle.std.specs.Vec.{vec_capacity};
 ghost use Rattle.bw_codec.specs.Grammar.{frame_bytes};
 ghost use Rattle.bw_buffer.specs.Filling.{frame_of};
@@ -17,7 +17,6 @@ ghost use Rattle.bw_log.specs.Views.{IsReady};
 ghost use Rattle.bw_log.specs.Appends.{refusal, AfterAppend, IsOkOrDevice, MayFollow};
 ghost use Rattle.bw_care.specs.Views.{seen, IsSound as IsSoundLog};
 ghost use Rattle.bw_core.specs.Faults.{FlushLeaves, AppendLeaves, IsRefused, FlushAnswers, flush_refusal, refusal_by};
-ghost use Rattle.bw_core.specs.Following.{Follows, HasBoxes};
 ghost use Rattle.bw_core.specs.Kept.{EachCutStands};
 ghost use Rattle.bw_core.specs.Machine.{machine_of, MayBeStopped};
 ghost use Rattle.bw_core.specs.Settled.{IsSettled};
@@ -30,6 +29,7 @@ use bw_log::{Log, LogFault};
 use bw_making::begin_next;
 
 impl Core {
+    ghost use Rattle.bw_core.specs.Going.{GoesOn, KeepsIntake};
     ghost use Rattle.bw_core.specs.Views.{kept_by, noted_of, IsSound};
 
     /// Seals the frame in the making and appends it; answers its number, or `None` where nothing
@@ -41,17 +41,13 @@ impl Core {
     /// kept, and every later flush is refused `Failed`. Time is linear in the frame.
     pub fn flush(&mut self) -> Result<Option<u64>, StoreFault>
         requires sound { IsSound self.old holding }
-        ensures sound { IsSound self.new holding }
+        ensures goes { GoesOn self.old self.new holding }
         ensures intake { self.new.intake ≡ self.old.intake }
 
         ensures answers { FlushAnswers (flush_refusal (kept_by self.old holding)) result }
         ensures leaves { FlushLeaves (kept_by self.old holding) result (kept_by self.new holding) }
         ensures settled { OnOk result (IsSettled (kept_by self.new holding)) }
         ensures each_cut { EachCutStands (kept_by self.new holding) }
-
-        ensures follows { Follows (kept_by self.old holding) (kept_by self.new holding) }
-        ensures boxes { HasBoxes (kept_by self.old holding) (kept_by self.new holding) }
-        ensures noted { noted_of self.new ≡ noted_of self.old }
 
         // As the machine: all that was taken is kept, and what a stop leaves is found.
         ensures steps { MatchResult result
@@ -67,12 +63,10 @@ impl Core {
     // The same, without what follows from it; it may take the last spare, or may not.
     pub(crate) fn flush_making(&mut self, takes_last: bool) -> Result<Option<u64>, StoreFault>
         requires sound { IsSound self.old holding }
-        ensures sound { IsSound self.new holding }
-        ensures intake { self.new.intake ≡ self.old.intake }
+        ensures keeps { KeepsIntake self.old self.new holding }
         ensures pages { self.new.leaves ≡ self.old.leaves }
         ensures answers { FlushAnswers (refusal_by takes_last (kept_by self.old holding)) result }
         ensures leaves { FlushLeaves (kept_by self.old holding) result (kept_by self.new holding) }
-        ensures noted { noted_of self.new ≡ noted_of self.old }
     {
         if self.log.is_failed() {
             return Err(StoreFault::Failed);
@@ -121,11 +115,9 @@ impl Core {
             (length (frame_bytes (frame_of self.old.making))) takes_last }
         requires room { vec_len self.old.cuts < vec_capacity self.old.cuts }
         requires countable { self.old.durable < u64.MAX }
-        ensures sound { IsSound self.new holding }
-        ensures intake { self.new.intake ≡ self.old.intake }
+        ensures keeps { KeepsIntake self.old self.new holding }
         ensures pages { self.new.leaves ≡ self.old.leaves }
         ensures leaves { AppendLeaves (kept_by self.old holding) result (kept_by self.new holding) }
-        ensures noted { noted_of self.new ≡ noted_of self.old }
     {
         let end = self.intake.len();
         self.making.seal();

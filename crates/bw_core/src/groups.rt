@@ -7,21 +7,18 @@
 //! The work in the pages comes twice; a draft is blocks and places alone, and is thrown away where
 //! they do not fit.
 
-ghost use Rattle.std.specs.Prelude.{ℕ, ◌≡◌, ◌<◌, ◌+◌, Some, Err, true, false, List, length, map, take, IfOk, IfErr, OnOk, OnErr, MatchOption};
+ghost use Rattle.std.specs.Prelude.{ℕ, ◌≡◌, ◌<◌, ◌+◌, Some, true, false, List, length, take, IfOk, IfErr, OnOk, OnErr, MatchOption};
 ghost use Rattle.std.specs.List.{AllByRecursion};
 ghost use Rattle.bw_record.specs.Lawful.{IsOp};
 ghost use Rattle.bw_record.specs.Record.{key_of};
 ghost use Rattle.bw_history.specs.Entries.{records as records_of};
-ghost use Rattle.bw_page.specs.Batch.{AreHere, SomeIsSpent, steps_of};
+ghost use Rattle.bw_page.specs.Batch.{AreHere, steps_of};
 ghost use Rattle.bw_log.specs.Reads.{HoldsPage};
 ghost use Rattle.bw_page.specs.Leaves.{directed_at, HasPages};
-ghost use Rattle.bw_page.specs.Shown.{IsHere, run};
-ghost use Rattle.bw_ring.specs.Ends.{given};
+ghost use Rattle.bw_page.specs.Shown.{IsHere};
 ghost use Rattle.bw_ring.specs.Marks.{marked};
 ghost use Rattle.bw_core.specs.Drafting.{IsAhead, IsDraft, Stands};
 ghost use Rattle.bw_core.specs.Fitting.{Fits};
-ghost use Rattle.bw_history.specs.History.{entered};
-ghost use Rattle.bw_history.specs.Lanes.{IsNext, TookKnown};
 ghost use Rattle.bw_core.specs.Reading.{HasRead, ReadLeaves};
 ghost use Rattle.bw_core.specs.Taken.{taken_all};
 ghost use Rattle.bw_core.specs.Taking.{FetchLeaves, IsUnplanned, IsWanting};
@@ -36,19 +33,19 @@ use bw_ring::Group;
 use std::alloc::AllocError;
 
 impl Core {
-    ghost use Rattle.bw_core.specs.Views.{away_in, kept_by, noted_of, IsSound};
+    ghost use Rattle.bw_core.specs.Takes.{Comes, HasFrame, IsPacked, TakesGroup};
+    ghost use Rattle.bw_core.specs.Going.{KeepsIntake};
+    ghost use Rattle.bw_core.specs.Views.{away_in, kept_by, IsSound};
 
     /// Brings back the pages of all records of a group, before it is planned. A page that one of
     /// them makes comes out of a page that is then in memory.
     pub(crate) fn fetch_all(&mut self, records: &[Record]) -> Result<(), StoreFault>
         requires sound { IsSound self.old holding }
-        ensures sound { IsSound self.new holding }
-        ensures intake { self.new.intake ≡ self.old.intake }
+        ensures keeps { KeepsIntake self.old self.new holding }
         ensures here { OnOk result (AreHere self.new.leaves records.now) }
         ensures lawful { OnOk result (AllByRecursion IsOp records.now) }
         ensures leaves { FetchLeaves (away_in self.new) records.now (kept_by self.old holding)
             result (kept_by self.new holding) }
-        ensures noted { noted_of self.new ≡ noted_of self.old }
     {
         'records: for at in 0..records.len() {
             self.fetch_one(&records[at])?;
@@ -60,8 +57,7 @@ impl Core {
     // The same of one record.
     fn fetch_one(&mut self, item: &Record) -> Result<(), StoreFault>
         requires sound { IsSound self.old holding }
-        ensures sound { IsSound self.new holding }
-        ensures intake { self.new.intake ≡ self.old.intake }
+        ensures keeps { KeepsIntake self.old self.new holding }
         ensures here { OnOk result (IsHere (key_of item.now) self.new.leaves) }
         ensures others { OnOk result ((key : List ℕ) → IsHere key self.old.leaves
             → IsHere key self.new.leaves) }
@@ -72,7 +68,6 @@ impl Core {
         ensures leaves { ReadLeaves (HoldsPage (kept_by self.old holding).log
             (directed_at (kept_by self.old holding).filed.leaves item.now))
             (kept_by self.old holding) result (kept_by self.new holding) }
-        ensures noted { noted_of self.new ≡ noted_of self.old }
     {
         let _ = self.fetch(item.key())?;
         Ok(())
@@ -90,9 +85,8 @@ impl Core {
         requires entries { records_of entries.now ≡ records.now }
         requires here { AreHere self.old.leaves records.now }
         requires lawful { AllByRecursion IsOp records.now }
-        ensures sound { IsSound self.new holding }
+        ensures keeps { KeepsIntake self.old self.new holding }
         ensures same { kept_by self.new holding ≡ kept_by self.old holding }
-        ensures intake { self.new.intake ≡ self.old.intake }
         ensures pages { self.new.leaves ≡ self.old.leaves }
         ensures works { OnOk result ((kept_by self.old holding).log.is_failed ≡ false) }
         ensures unsealed { OnOk result (self.new.making.is_sealed ≡ false) }
@@ -104,7 +98,6 @@ impl Core {
             (IsDraft (kept_by self.old holding) records.now)) }
         ensures refused { IfErr result
             (IsUnplanned (kept_by self.old holding) records.now) }
-        ensures noted { noted_of self.new ≡ noted_of self.old }
     {
         self.goes_on()?;
         let steps = steps_in(&mut self.leaves, records, entries)?;
@@ -175,29 +168,15 @@ impl Core {
         entries: Vec<PackedEntry>,
         draft: &Draft,
     ) -> Result<(), StoreFault>
-        requires sound { IsSound self.old holding }
-        requires inside { lane < length self.old.intake.lanes.items }
-        requires comes { IsNext self.old.intake.lanes.items lane group }
-        requires entries { entries.items ≡ entered lane (marked group) }
-        requires records { records_of entries.items ≡ group }
-        requires here { AreHere self.old.leaves group }
-        requires lawful { AllByRecursion IsOp group }
-        requires next { (kept_by self.old holding).log.next ≡ Some self.old.making.frame }
-        requires unsealed { self.old.making.is_sealed ≡ false }
+        requires comes { Comes lane group self.old holding }
+        requires packed { IsPacked lane group entries.items self.old }
+        requires frame { HasFrame self.old holding }
         requires draft { IsDraft (kept_by self.old holding) group draft.now }
-        ensures sound { IsSound self.new holding }
-        ensures count { length self.new.intake.lanes.items ≡ length self.old.intake.lanes.items }
+        ensures takes { TakesGroup lane self.old result self.new holding }
         ensures ok { OnOk result (kept_by self.new holding
             ≡ taken_all (kept_by self.old holding) lane (marked group)) }
         ensures unchanged { OnErr result (kept_by self.new holding ≡ kept_by self.old holding) }
-        ensures stays { OnErr result
-            (self.new.intake.lanes.items ≡ self.old.intake.lanes.items) }
         ensures refused { IfErr result (IsWanting (kept_by self.old holding) group) }
-        ensures given { OnOk result (map given self.new.intake.lanes.items
-            ≡ map given self.old.intake.lanes.items) }
-        ensures known { OnOk result
-            (TookKnown lane self.old.intake.lanes.items self.new.intake.lanes.items) }
-        ensures noted { noted_of self.new ≡ noted_of self.old }
     {
         let rows = draft.rows.as_slice();
         let _ = self.leaves.count(); // For the proof.

@@ -3,14 +3,11 @@
 //! It begins on the page of its key and goes from there to the page with the next lower low, which
 //! `bw_walks` finds.
 
-ghost use Rattle.std.specs.Prelude.{ℕ, ◌≡◌, ◌≤◌, false, length, IfOk, IfErr};
+ghost use Rattle.std.specs.Prelude.{◌≡◌, ◌≤◌, false, length, IfOk, IfErr};
 ghost use Rattle.std.specs.FinMap as finite;
-ghost use Rattle.bw_log.specs.Reads.{HoldsPage};
 ghost use Rattle.bw_page.specs.Leaves.{plain};
 ghost use Rattle.bw_history.specs.Entries.{records};
 ghost use Rattle.bw_walks.specs.Back.{IsGreatest, IsInReach, IsLast, IsLastBelow};
-ghost use Rattle.bw_core.specs.Following.{Follows, HasBoxes};
-ghost use Rattle.bw_core.specs.Reading.{HasRead, ReadLeaves, WalkLeaves};
 
 use crate::fault::StoreFault;
 use crate::store::Core;
@@ -19,7 +16,8 @@ use bw_walks::{Look, Reach, found_on, page_before};
 
 impl Core {
     ghost use Rattle.bw_walks.specs.Back.{TellsOfPage};
-    ghost use Rattle.bw_core.specs.Views.{kept_by, is_evicted, noted_of, IsSound};
+    ghost use Rattle.bw_core.specs.Looking.{LooksAt, OnlyReads, Walks};
+    ghost use Rattle.bw_core.specs.Views.{kept_by, is_evicted, IsSound};
 
     /// What a walk back finds on a page, in memory or evicted.
     fn look_back(&mut self, page: u32, key: &Key, reach: Reach) -> Result<Look, StoreFault>
@@ -27,14 +25,9 @@ impl Core {
         requires inside { (1 ≤ page) × (page ≤ length self.old.leaves.leaves) }
         ensures value { IfOk result (λ look.
             TellsOfPage reach key.now page self.old.leaves.leaves look) }
-        ensures sound { IsSound self.new holding }
-        ensures pages { self.new.leaves ≡ self.old.leaves }
-        ensures read { HasRead (kept_by self.old holding) (kept_by self.new holding) }
-        ensures leaves { ReadLeaves (HoldsPage (kept_by self.old holding).log page)
-            (kept_by self.old holding) result (kept_by self.new holding) }
+        ensures looks { LooksAt page self.old result self.new holding }
         ensures memory { is_evicted page self.old ≡ false
             → IfErr result (λ fault. fault ≡ StoreFault.NoMemory) }
-        ensures noted { noted_of self.new ≡ noted_of self.old }
     {
         let _ = self.leaves.count(); // For the proof.
         if let Some(leaf) = self.leaves.page(page) {
@@ -50,17 +43,8 @@ impl Core {
         ensures value { IfOk result (λ pair.
             IsGreatest (λ q. finite.get (plain (kept_by self.old holding).start
             (records (kept_by self.old holding).entries)) q) (IsInReach reach key.now) pair) }
-        ensures sound { IsSound self.new holding }
-        ensures read { HasRead (kept_by self.old holding) (kept_by self.new holding) }
-        ensures leaves { WalkLeaves (kept_by self.old holding) result
-            (kept_by self.new holding) }
-        ensures memory { ((p : ℕ) → is_evicted p self.old ≡ false)
-            → IfErr result (λ fault. fault ≡ StoreFault.NoMemory) }
-        ensures evicted { (p : ℕ) → is_evicted p self.new ≡ is_evicted p self.old }
-
-        ensures follows { Follows (kept_by self.old holding) (kept_by self.new holding) }
-        ensures boxes { HasBoxes (kept_by self.old holding) (kept_by self.new holding) }
-        ensures noted { noted_of self.new ≡ noted_of self.old }
+        ensures reads { OnlyReads self.old self.new holding }
+        ensures walks { Walks self.old result self.new holding }
     {
         let mut page = self.leaves.find(key);
         'pages: loop {
@@ -82,17 +66,8 @@ impl Core {
         requires { IsSound self.old holding }
         ensures value { IfOk result (λ pair. IsLast (plain (kept_by self.old holding).start
             (records (kept_by self.old holding).entries)) key.now pair) }
-        ensures sound { IsSound self.new holding }
-        ensures read { HasRead (kept_by self.old holding) (kept_by self.new holding) }
-        ensures leaves { WalkLeaves (kept_by self.old holding) result
-            (kept_by self.new holding) }
-        ensures memory { ((p : ℕ) → is_evicted p self.old ≡ false)
-            → IfErr result (λ fault. fault ≡ StoreFault.NoMemory) }
-        ensures evicted { (p : ℕ) → is_evicted p self.new ≡ is_evicted p self.old }
-
-        ensures follows { Follows (kept_by self.old holding) (kept_by self.new holding) }
-        ensures boxes { HasBoxes (kept_by self.old holding) (kept_by self.new holding) }
-        ensures noted { noted_of self.new ≡ noted_of self.old }
+        ensures reads { OnlyReads self.old self.new holding }
+        ensures walks { Walks self.old result self.new holding }
     {
         self.walk_back(key, Reach::With)
     }
@@ -103,17 +78,8 @@ impl Core {
         requires { IsSound self.old holding }
         ensures value { IfOk result (λ pair. IsLastBelow (plain (kept_by self.old holding).start
             (records (kept_by self.old holding).entries)) key.now pair) }
-        ensures sound { IsSound self.new holding }
-        ensures read { HasRead (kept_by self.old holding) (kept_by self.new holding) }
-        ensures leaves { WalkLeaves (kept_by self.old holding) result
-            (kept_by self.new holding) }
-        ensures memory { ((p : ℕ) → is_evicted p self.old ≡ false)
-            → IfErr result (λ fault. fault ≡ StoreFault.NoMemory) }
-        ensures evicted { (p : ℕ) → is_evicted p self.new ≡ is_evicted p self.old }
-
-        ensures follows { Follows (kept_by self.old holding) (kept_by self.new holding) }
-        ensures boxes { HasBoxes (kept_by self.old holding) (kept_by self.new holding) }
-        ensures noted { noted_of self.new ≡ noted_of self.old }
+        ensures reads { OnlyReads self.old self.new holding }
+        ensures walks { Walks self.old result self.new holding }
     {
         self.walk_back(key, Reach::Without)
     }

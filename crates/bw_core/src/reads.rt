@@ -8,15 +8,14 @@
 //! A read changes one thing in the store, the count of a segment's failures. The page stays where
 //! it is, so a walk over more pages than memory has room for drives none out.
 
-ghost use Rattle.std.specs.Prelude.{ℕ, ◌≡◌, ◌≤◌, ◌↔◌, ◌⊎◌, true, false, Some, None, length, IfOk, IfErr, IsErrOf};
+ghost use Rattle.std.specs.Prelude.{◌≡◌, ◌≤◌, ◌↔◌, ◌⊎◌, true, false, Some, None, length, IfOk, IfErr, IsErrOf};
 ghost use Rattle.std.specs.FinMap as finite;
 ghost use Rattle.bw_log.specs.Reads.{HoldsPage};
 ghost use Rattle.bw_page.specs.Leaves.{leaf_at, home, plain};
 ghost use Rattle.bw_page.specs.Shown.{is_evicted_page};
 ghost use Rattle.bw_leaf.specs.Words.{records_word, value_on};
 ghost use Rattle.bw_history.specs.Entries.{records};
-ghost use Rattle.bw_core.specs.Following.{Follows, HasBoxes};
-ghost use Rattle.bw_core.specs.Reading.{leaves_now, HasRead, ReadLeaves, PageLeaves};
+ghost use Rattle.bw_core.specs.Reading.{leaves_now, ReadLeaves, PageLeaves};
 ghost use Rattle.bw_making.specs.Share.{ops_at};
 
 use crate::fault::StoreFault;
@@ -27,7 +26,8 @@ use bw_page::{Word, change_all, word_in_records};
 use std::alloc::AllocError;
 
 impl Core {
-    ghost use Rattle.bw_core.specs.Views.{kept_by, is_evicted, noted_of, IsSound};
+    ghost use Rattle.bw_core.specs.Looking.{LooksAt, OnlyReads};
+    ghost use Rattle.bw_core.specs.Views.{kept_by, is_evicted, IsSound};
 
     /// A copy of a page as all records of the history leave it, flushed or not, in memory or
     /// evicted. A page that is evicted is read from the log, and stays evicted.
@@ -41,18 +41,11 @@ impl Core {
             leaf_at page (leaves_now (kept_by self.old holding)) ≡ Some leaf) }
         ensures no_page { IsErrOf result StoreFault.NoPage
             ↔ (leaf_at page (leaves_now (kept_by self.old holding)) ≡ None) }
-        ensures sound { IsSound self.new holding }
-        ensures read { HasRead (kept_by self.old holding) (kept_by self.new holding) }
-
+        ensures reads { OnlyReads self.old self.new holding }
         ensures leaves { PageLeaves (HoldsPage (kept_by self.old holding).log page)
             (kept_by self.old holding) result (kept_by self.new holding) }
         ensures memory { is_evicted page self.old ≡ false → IfErr result (λ fault.
             (fault ≡ StoreFault.NoPage) ⊎ (fault ≡ StoreFault.NoMemory)) }
-        ensures evicted { (p : ℕ) → is_evicted p self.new ≡ is_evicted p self.old }
-
-        ensures follows { Follows (kept_by self.old holding) (kept_by self.new holding) }
-        ensures boxes { HasBoxes (kept_by self.old holding) (kept_by self.new holding) }
-        ensures noted { noted_of self.new ≡ noted_of self.old }
     {
         if page == 0 || page > self.leaves.count() {
             return Err(StoreFault::NoPage);
@@ -72,19 +65,12 @@ impl Core {
         ensures value { IfOk result (λ value. value
             ≡ finite.get (plain (kept_by self.old holding).start
             (records (kept_by self.old holding).entries)) key.now) }
-        ensures sound { IsSound self.new holding }
-        ensures read { HasRead (kept_by self.old holding) (kept_by self.new holding) }
-
+        ensures reads { OnlyReads self.old self.new holding }
         ensures leaves { ReadLeaves (HoldsPage (kept_by self.old holding).log
             (home key.now (leaves_now (kept_by self.old holding))).page)
             (kept_by self.old holding) result (kept_by self.new holding) }
         ensures memory { is_evicted (home key.now (leaves_now (kept_by self.old holding))).page
             self.old ≡ false → IfErr result (λ fault. fault ≡ StoreFault.NoMemory) }
-        ensures evicted { (p : ℕ) → is_evicted p self.new ≡ is_evicted p self.old }
-
-        ensures follows { Follows (kept_by self.old holding) (kept_by self.new holding) }
-        ensures boxes { HasBoxes (kept_by self.old holding) (kept_by self.new holding) }
-        ensures noted { noted_of self.new ≡ noted_of self.old }
     {
         let page = self.leaves.find(key);
         if self.leaves.is_here(page) {
@@ -100,13 +86,8 @@ impl Core {
         requires inside { (1 ≤ page) × (page ≤ length self.old.leaves.leaves) }
         requires evicted { is_evicted_page page self.old.leaves ≡ true }
         ensures leaf { IfOk result (λ leaf. leaf_at page self.old.leaves.leaves ≡ Some leaf) }
-        ensures sound { IsSound self.new holding }
+        ensures looks { LooksAt page self.old result self.new holding }
         ensures intake { self.new.intake ≡ self.old.intake }
-        ensures pages { self.new.leaves ≡ self.old.leaves }
-        ensures read { HasRead (kept_by self.old holding) (kept_by self.new holding) }
-        ensures leaves { ReadLeaves (HoldsPage (kept_by self.old holding).log page)
-            (kept_by self.old holding) result (kept_by self.new holding) }
-        ensures noted { noted_of self.new ≡ noted_of self.old }
     {
         let overlay = self.overlay(page)?;
         let below = match self.log.read_page(page) {
@@ -129,12 +110,7 @@ impl Core {
         requires evicted { is_evicted_page page self.old.leaves ≡ true }
         ensures value { IfOk result (λ value. value
             ≡ value_on key.now (leaf_at page self.old.leaves.leaves)) }
-        ensures sound { IsSound self.new holding }
-        ensures pages { self.new.leaves ≡ self.old.leaves }
-        ensures read { HasRead (kept_by self.old holding) (kept_by self.new holding) }
-        ensures leaves { ReadLeaves (HoldsPage (kept_by self.old holding).log page)
-            (kept_by self.old holding) result (kept_by self.new holding) }
-        ensures noted { noted_of self.new ≡ noted_of self.old }
+        ensures looks { LooksAt page self.old result self.new holding }
     {
         let word = self.word(page, key)?;
         match word {

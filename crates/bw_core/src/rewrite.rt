@@ -8,9 +8,7 @@ ghost use Rattle.std.specs.Prelude.{◌≡◌, ◌≤◌, ◌+◌, ◌↔◌, []
 ghost use Rattle.std.specs.List.{AllByRecursion};
 ghost use Rattle.std.specs.Vec.{vec_capacity};
 ghost use Rattle.bw_log.specs.Reads.{IsPage};
-ghost use Rattle.bw_core.specs.Following.{Follows, HasBoxes};
-ghost use Rattle.bw_core.specs.Kept.{EachCutStands};
-ghost use Rattle.bw_core.specs.Machine.{KeepsAs, MayBeStopped};
+ghost use Rattle.bw_core.specs.Machine.{RunsAs};
 ghost use Rattle.bw_core.specs.Rewriting.{are_pages, RewriteLeaves, RewriteMoves};
 ghost use Rattle.bw_core.specs.Settled.{IsSettled};
 
@@ -19,7 +17,8 @@ use crate::store::Core;
 use bw_care::rewrite;
 
 impl Core {
-    ghost use Rattle.bw_core.specs.Views.{kept_by, noted_of, IsSound};
+    ghost use Rattle.bw_core.specs.Going.{GoesOn, IsQuiet};
+    ghost use Rattle.bw_core.specs.Views.{kept_by, IsSound};
 
     /// Writes each of these pages again, whole, and answers in how many frames: what waits is
     /// flushed, then a Base of each page is appended, in this order, as many to a frame as fit. No
@@ -39,21 +38,15 @@ impl Core {
     /// at each page's line in memory.
     pub fn rewrite(&mut self, pages: &[u32]) -> Result<u64, StoreFault>
         requires sound { IsSound self.old holding }
-        ensures sound { IsSound self.new holding }
+        ensures goes { GoesOn self.old self.new holding }
         ensures leaves { RewriteLeaves (kept_by self.old holding) pages.now result
             (kept_by self.new holding) }
 
         ensures no_page { IsErrOf result StoreFault.NoPage
             ↔ (are_pages (length (kept_by self.old holding).filed.leaves) pages.now ≡ false) }
 
-        ensures each_cut { EachCutStands (kept_by self.new holding) }
-        ensures follows { Follows (kept_by self.old holding) (kept_by self.new holding) }
-        ensures boxes { HasBoxes (kept_by self.old holding) (kept_by self.new holding) }
-        ensures noted { noted_of self.new ≡ noted_of self.old }
-
         // As the machine: all that was taken is kept, and what a stop leaves is found.
-        ensures steps { KeepsAs result (kept_by self.old holding) (kept_by self.new holding) }
-        ensures may_leave { MayBeStopped (kept_by self.new holding) }
+        ensures runs { RunsAs (kept_by self.old holding) result (kept_by self.new holding) }
     {
         if !are_pages(self.leaves.count(), pages) {
             return Err(StoreFault::NoPage);
@@ -71,10 +64,9 @@ impl Core {
         requires works { (kept_by self.old holding).log.is_failed ≡ false }
         requires pages { AllByRecursion (IsPage (kept_by self.old holding).log) pages.now }
         requires room { vec_len self.old.cuts + length pages.now ≤ vec_capacity self.old.cuts }
-        ensures sound { IsSound self.new holding }
+        ensures quiet { IsQuiet self.old self.new holding }
         ensures leaves { RewriteMoves (kept_by self.old holding) pages.now result
             (kept_by self.new holding) }
-        ensures noted { noted_of self.new ≡ noted_of self.old }
     {
         let alloc = *self.cuts.allocator();
         let first = self.log.next_frame();

@@ -2,14 +2,11 @@
 //!
 //! Each pair is found as a handle to the run of bytes that its page has of it (`bw_walks`).
 
-ghost use Rattle.std.specs.Prelude.{ℕ, ◌≡◌, false, IfErr, OnOk};
-ghost use Rattle.bw_log.specs.Reads.{HoldsPage};
+ghost use Rattle.std.specs.Prelude.{◌≡◌, false, IfErr, OnOk};
 ghost use Rattle.bw_leaf.specs.Above.{pairs_above, with_some};
 ghost use Rattle.bw_page.specs.Ahead.{IsStretch};
 ghost use Rattle.bw_page.specs.Leaves.{home, plain};
 ghost use Rattle.bw_history.specs.Entries.{records};
-ghost use Rattle.bw_core.specs.Following.{Follows, HasBoxes};
-ghost use Rattle.bw_core.specs.Reading.{HasRead, ReadLeaves, WalkLeaves};
 
 use crate::fault::StoreFault;
 use crate::store::Core;
@@ -17,7 +14,8 @@ use bw_codec::{Key, Pair};
 use bw_walks::share_pairs;
 
 impl Core {
-    ghost use Rattle.bw_core.specs.Views.{kept_by, is_evicted, noted_of, IsSound};
+    ghost use Rattle.bw_core.specs.Looking.{LooksAt, OnlyReads, Walks};
+    ghost use Rattle.bw_core.specs.Views.{kept_by, is_evicted, IsSound};
 
     /// Adds the pairs at or above a key of the page on which a record of the key would stand, until
     /// there are so many.
@@ -30,15 +28,10 @@ impl Core {
         requires { IsSound self.old holding }
         ensures value { OnOk result (found.new.items ≡ with_some most found.old.items
             (pairs_above key.now (home key.now self.old.leaves.leaves).pairs)) }
-        ensures sound { IsSound self.new holding }
-        ensures pages { self.new.leaves ≡ self.old.leaves }
-        ensures read { HasRead (kept_by self.old holding) (kept_by self.new holding) }
-        ensures leaves { ReadLeaves (HoldsPage (kept_by self.old holding).log
-            (home key.now self.old.leaves.leaves).page)
-            (kept_by self.old holding) result (kept_by self.new holding) }
+        ensures looks { LooksAt (home key.now self.old.leaves.leaves).page
+            self.old result self.new holding }
         ensures memory { is_evicted (home key.now self.old.leaves.leaves).page
             self.old ≡ false → IfErr result (λ fault. fault ≡ StoreFault.NoMemory) }
-        ensures noted { noted_of self.new ≡ noted_of self.old }
     {
         let page = self.leaves.find(key);
         if let Some(leaf) = self.leaves.page(page) {
@@ -65,17 +58,8 @@ impl Core {
         requires { IsSound self.old holding }
         ensures value { OnOk result (IsStretch (plain (kept_by self.old holding).start
             (records (kept_by self.old holding).entries)) key.now most found.new.items) }
-        ensures sound { IsSound self.new holding }
-        ensures read { HasRead (kept_by self.old holding) (kept_by self.new holding) }
-        ensures leaves { WalkLeaves (kept_by self.old holding) result
-            (kept_by self.new holding) }
-        ensures memory { ((p : ℕ) → is_evicted p self.old ≡ false)
-            → IfErr result (λ fault. fault ≡ StoreFault.NoMemory) }
-        ensures evicted { (p : ℕ) → is_evicted p self.new ≡ is_evicted p self.old }
-
-        ensures follows { Follows (kept_by self.old holding) (kept_by self.new holding) }
-        ensures boxes { HasBoxes (kept_by self.old holding) (kept_by self.new holding) }
-        ensures noted { noted_of self.new ≡ noted_of self.old }
+        ensures reads { OnlyReads self.old self.new holding }
+        ensures walks { Walks self.old result self.new holding }
     {
         found.clear();
         let mut from = key.copy();

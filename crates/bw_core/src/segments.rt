@@ -4,11 +4,11 @@
 //! them do at the end: they hold what is durable, and what waits is lost with the store, as a stop
 //! would lose it.
 
-ghost use Rattle.std.specs.Prelude.{◌≡◌, ◌≢◌, ◌+◌, ◌++◌, ◌∷◌, ◌↔◌, ◌⊎◌, [], ℕ, true, false, map, length, MatchOption, OnOk, OnErr, IfOk, IfErr, IsErrAnd};
+ghost use Rattle.std.specs.Prelude.{◌≡◌, ◌+◌, ◌++◌, ◌↔◌, ◌⊎◌, ℕ, true, false, map, MatchOption, OnOk, OnErr, IfOk, IfErr, IsErrAnd};
 ghost use Rattle.bw_care.specs.Laws.{cut_newest};
 ghost use Rattle.bw_log.specs.Limits.{IsNotTaken};
 ghost use Rattle.bw_log.specs.Reads.{IsNumbered, segment_at};
-ghost use Rattle.bw_core.specs.Following.{Follows, HasBoxes};
+ghost use Rattle.bw_core.specs.Following.{Follows};
 ghost use Rattle.bw_core.specs.Kept.{EachCutStands};
 ghost use Rattle.bw_core.specs.Reading.{HasRead, ReadLeaves, with_spare, rolled};
 ghost use Rattle.bw_core.specs.Stopping.{FindsCut, FindsStop, MayCut};
@@ -18,6 +18,7 @@ use crate::store::Core;
 use bw_device::Segment;
 
 impl Core {
+    ghost use Rattle.bw_core.specs.Going.{GoesOn};
     ghost use Rattle.bw_core.specs.Views.{kept_by, kept_beside, noted_of, IsSound, IsSoundBeside};
 
     /// A further spare, which goes last. A box that is not empty or has not the room that `open`
@@ -53,15 +54,9 @@ impl Core {
     /// Closes the current segment, if any: the next append begins another. No memory is taken.
     pub fn roll(&mut self)
         requires { IsSound self.old holding }
-        ensures sound { IsSound self.new holding }
+        ensures goes { GoesOn self.old self.new holding }
         ensures closed { kept_by self.new holding
             ≡ rolled (kept_by self.old holding) }
-
-        ensures follows { Follows (kept_by self.old holding)
-            (kept_by self.new holding) }
-        ensures boxes { HasBoxes (kept_by self.old holding)
-            (kept_by self.new holding) }
-        ensures noted { noted_of self.new ≡ noted_of self.old }
     {
         self.log.roll();
     }
@@ -76,7 +71,7 @@ impl Core {
             MatchOption (segment_at (kept_by self.old holding).log
             segment) ((found ≡ false) × (out.new.items ≡ out.old.items))
             (λ h. (found ≡ true) × (out.new.items ≡ out.old.items ++ h.bytes))) }
-        ensures sound { IsSound self.new holding }
+        ensures goes { GoesOn self.old self.new holding }
         ensures read { HasRead (kept_by self.old holding)
             (kept_by self.new holding) }
 
@@ -85,12 +80,6 @@ impl Core {
             (kept_by self.old holding).log segment)
             (kept_by self.old holding) result
             (kept_by self.new holding) }
-
-        ensures follows { Follows (kept_by self.old holding)
-            (kept_by self.new holding) }
-        ensures boxes { HasBoxes (kept_by self.old holding)
-            (kept_by self.new holding) }
-        ensures noted { noted_of self.new ≡ noted_of self.old }
     {
         match self.log.dump(segment, out) {
             Ok(found) => Ok(found),

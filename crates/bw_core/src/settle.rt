@@ -19,6 +19,7 @@ use crate::store::Core;
 use bw_ring::Feed;
 
 impl Core {
+    ghost use Rattle.bw_core.specs.Going.{IsQuiet};
     ghost use Rattle.bw_core.specs.Views.{away_in, kept_by, lanes_of, noted_of, IsSound};
 
     /// Takes all that the feeds accepted, flushes, and answers the length of the history. The feeds
@@ -71,14 +72,13 @@ impl Core {
     // Takes all that the lanes know of, lane by lane. No ring is looked at.
     pub(crate) fn take_known(&mut self) -> Result<(), StoreFault>
         requires sound { IsSound self.old holding }
-        ensures sound { IsSound self.new holding }
+        ensures quiet { IsQuiet self.old self.new holding }
         ensures taken { OnOk result
             (map taken self.new.intake.lanes.items ≡ map given self.old.intake.lanes.items) }
         ensures took { MatchResult result
             (λ _. TookSome (kept_by self.old holding) (kept_by self.new holding))
             (λ cause. RefusedAt (kept_by self.old holding) self.new.intake.lanes.items
             (away_in self.new) cause (kept_by self.new holding)) }
-        ensures noted { noted_of self.new ≡ noted_of self.old }
     {
         let lanes = self.intake.writers();
         'lanes: for lane in 0..lanes {
@@ -91,7 +91,7 @@ impl Core {
     fn take_lane(&mut self, lane: usize) -> Result<(), StoreFault>
         requires sound { IsSound self.old holding }
         requires inside { lane < length self.old.intake.lanes.items }
-        ensures sound { IsSound self.new holding }
+        ensures quiet { IsQuiet self.old self.new holding }
         ensures count { length self.new.intake.lanes.items ≡ length self.old.intake.lanes.items }
         ensures given { OnOk result (map given self.new.intake.lanes.items
             ≡ map given self.old.intake.lanes.items) }
@@ -102,7 +102,6 @@ impl Core {
             (λ _. TookSome (kept_by self.old holding) (kept_by self.new holding))
             (λ cause. RefusedAt (kept_by self.old holding) self.new.intake.lanes.items
             (away_in self.new) cause (kept_by self.new holding)) }
-        ensures noted { noted_of self.new ≡ noted_of self.old }
     {
         'records: while self.intake.waits(lane) {
             self.take_waiting(lane)?;

@@ -12,23 +12,16 @@
 //! `plan`. Several records are planned one behind the other (`groups.rt`) before the first of them
 //! changes a page.
 
-ghost use Rattle.std.specs.Prelude.{◌≡◌, ◌≤◌, ◌<◌, ◌+◌, ◌-◌, ◌∷◌, [], Some, None, false, length, map, IsTrue, IfSome, IfNone, IfOk, IfErr, OnOk, OnErr, MatchResult};
+ghost use Rattle.std.specs.Prelude.{◌≡◌, ◌≤◌, ◌<◌, ◌-◌, ◌∷◌, [], Some, None, false, length, IsTrue, IfOk, IfErr, OnOk, MatchResult};
 ghost use Rattle.std.specs.List.{AllByRecursion};
 ghost use Rattle.std.specs.Option.{IsSomeAnd};
-ghost use Rattle.bw_record.specs.Lawful.{IsOp};
 ghost use Rattle.bw_codec.specs.Grammar.{body_bytes, IsBlock};
 ghost use Rattle.bw_record.specs.Record.{key_of};
 ghost use Rattle.bw_page.specs.Aim.{IsFound};
-ghost use Rattle.bw_page.specs.Batch.{AreHere};
-ghost use Rattle.bw_page.specs.Leaves.{directed_at, result_of, HasPages};
-ghost use Rattle.bw_page.specs.Shown.{IsHere};
-ghost use Rattle.bw_ring.specs.Ends.{given};
-ghost use Rattle.bw_ring.specs.Marks.{marked};
+ghost use Rattle.bw_page.specs.Leaves.{result_of, HasPages};
 ghost use Rattle.bw_history.specs.Entries.{records};
-ghost use Rattle.bw_history.specs.History.{entered};
-ghost use Rattle.bw_buffer.specs.Filling.{size_of};
 ghost use Rattle.bw_core.specs.Fitting.{Fits};
-ghost use Rattle.bw_history.specs.Lanes.{IsNext, IsWaiting, Dries, TookKnown};
+ghost use Rattle.bw_history.specs.Lanes.{IsWaiting, Dries};
 ghost use Rattle.bw_making.specs.Planning.{listed};
 ghost use Rattle.bw_core.specs.Taking.{TakeLeaves, WaitingLeaves, GroupLeaves, IsPlan, IsStopped, IsUnplanned};
 
@@ -40,20 +33,15 @@ use bw_making::{Plan, place_for, planned_for};
 use bw_ring::{Group, Items};
 
 impl Core {
+    ghost use Rattle.bw_core.specs.Takes.{Comes, HasFrame, HasLane, IsAt, IsPacked, TakesAny, TakesGroup, TakesWaiting, Waits};
     ghost use Rattle.bw_core.specs.Views.{away_in, kept_by, noted_of, IsSound};
 
     /// Takes the next group of a lane, if there is one; answers how many records it has, 1 to 4.
     pub(crate) fn take_from(&mut self, lane: usize) -> Result<Option<u64>, StoreFault>
-        requires sound { IsSound self.old holding }
-        requires inside { lane < length self.old.intake.lanes.items }
-        ensures sound { IsSound self.new holding }
-        ensures count { length self.new.intake.lanes.items ≡ length self.old.intake.lanes.items }
-        ensures dry { IfOk result (λ took. IfNone took
-            (Dries lane self.old.intake.lanes.items self.new.intake.lanes.items)) }
-        ensures few { IfOk result (λ took. IfSome took (λ n. n ≤ 4)) }
+        requires there { HasLane lane self.old holding }
+        ensures takes { TakesAny lane self.old result self.new holding }
         ensures leaves { TakeLeaves lane self.new.intake.lanes.items (away_in self.new)
             (kept_by self.old holding) result (kept_by self.new holding) }
-        ensures noted { noted_of self.new ≡ noted_of self.old }
     {
         if let Some(item) = self.intake.alone(lane) {
             self.take_item(lane, &item)?;
@@ -65,16 +53,10 @@ impl Core {
     // The same, by a look at its ring. A group has the room of four records, which is made and moved
     // only where there are more than one.
     fn take_looked(&mut self, lane: usize) -> Result<Option<u64>, StoreFault>
-        requires sound { IsSound self.old holding }
-        requires inside { lane < length self.old.intake.lanes.items }
-        ensures sound { IsSound self.new holding }
-        ensures count { length self.new.intake.lanes.items ≡ length self.old.intake.lanes.items }
-        ensures dry { IfOk result (λ took. IfNone took
-            (Dries lane self.old.intake.lanes.items self.new.intake.lanes.items)) }
-        ensures few { IfOk result (λ took. IfSome took (λ n. n ≤ 4)) }
+        requires there { HasLane lane self.old holding }
+        ensures takes { TakesAny lane self.old result self.new holding }
         ensures leaves { TakeLeaves lane self.new.intake.lanes.items (away_in self.new)
             (kept_by self.old holding) result (kept_by self.new holding) }
-        ensures noted { noted_of self.new ≡ noted_of self.old }
     {
         if !self.look(lane) {
             return Ok(None);
@@ -88,15 +70,11 @@ impl Core {
 
     // The same, where the lane knows of a group, which may have more than one record.
     fn take_several(&mut self, lane: usize) -> Result<Option<u64>, StoreFault>
-        requires sound { IsSound self.old holding }
-        requires inside { lane < length self.old.intake.lanes.items }
-        requires waits { IsWaiting self.old.intake.lanes.items lane }
-        ensures sound { IsSound self.new holding }
-        ensures count { length self.new.intake.lanes.items ≡ length self.old.intake.lanes.items }
+        requires waits { Waits lane self.old holding }
+        ensures takes { TakesAny lane self.old result self.new holding }
         ensures some { IfOk result (λ took. IsSomeAnd took (λ n. n ≤ 4)) }
         ensures leaves { TakeLeaves lane self.new.intake.lanes.items (away_in self.new)
             (kept_by self.old holding) result (kept_by self.new holding) }
-        ensures noted { noted_of self.new ≡ noted_of self.old }
     {
         let group = self.intake.first(lane);
         let records = group.len() as u64;
@@ -106,18 +84,10 @@ impl Core {
 
     /// Takes the next group of a lane, which the lane knows of: its ring is not looked at.
     pub(crate) fn take_waiting(&mut self, lane: usize) -> Result<(), StoreFault>
-        requires sound { IsSound self.old holding }
-        requires inside { lane < length self.old.intake.lanes.items }
-        requires waits { IsWaiting self.old.intake.lanes.items lane }
-        ensures sound { IsSound self.new holding }
-        ensures count { length self.new.intake.lanes.items ≡ length self.old.intake.lanes.items }
-        ensures given { OnOk result (map given self.new.intake.lanes.items
-            ≡ map given self.old.intake.lanes.items) }
-        ensures known { OnOk result
-            (TookKnown lane self.old.intake.lanes.items self.new.intake.lanes.items) }
+        requires waits { Waits lane self.old holding }
+        ensures takes { TakesWaiting lane self.old result self.new holding }
         ensures leaves { WaitingLeaves lane self.new.intake.lanes.items (away_in self.new)
             (kept_by self.old holding) result (kept_by self.new holding) }
-        ensures noted { noted_of self.new ≡ noted_of self.old }
     {
         if let Some(item) = self.intake.alone(lane) {
             return self.take_item(lane, &item);
@@ -127,18 +97,10 @@ impl Core {
 
     // The same, where more than one record may wait as a group.
     fn take_first(&mut self, lane: usize) -> Result<(), StoreFault>
-        requires sound { IsSound self.old holding }
-        requires inside { lane < length self.old.intake.lanes.items }
-        requires waits { IsWaiting self.old.intake.lanes.items lane }
-        ensures sound { IsSound self.new holding }
-        ensures count { length self.new.intake.lanes.items ≡ length self.old.intake.lanes.items }
-        ensures given { OnOk result (map given self.new.intake.lanes.items
-            ≡ map given self.old.intake.lanes.items) }
-        ensures known { OnOk result
-            (TookKnown lane self.old.intake.lanes.items self.new.intake.lanes.items) }
+        requires waits { Waits lane self.old holding }
+        ensures takes { TakesWaiting lane self.old result self.new holding }
         ensures leaves { WaitingLeaves lane self.new.intake.lanes.items (away_in self.new)
             (kept_by self.old holding) result (kept_by self.new holding) }
-        ensures noted { noted_of self.new ≡ noted_of self.old }
     {
         let group = self.intake.first(lane);
         self.take_group(lane, group)
@@ -146,20 +108,10 @@ impl Core {
 
     // Takes this group, which is the next of its lane.
     fn take_group(&mut self, lane: usize, group: Group) -> Result<(), StoreFault>
-        requires sound { IsSound self.old holding }
-        requires inside { lane < length self.old.intake.lanes.items }
-        requires comes { IsNext self.old.intake.lanes.items lane group }
-        ensures sound { IsSound self.new holding }
-        ensures count { length self.new.intake.lanes.items ≡ length self.old.intake.lanes.items }
-        ensures given { OnOk result (map given self.new.intake.lanes.items
-            ≡ map given self.old.intake.lanes.items) }
-        ensures known { OnOk result
-            (TookKnown lane self.old.intake.lanes.items self.new.intake.lanes.items) }
-        ensures stays { OnErr result
-            (self.new.intake.lanes.items ≡ self.old.intake.lanes.items) }
+        requires comes { Comes lane group self.old holding }
+        ensures takes { TakesGroup lane self.old result self.new holding }
         ensures leaves { GroupLeaves lane (away_in self.new) group
             (kept_by self.old holding) result (kept_by self.new holding) }
-        ensures noted { noted_of self.new ≡ noted_of self.old }
     {
         match alone(group) {
             Ok(item) => self.take_item(lane, &item),
@@ -169,20 +121,10 @@ impl Core {
 
     // Takes a group of this one record.
     fn take_item(&mut self, lane: usize, item: &Record) -> Result<(), StoreFault>
-        requires sound { IsSound self.old holding }
-        requires inside { lane < length self.old.intake.lanes.items }
-        requires comes { IsNext self.old.intake.lanes.items lane (item.now ∷ []) }
-        ensures sound { IsSound self.new holding }
-        ensures count { length self.new.intake.lanes.items ≡ length self.old.intake.lanes.items }
-        ensures given { OnOk result (map given self.new.intake.lanes.items
-            ≡ map given self.old.intake.lanes.items) }
-        ensures known { OnOk result
-            (TookKnown lane self.old.intake.lanes.items self.new.intake.lanes.items) }
-        ensures stays { OnErr result
-            (self.new.intake.lanes.items ≡ self.old.intake.lanes.items) }
+        requires comes { Comes lane (item.now ∷ []) self.old holding }
+        ensures takes { TakesGroup lane self.old result self.new holding }
         ensures leaves { GroupLeaves lane (away_in self.new) (item.now ∷ [])
             (kept_by self.old holding) result (kept_by self.new holding) }
-        ensures noted { noted_of self.new ≡ noted_of self.old }
     {
         self.goes_on()?;
         let page = self.fetch(item.key())?;
@@ -191,22 +133,11 @@ impl Core {
 
     // The same, where the page at which it is directed is in memory.
     fn take_here(&mut self, lane: usize, item: &Record, page: u32) -> Result<(), StoreFault>
-        requires sound { IsSound self.old holding }
-        requires inside { lane < length self.old.intake.lanes.items }
-        requires comes { IsNext self.old.intake.lanes.items lane (item.now ∷ []) }
-        requires here { IsHere (key_of item.now) self.old.leaves }
-        requires page { page ≡ directed_at self.old.leaves.leaves item.now }
-        ensures sound { IsSound self.new holding }
-        ensures count { length self.new.intake.lanes.items ≡ length self.old.intake.lanes.items }
-        ensures given { OnOk result (map given self.new.intake.lanes.items
-            ≡ map given self.old.intake.lanes.items) }
-        ensures known { OnOk result
-            (TookKnown lane self.old.intake.lanes.items self.new.intake.lanes.items) }
-        ensures stays { OnErr result
-            (self.new.intake.lanes.items ≡ self.old.intake.lanes.items) }
+        requires comes { Comes lane (item.now ∷ []) self.old holding }
+        requires at { IsAt page item.now self.old }
+        ensures takes { TakesGroup lane self.old result self.new holding }
         ensures leaves { GroupLeaves lane (away_in self.new) (item.now ∷ [])
             (kept_by self.old holding) result (kept_by self.new holding) }
-        ensures noted { noted_of self.new ≡ noted_of self.old }
     {
         let found = self.leaves.place_on(page, item.key().as_slice());
         if self.leaves.is_cut_by(page, found, item) {
@@ -225,25 +156,14 @@ impl Core {
         page: u32,
         found: Result<usize, usize>,
     ) -> Result<(), StoreFault>
-        requires sound { IsSound self.old holding }
-        requires inside { lane < length self.old.intake.lanes.items }
-        requires comes { IsNext self.old.intake.lanes.items lane (item.now ∷ []) }
-        requires here { IsHere (key_of item.now) self.old.leaves }
-        requires page { page ≡ directed_at self.old.leaves.leaves item.now }
+        requires comes { Comes lane (item.now ∷ []) self.old holding }
+        requires at { IsAt page item.now self.old }
         requires found { IsFound self.old.leaves.leaves (key_of item.now) found }
         requires whole { length (result_of self.old.leaves.leaves item.now).pairs
             ≤ self.old.leaves.m }
-        ensures sound { IsSound self.new holding }
-        ensures count { length self.new.intake.lanes.items ≡ length self.old.intake.lanes.items }
-        ensures given { OnOk result (map given self.new.intake.lanes.items
-            ≡ map given self.old.intake.lanes.items) }
-        ensures known { OnOk result
-            (TookKnown lane self.old.intake.lanes.items self.new.intake.lanes.items) }
-        ensures stays { OnErr result
-            (self.new.intake.lanes.items ≡ self.old.intake.lanes.items) }
+        ensures takes { TakesGroup lane self.old result self.new holding }
         ensures leaves { GroupLeaves lane (away_in self.new) (item.now ∷ [])
             (kept_by self.old holding) result (kept_by self.new holding) }
-        ensures noted { noted_of self.new ≡ noted_of self.old }
     {
         let _ = item.key(); // For the proof.
         self.goes_on()?;
@@ -257,22 +177,11 @@ impl Core {
 
     // The same, where it does: its blocks are planned.
     fn take_cut(&mut self, lane: usize, item: &Record, page: u32) -> Result<(), StoreFault>
-        requires sound { IsSound self.old holding }
-        requires inside { lane < length self.old.intake.lanes.items }
-        requires comes { IsNext self.old.intake.lanes.items lane (item.now ∷ []) }
-        requires here { IsHere (key_of item.now) self.old.leaves }
-        requires page { page ≡ directed_at self.old.leaves.leaves item.now }
-        ensures sound { IsSound self.new holding }
-        ensures count { length self.new.intake.lanes.items ≡ length self.old.intake.lanes.items }
-        ensures given { OnOk result (map given self.new.intake.lanes.items
-            ≡ map given self.old.intake.lanes.items) }
-        ensures known { OnOk result
-            (TookKnown lane self.old.intake.lanes.items self.new.intake.lanes.items) }
-        ensures stays { OnErr result
-            (self.new.intake.lanes.items ≡ self.old.intake.lanes.items) }
+        requires comes { Comes lane (item.now ∷ []) self.old holding }
+        requires at { IsAt page item.now self.old }
+        ensures takes { TakesGroup lane self.old result self.new holding }
         ensures leaves { GroupLeaves lane (away_in self.new) (item.now ∷ [])
             (kept_by self.old holding) result (kept_by self.new holding) }
-        ensures noted { noted_of self.new ≡ noted_of self.old }
     {
         let plan = self.plan(page, item)?;
         if self.making.has_room(plan.blocks.as_slice()) {
@@ -285,20 +194,10 @@ impl Core {
 
     // Takes a group of several records: all of it is planned before anything is entered.
     fn take_many(&mut self, lane: usize, group: Group) -> Result<(), StoreFault>
-        requires sound { IsSound self.old holding }
-        requires inside { lane < length self.old.intake.lanes.items }
-        requires comes { IsNext self.old.intake.lanes.items lane group }
-        ensures sound { IsSound self.new holding }
-        ensures count { length self.new.intake.lanes.items ≡ length self.old.intake.lanes.items }
-        ensures given { OnOk result (map given self.new.intake.lanes.items
-            ≡ map given self.old.intake.lanes.items) }
-        ensures known { OnOk result
-            (TookKnown lane self.old.intake.lanes.items self.new.intake.lanes.items) }
-        ensures stays { OnErr result
-            (self.new.intake.lanes.items ≡ self.old.intake.lanes.items) }
+        requires comes { Comes lane group self.old holding }
+        ensures takes { TakesGroup lane self.old result self.new holding }
         ensures leaves { GroupLeaves lane (away_in self.new) group
             (kept_by self.old holding) result (kept_by self.new holding) }
-        ensures noted { noted_of self.new ≡ noted_of self.old }
     {
         let _ = group.len(); // For the proof.
         self.goes_on()?;
@@ -318,27 +217,14 @@ impl Core {
         group: Group,
         entries: Vec<PackedEntry>,
     ) -> Result<(), StoreFault>
-        requires sound { IsSound self.old holding }
-        requires inside { lane < length self.old.intake.lanes.items }
-        requires comes { IsNext self.old.intake.lanes.items lane group }
-        requires entries { entries.items ≡ entered lane (marked group) }
-        requires records { records entries.items ≡ group }
-        requires here { AreHere self.old.leaves group }
-        requires lawful { AllByRecursion IsOp group }
+        requires comes { Comes lane group self.old holding }
+        requires packed { IsPacked lane group entries.items self.old }
         requires works { (kept_by self.old holding).log.is_failed ≡ false }
         requires room { HasPages self.old.leaves.m self.old.leaves.leaves group }
         requires full { Fits (kept_by self.old holding) group → ⊥ }
-        ensures sound { IsSound self.new holding }
-        ensures count { length self.new.intake.lanes.items ≡ length self.old.intake.lanes.items }
-        ensures given { OnOk result (map given self.new.intake.lanes.items
-            ≡ map given self.old.intake.lanes.items) }
-        ensures known { OnOk result
-            (TookKnown lane self.old.intake.lanes.items self.new.intake.lanes.items) }
-        ensures stays { OnErr result
-            (self.new.intake.lanes.items ≡ self.old.intake.lanes.items) }
+        ensures takes { TakesGroup lane self.old result self.new holding }
         ensures leaves { GroupLeaves lane (away_in self.new) group
             (kept_by self.old holding) result (kept_by self.new holding) }
-        ensures noted { noted_of self.new ≡ noted_of self.old }
     {
         let _ = group.len(); // For the proof.
         self.flush_making(false)?;
@@ -365,9 +251,7 @@ impl Core {
     pub(crate) fn goes_on(&self) -> Result<(), StoreFault>
         requires sound { IsSound self.now holding }
         ensures works { OnOk result ((kept_by self.now holding).log.is_failed ≡ false) }
-        ensures unsealed { OnOk result (self.now.making.is_sealed ≡ false) }
-        ensures next { OnOk result ((kept_by self.now holding).log.next
-            ≡ Some self.now.making.frame) }
+        ensures frame { OnOk result (HasFrame self.now holding) }
         ensures refused { IfErr result (IsStopped (kept_by self.now holding)) }
     {
         if self.log.is_failed() {
@@ -382,12 +266,9 @@ impl Core {
     // What a record of this page adds, where there is a frame for it.
     fn plan(&self, page: u32, item: &Record) -> Result<Plan, StoreFault>
         requires sound { IsSound self.now holding }
-        requires here { IsHere (key_of item.now) self.now.leaves }
-        requires page { page ≡ directed_at self.now.leaves.leaves item.now }
+        requires at { IsAt page item.now self.now }
         ensures works { OnOk result ((kept_by self.now holding).log.is_failed ≡ false) }
-        ensures unsealed { OnOk result (self.now.making.is_sealed ≡ false) }
-        ensures next { OnOk result ((kept_by self.now holding).log.next
-            ≡ Some self.now.making.frame) }
+        ensures frame { OnOk result (HasFrame self.now holding) }
         ensures plan { IfOk result (IsPlan (kept_by self.now holding) item.now) }
         ensures lawful { IfOk result (λ p. AllByRecursion (IsBlock 32) (listed p.blocks)
             × (length (listed p.blocks) ≤ 2)) }

@@ -21,7 +21,8 @@ pub(crate) struct Count {
 }
 
 impl Core {
-    ghost use Rattle.bw_core.specs.Views.{away_in, kept_by, lanes_of, noted_of, IsSound};
+    ghost use Rattle.bw_core.specs.Going.{IsQuiet};
+    ghost use Rattle.bw_core.specs.Views.{away_in, kept_by, lanes_of, IsSound};
 
     /// Takes groups in rounds over lanes 0, 1, .., one from each that has one, until `limit` of
     /// them are taken or a round took none; answers how many records these have. A group's blocks
@@ -37,7 +38,7 @@ impl Core {
     /// `NoMemory`.
     pub fn turn(&mut self, limit: u32) -> Result<u64, TurnFault>
         requires sound { IsSound self.old holding }
-        ensures sound { IsSound self.new holding }
+        ensures quiet { IsQuiet self.old self.new holding }
         ensures turned { MatchResult result (λ n.
             Turned n (kept_by self.old holding) (kept_by self.new holding))
             (λ fault. Turned fault.taken (kept_by self.old holding) (kept_by self.new holding)) }
@@ -59,7 +60,6 @@ impl Core {
             (kept_by self.new holding)) }
         ensures tried { IfErr result (λ fault.
             groups_since (kept_by self.old holding) (kept_by self.new holding) < limit) }
-        ensures noted { noted_of self.new ≡ noted_of self.old }
 
         // As the machine: so many groups are taken, and what a stop leaves is found.
         ensures steps { MatchResult result
@@ -88,14 +88,13 @@ impl Core {
         requires sound { IsSound self.old holding }
         requires within { taken.groups ≤ limit }
         requires few { taken.records ≤ 4 * taken.groups }
-        ensures sound { IsSound self.new holding }
+        ensures quiet { IsQuiet self.old self.new holding }
         ensures turned { TurnsOn limit taken (kept_by self.old holding) result
             self.new.intake.lanes.items (away_in self.new) (kept_by self.new holding) }
         ensures within { IfOk result (λ n. (taken.groups ≤ n.groups) × (n.groups ≤ limit)) }
         ensures few { IfOk result (λ n. n.records ≤ 4 * n.groups) }
         ensures dry { IfOk result (λ n. n.groups ≡ taken.groups → taken.groups < limit
             → AreDry self.new.intake.lanes.items) }
-        ensures noted { noted_of self.new ≡ noted_of self.old }
     {
         let mut so_far = taken;
         let lanes = self.intake.writers();
@@ -114,7 +113,7 @@ impl Core {
         requires inside { lane < length self.old.intake.lanes.items }
         requires room { taken.groups < u32.MAX }
         requires few { taken.records ≤ 4 * taken.groups }
-        ensures sound { IsSound self.new holding }
+        ensures quiet { IsQuiet self.old self.new holding }
         ensures count { length self.new.intake.lanes.items ≡ length self.old.intake.lanes.items }
         ensures turned { TurnsOn (taken.groups + 1) taken (kept_by self.old holding) result
             self.new.intake.lanes.items (away_in self.new) (kept_by self.new holding) }
@@ -123,7 +122,6 @@ impl Core {
         ensures few { IfOk result (λ n. n.records ≤ 4 * n.groups) }
         ensures dry { IfOk result (λ n. n.groups ≡ taken.groups
             → Dries lane self.old.intake.lanes.items self.new.intake.lanes.items) }
-        ensures noted { noted_of self.new ≡ noted_of self.old }
     {
         match self.take_from(lane) {
             Ok(Some(records)) => Ok(Count {

@@ -9,8 +9,7 @@ ghost use Rattle.bw_care.specs.Upgrading.{old_segments};
 ghost use Rattle.bw_core.specs.Cleaning.{HasBoxesBut, HasFloorBut};
 ghost use Rattle.bw_core.specs.Counting.{counted_gone, CountsUpgraded};
 ghost use Rattle.bw_core.specs.Following.{Continues};
-ghost use Rattle.bw_core.specs.Kept.{EachCutStands};
-ghost use Rattle.bw_core.specs.Machine.{KeepsAs, MayBeStopped};
+ghost use Rattle.bw_core.specs.Machine.{RunsAs};
 ghost use Rattle.bw_core.specs.Upgrading.{UpgradeMoves, UpgradeLeaves};
 
 use crate::fault::StoreFault;
@@ -19,7 +18,8 @@ use bw_care::{Upgraded, bytes_upto, live_bytes, old_segments, upgrade};
 
 impl Core {
     ghost use Rattle.bw_core.specs.Moving.{MayMove};
-    ghost use Rattle.bw_core.specs.Views.{forgotten_of, kept_by, noted_of, IsSound};
+    ghost use Rattle.bw_core.specs.Going.{IsQuiet};
+    ghost use Rattle.bw_core.specs.Views.{forgotten_of, kept_by, IsSound};
 
     /// Gives up all live segments of format 1: what waits is flushed, then each page that was last
     /// set in one of them is written again in format 2, and their boxes are dropped, oldest first.
@@ -45,7 +45,6 @@ impl Core {
 
         // The floor is what is durable once segments are given up, and stays else.
         ensures floor { HasFloorBut (kept_by self.old holding) result (kept_by self.new holding) }
-        ensures each_cut { EachCutStands (kept_by self.new holding) }
 
         ensures follows { Continues (kept_by self.old holding) (kept_by self.new holding) }
         // Nothing is forgotten, and what is counted is what the upgrade did.
@@ -56,8 +55,7 @@ impl Core {
             (kept_by self.old holding) result (kept_by self.new holding) }
 
         // As the machine: all that was taken is kept, and what a stop leaves is found.
-        ensures steps { KeepsAs result (kept_by self.old holding) (kept_by self.new holding) }
-        ensures may_leave { MayBeStopped (kept_by self.new holding) }
+        ensures runs { RunsAs (kept_by self.old holding) result (kept_by self.new holding) }
     {
         if self.old_segments() == 0 {
             return Err(StoreFault::NothingOld);
@@ -102,10 +100,9 @@ impl Core {
     fn upgrade_pages(&mut self) -> Result<Upgraded, StoreFault>
         requires ready { MayMove self.old holding }
         requires some { 1 ≤ old_segments (kept_by self.old holding).log }
-        ensures sound { IsSound self.new holding }
+        ensures quiet { IsQuiet self.old self.new holding }
         ensures leaves { UpgradeMoves (kept_by self.old holding) result (kept_by self.new holding) }
         ensures none_left { IfOk result (λ _. old_segments (kept_by self.new holding).log ≡ 0) }
-        ensures noted { noted_of self.new ≡ noted_of self.old }
     {
         let alloc = *self.cuts.allocator();
         let first = self.log.next_frame();

@@ -2,38 +2,19 @@
 
 use crate::fault::KeysFault;
 use crate::span::Span;
-use bw_care::{RecoverCause, RecoverFault, recover};
+use bw_care::recover;
 use bw_codec::limits::{HEADER_LEN, MAX_FRAME};
-use bw_codec::{HeaderRead, Key, Pair, read_header};
+use bw_codec::{Key, Pair};
 use bw_device::{Desk, MemSegment, Segment};
 use bw_file::FolderReader;
 use bw_home::{HomeFault, System};
 use bw_page::Leaves;
+use bw_site::{beginning_of, copy_of};
 use bw_watch::{Watch, Work, folder_bytes};
 use std::alloc::Global;
 
 /// The least capacity of a copy, in bytes: a header and the longest frame.
 const LEAST: u64 = HEADER_LEN as u64 + MAX_FRAME as u64;
-
-/// A copy of the file of the next lease; an empty segment where it has none.
-fn copy_of<R: System>(
-    rt: &R,
-    reader: &FolderReader,
-    desk: &mut Desk,
-    leases: &[u32],
-) -> Result<MemSegment, HomeFault> {
-    let lease = desk.take()?;
-    if leases.contains(&lease.number()) {
-        return match reader.copy(rt, lease, LEAST) {
-            Ok(copy) => Ok(copy),
-            Err(refused) => Err(HomeFault::from(refused.cause)),
-        };
-    }
-    match MemSegment::new(rt.alloc(), lease, LEAST) {
-        Ok(segment) => Ok(segment),
-        Err(refused) => Err(HomeFault::from(refused.cause)),
-    }
-}
 
 /// Opens a folder for reading, and answers the leases of its files, one at least.
 fn opened<R: System>(rt: &R, path: &str) -> Result<(FolderReader, Vec<u32>), KeysFault> {
@@ -69,7 +50,7 @@ fn copies_of<R: System, W: Watch>(
     let mut copies = Vec::new(rt.alloc());
     let mut done = 0u64;
     for _ in 0..count {
-        let copy = copy_of(rt, reader, &mut desk, files)?;
+        let copy = copy_of(rt, reader, &mut desk, files, LEAST)?;
         done = done.saturating_add(copy.len());
         copies.push(copy)?;
         watch.see(Work::Reading, done, all);
@@ -77,48 +58,23 @@ fn copies_of<R: System, W: Watch>(
     Ok(copies)
 }
 
-/// Whether a segment, of a log in which no frame is whole, may be the first that was ever begun: it
-/// has no bytes or a part of a header, or the header of segment 1.
-fn may_be_first(one: &mut Box<dyn Segment>) -> bool {
-    let mut front = [0u8; 24];
-    if one.len() < 24 {
-        return true;
-    }
-    if one.failures() == u64::MAX || one.read(0, &mut front).is_err() {
-        return false;
-    }
-    matches!(read_header(&front), HeaderRead::Whole(header) if header.number == 1)
-}
-
-/// Whether these segments, which have no whole frame, hold the beginning of a first one alone, of
-/// which nothing was ever durable: whoever writes there begins anew.
-fn are_begun(boxes: &mut [Box<dyn Segment>]) -> bool {
-    let mut count = 0usize;
-    for one in boxes {
-        if one.len() > 0 {
-            count = count.saturating_add(1);
-            if !may_be_first(one) {
-                return false;
-            }
+/// The pages of these segments; `None` where nothing was ever durable in them: whoever writes there
+/// begins anew.
+fn pages_of(alloc: Global, boxes: Vec<Box<dyn Segment>>) -> Result<Option<Leaves>, HomeFault> {
+    match recover(alloc, boxes) {
+        Ok(recovered) => Ok(Some(recovered.leaves)),
+        Err(fault) => {
+            let _ = beginning_of(fault)?;
+            Ok(None)
         }
     }
-    count <= 1
-}
-
-/// The pages of these segments; `None` where nothing was ever durable in them.
-fn pages_of(alloc: Global, boxes: Vec<Box<dyn Segment>>) -> Result<Option<Leaves>, HomeFault> {
-    let RecoverFault { mut boxes, cause } = match recover(alloc, boxes) {
-        Ok(recovered) => return Ok(Some(recovered.leaves)),
-        Err(fault) => fault,
-    };
-    if matches!(cause, RecoverCause::Empty) && are_begun(&mut boxes) {
-        return Ok(None);
-    }
-    Err(HomeFault::from(cause))
 }
 
 /// The same of copies. Their boxes are made here alone.
 fn pages_in_copies(alloc: Global, copies: Vec<MemSegment>) -> Result<Option<Leaves>, HomeFault> {
+    if copies.iter().all(|copy| copy.len() == 0) {
+        return Ok(None);
+    }
     let mut boxes: Vec<Box<dyn Segment>> = Vec::new(alloc);
     for copy in copies {
         boxes.push(Box::new(alloc, copy)?)?;

@@ -1,13 +1,15 @@
 -- A map of lines, and the links of the blocks that were read.
 
-use Rattle.std.proofs.Common.{zero, suc, take, drop, get_or, ◌+◌, ◌<◌, length, append_assoc, arith, ◌≡◌, ℕ, Bool, true, false, if◌then◌else◌, Option, Some, None}
+use Rattle.std.proofs.Common.{zero, suc, take, drop, get_or, ◌+◌, ◌<◌, length, append_assoc, arith, ◌≡◌, ℕ, Bool, true, false, if◌then◌else◌, nat_eq, Option, Some, None, Result, Ok, Err, OnOk, IfErr}
 use Rattle.std.proofs.Common.{List, [], ◌∷◌, ◌++◌, refl, sym, ap, ◌∙◌, subst}
 use Rattle.std.specs.List.{fold}
 use Rattle.std.specs.BTreeMap as tree
 use Rattle.std.specs.Ordering.{nat_cmp}
 use Rattle.std.proofs.lemmas.Grind.{fold-append}
 use Rattle.bw_codec.specs.Touch.{sets, touches}
+use Rattle.bw_record.specs.declared.record.Record.{Record}
 use Rattle.bw_codec.specs.declared.block.Block.{Block}
+use Rattle.bw_codec.specs.declared.block.Block.TheVariants.{Delta}
 use Rattle.bw_codec.specs.declared.block.Place.{Place}
 use Rattle.bw_log.specs.PageTable.{changed_line, set_line}
 use Rattle.bw_log.specs.declared.places.PageAt.{PageAt}
@@ -16,7 +18,8 @@ use Rattle.bw_log.proofs.Links.{bad_link-append}
 use Rattle.bw_lines.specs.declared.page_lines.Line.{Line}
 use Rattle.bw_lines.specs.declared.page_lines.ReadFault.{ReadFault}
 use Rattle.bw_lines.specs.declared.page_lines.ReadFault.TheVariants.{NoMemory, BadLink}
-use Rattle.bw_lines.specs.Reading.{place_in, at_in, line_after, line_of, AreLines, IsRead, LinkFaultIs}
+use Rattle.bw_lines.specs.Reading.{place_in, at_in, changed_by, line_after, line_of, AreLines, IsRead, LinkFaultIs, IsUnlinked}
+use Rattle.bw_lines.proofs.LinesAfter.{delta_told}
 
 -- a line's place is the last block that touches the page
 -- wherever a page was set before, its last block is the one that was read
@@ -144,3 +147,35 @@ pub blocks_step : (first number i : ℕ) (done : List (Place × Block)) (all lat
     → IsRead first (done ++ placed number 0 (take (i + 1) all)) lines
 blocks_step first number i done all later b lines n read =
     subst (λ (l : List Block). IsRead first (done ++ placed number 0 l) lines) (sym n.front) (blocks_more first number i done (take i all) b lines n.index read)
+
+-- ---- a Delta, whose link is looked at with its page's line
+
+pub delta_linked : (r : Result (Unit {0}) ReadFault) (first : ℕ) (done : List (Place × Block)) (old new : tree.BTreeMap ℕ Line) (place back : Place) (page : ℕ)
+    (ops records : List Record) (block : Block) → block ≡ Delta page back ops → records ≡ ops
+    → OnOk r (is_back first (place_in (tree.get nat_cmp old page)) back ≡ true)
+    → ((p : ℕ) → OnOk r (tree.get nat_cmp new p ≡ (if nat_eq page p then Some (changed_by place records (tree.get nat_cmp old page)) else tree.get nat_cmp old p)))
+    → IsRead first done old → OnOk r (IsRead first (done ++ (place, block) ∷ []) new)
+delta_linked (Ok u) first done old new place back page ops records block is same linked put read =
+    let links : fault_of first done block ≡ None =
+    ap (fault_of first done) is ∙ sym (right first done old page back true read (sym linked)) in
+    read_more first done old new place block read links
+    (delta_told {E = ReadFault} (Ok u) place back page ops records block (tree.get nat_cmp old) (tree.get nat_cmp new) is same put)
+delta_linked (Err e) first done old new place back page ops records block is same linked put read = tt
+
+pub delta_unlinked : (r : Result (Unit {0}) ReadFault) (first : ℕ) (done : List (Place × Block)) (old : tree.BTreeMap ℕ Line) (back : Place) (page : ℕ)
+    (ops : List Record) (block : Block) → block ≡ Delta page back ops
+    → IfErr r (IsUnlinked first page (place_in (tree.get nat_cmp old page)) back)
+    → IsRead first done old → IfErr r (LinkFaultIs (fault_of first done block))
+delta_unlinked (Ok u) first done old back page ops block is fault read = tt
+delta_unlinked (Err NoMemory) first done old back page ops block is fault read = tt
+delta_unlinked (Err (BadLink p)) first done old back page ops block is fault read =
+    ap (fault_of first done) is ∙ sym (right first done old page back false read (sym fault.1)) ∙ ap (λ (q : ℕ). Some q) (sym fault.0)
+
+-- ---- another block
+
+pub set_linked : (first : ℕ) (done : List (Place × Block)) (old new : tree.BTreeMap ℕ Line) (place : Place) (block known : Block) → block ≡ known
+    → fault_of first done known ≡ None → AreLines old ((place, known) ∷ []) new → IsRead first done old
+    → IsRead first (done ++ (place, block) ∷ []) new
+set_linked first done old new place block known is links step read =
+    read_more first done old new place block read (ap (fault_of first done) is ∙ links)
+    (subst (λ (b : Block). AreLines old ((place, b) ∷ []) new) (sym is) step)

@@ -1,6 +1,6 @@
 -- One page after another block: its places and what it is.
 
-use Rattle.std.specs.Prelude.{ℕ, ◌≡◌, if◌then◌else◌, Option, Some, None, List, []}
+use Rattle.std.specs.Prelude.{ℕ, ◌≡◌, false, if◌then◌else◌, Option, Some, None, List, []}
 use Rattle.std.specs.List.{fold}
 use Rattle.std.specs.Option.{option_map}
 use Rattle.std.specs.BTreeMap as tree
@@ -13,7 +13,7 @@ use Rattle.bw_record.specs.declared.record.Record.{Record}
 use Rattle.bw_leaf.specs.Changed.{all_changed}
 use Rattle.bw_leaf.specs.Forwards.{after}
 use Rattle.bw_log.specs.PageTable.{changed_line, set_line, empty_line}
-use Rattle.bw_log.specs.Places.{bad_link}
+use Rattle.bw_log.specs.Places.{bad_link, is_back}
 use Rattle.bw_lines.specs.declared.page_lines.ReadFault.{ReadFault}
 use Rattle.bw_lines.specs.declared.page_lines.ReadFault.TheVariants.{NoMemory, BadLink}
 use Rattle.bw_log.specs.declared.places.PageAt.{PageAt}
@@ -61,3 +61,8 @@ pub record IsRead (first : ℕ) (done : List (Place × Block)) (map : tree.BTree
 abbrev pub LinkFaultIs : Option ℕ → ReadFault → Type 0
 LinkFaultIs page NoMemory = Unit {0}
 LinkFaultIs page (BadLink p) = page ≡ Some p
+
+-- a block of a page links back wrongly, where this is the last one that touches it; unless memory ran out
+abbrev pub IsUnlinked : ℕ → ℕ → Option Place → Place → ReadFault → Type 0
+IsUnlinked first page last back NoMemory = Unit {0}
+IsUnlinked first page last back (BadLink p) = (p ≡ page) × (is_back first last back ≡ false)

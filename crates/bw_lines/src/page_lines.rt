@@ -10,8 +10,9 @@ ghost use Rattle.std.specs.BTreeMap as tree;
 ghost use Rattle.std.specs.Ordering.{nat_cmp};
 ghost use Rattle.bw_leaf.specs.Changed.{all_changed};
 ghost use Rattle.bw_leaf.specs.Forwards.{kept_below};
-ghost use Rattle.bw_log.specs.Places.{is_back, fault_at, fault_of, placed, all_placed, bad_link};
-ghost use Rattle.bw_lines.specs.Reading.{place_in, at_in, leaf_in, changed_by, line_after, AreLines, IsRead, LinkFaultIs};
+ghost use Rattle.bw_codec.specs.declared.block.Block.TheVariants.{Base as BlockBase, Split as BlockSplit};
+ghost use Rattle.bw_log.specs.Places.{is_place, is_back, fault_at, fault_of, placed, all_placed, bad_link};
+ghost use Rattle.bw_lines.specs.Reading.{place_in, at_in, leaf_in, changed_by, line_after, AreLines, IsRead, LinkFaultIs, IsUnlinked};
 ghost use Rattle.bw_codec.specs.declared.block.Place.{Place as PlaceValue};
 ghost use Rattle.bw_codec.specs.declared.block.Block.{Block as BlockValue};
 
@@ -55,6 +56,13 @@ impl DraftLine {
             None => None,
         };
         Ok(Line { at, leaf })
+    }
+
+    // Whether a block of the page may link back so.
+    fn is_last(&self, back: Place) -> bool
+        ensures { result ≡ is_place self.now.at.place back }
+    {
+        self.at.place.frame == back.frame && self.at.place.index == back.index
     }
 
     // The line after the records of a Delta at a place.
@@ -115,81 +123,105 @@ fn put_line(
     Ok(())
 }
 
-// Changes the line of a page by the records of a Delta, where the map has one; whether it does.
+// Changes the line of a page by the records of a Delta, where the map has one; whether it does. The
+// line is looked for once, for its link and for its change.
 fn change_there(
     lines: &mut BTreeMap<u32, DraftLine>,
+    first: u64,
     page: u32,
+    back: Place,
     place: Place,
     records: &[Packed],
-) -> Result<bool, AllocError>
+) -> Result<bool, ReadFault>
     ensures known { IfOk result (λ known. known ≡ is_some (tree.get nat_cmp lines.old page)) }
+    ensures linked { IfOk result (λ _. is_back first (place_in (tree.get nat_cmp lines.old page)) back
+        ≡ true) }
     ensures value { result ≡ Ok true → (p : ℕ) → tree.get nat_cmp lines.new p
         ≡ (if nat_eq page p
         then Some (changed_by place records.now (tree.get nat_cmp lines.old page))
         else tree.get nat_cmp lines.old p) }
     ensures none { result ≡ Ok false → lines.new ≡ lines.old }
+    ensures fault { IfErr result
+        (IsUnlinked first page (place_in (tree.get nat_cmp lines.old page)) back) }
 {
     match lines.get_mut(&page) {
         Some(line) => {
+            if !line.is_last(back) {
+                return Err(ReadFault::BadLink(page));
+            }
             line.change(place, records)?;
             Ok(true)
         }
-        None => Ok(false),
+        None => {
+            if 0 < back.frame && back.frame < first {
+                Ok(false)
+            } else {
+                Err(ReadFault::BadLink(page))
+            }
+        }
     }
 }
 
 // A Delta: the line of its page stays where it is in the map.
 fn read_delta(
     lines: &mut BTreeMap<u32, DraftLine>,
+    first: u64,
     page: u32,
+    back: Place,
     place: Place,
     records: &[Packed],
-) -> Result<(), AllocError>
-    ensures { (p : ℕ) → OnOk result (tree.get nat_cmp lines.new p
+) -> Result<(), ReadFault>
+    ensures linked { OnOk result (is_back first (place_in (tree.get nat_cmp lines.old page)) back
+        ≡ true) }
+    ensures lines { (p : ℕ) → OnOk result (tree.get nat_cmp lines.new p
         ≡ (if nat_eq page p
         then Some (changed_by place records.now (tree.get nat_cmp lines.old page))
         else tree.get nat_cmp lines.old p)) }
+    ensures fault { IfErr result
+        (IsUnlinked first page (place_in (tree.get nat_cmp lines.old page)) back) }
 {
-    if change_there(lines, page, place, records)? {
+    if change_there(lines, first, page, back, place, records)? {
         return Ok(());
     }
     let at = PageAt::NONE.changed(place);
-    put_line(lines, page, DraftLine { at, draft: None })
+    put_line(lines, page, DraftLine { at, draft: None })?;
+    Ok(())
 }
 
-/// One more block. A refused growth is the only error.
-pub fn read_one(
+// A Base: a page that was set.
+fn read_base(
     lines: &mut BTreeMap<u32, DraftLine>,
     place: Place,
-    block: &Block,
+    leaf: &Leaf,
 ) -> Result<(), AllocError>
-    ensures { OnOk result (AreLines lines.old ((place, block.now) ∷ []) lines.new) }
+    ensures { OnOk result (AreLines lines.old ((place, BlockBase leaf.now) ∷ []) lines.new) }
 {
-    match block {
-        Block::Delta { page, back: _, ops } => read_delta(lines, *page, place, ops.as_slice()),
-        Block::Base(leaf) => {
-            let line = DraftLine {
-                at: PageAt::set(place),
-                draft: Some(Draft::of(leaf.copy()?)),
-            };
-            put_line(lines, leaf.page, line)
-        }
-        Block::Split {
-            page,
-            back: _,
-            upper,
-        } => {
-            let (at, draft) = take_line(lines, *page);
-            let draft = keep_some(draft, upper.low.as_slice());
-            let at = at.changed(place);
-            put_line(lines, *page, DraftLine { at, draft })?;
-            let line = DraftLine {
-                at: PageAt::set(place),
-                draft: Some(Draft::of(upper.copy()?)),
-            };
-            put_line(lines, upper.page, line)
-        }
-    }
+    let line = DraftLine {
+        at: PageAt::set(place),
+        draft: Some(Draft::of(leaf.copy()?)),
+    };
+    put_line(lines, leaf.page, line)
+}
+
+// A Split: its page loses its upper pairs, which a new page has.
+fn read_split(
+    lines: &mut BTreeMap<u32, DraftLine>,
+    place: Place,
+    page: u32,
+    upper: &Leaf,
+) -> Result<(), AllocError>
+    ensures { (back : PlaceValue) → OnOk result
+        (AreLines lines.old ((place, BlockSplit page back upper.now) ∷ []) lines.new) }
+{
+    let (at, draft) = take_line(lines, page);
+    let draft = keep_some(draft, upper.low.as_slice());
+    let at = at.changed(place);
+    put_line(lines, page, DraftLine { at, draft })?;
+    let line = DraftLine {
+        at: PageAt::set(place),
+        draft: Some(Draft::of(upper.copy()?)),
+    };
+    put_line(lines, upper.page, line)
 }
 
 /// Whether a block of this page may link back so.
@@ -197,7 +229,7 @@ pub fn links_back(lines: &BTreeMap<u32, DraftLine>, first: u64, page: u32, back:
     ensures { result ≡ is_back first (place_in (tree.get nat_cmp lines.now page)) back }
 {
     match lines.get(&page) {
-        Some(line) => line.at.place.frame == back.frame && line.at.place.index == back.index,
+        Some(line) => line.is_last(back),
         None => 0 < back.frame && back.frame < first,
     }
 }
@@ -232,18 +264,6 @@ fn wrong_back(lines: &BTreeMap<u32, DraftLine>, first: u64, page: u32, back: Pla
     }
 }
 
-// The page of a block that links back wrongly.
-fn wrong_link(lines: &BTreeMap<u32, DraftLine>, first: u64, block: &Block) -> Option<u32>
-    ensures { (done : List (PlaceValue × BlockValue)) → IsRead first done lines.now
-        → result ≡ fault_of first done block.now }
-{
-    match block {
-        Block::Delta { page, back, .. } => wrong_back(lines, first, *page, *back),
-        Block::Base(_) => None,
-        Block::Split { page, back, .. } => wrong_back(lines, first, *page, *back),
-    }
-}
-
 /// One more block, whose link is looked at first.
 pub fn read_linked(
     lines: &mut BTreeMap<u32, DraftLine>,
@@ -256,12 +276,21 @@ pub fn read_linked(
     ensures fault { (done : List (PlaceValue × BlockValue)) → IsRead first done lines.old
         → IfErr result (LinkFaultIs (fault_of first done block.now)) }
 {
-    match wrong_link(lines, first, block) {
-        Some(page) => Err(ReadFault::BadLink(page)),
-        None => {
-            read_one(lines, place, block)?;
+    match block {
+        Block::Delta { page, back, ops } => {
+            read_delta(lines, first, *page, *back, place, ops.as_slice())
+        }
+        Block::Base(leaf) => {
+            read_base(lines, place, leaf)?;
             Ok(())
         }
+        Block::Split { page, back, upper } => match wrong_back(lines, first, *page, *back) {
+            Some(page) => Err(ReadFault::BadLink(page)),
+            None => {
+                read_split(lines, place, *page, upper)?;
+                Ok(())
+            }
+        },
     }
 }
 

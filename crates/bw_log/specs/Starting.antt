@@ -10,7 +10,7 @@ use Rattle.bw_log.specs.declared.starts.Starts.TheInside.{Inside}
 
 abbrev pub source_starts : Source → List ℕ
 source_starts (Appended buffer) = starts_of latest (frame_of buffer.value)
-source_starts (Found version frame) = starts_of version frame.value
+source_starts (Found starts) = starts.value.items
 
 abbrev pub starts_view : Inside → List ℕ
 starts_view a = source_starts a.source

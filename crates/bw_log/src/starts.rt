@@ -14,7 +14,7 @@ ghost use Rattle.bw_log.specs.Starts.{starts_of, IsSpan};
 
 use bw_buffer::Buffer;
 use bw_codec::limits::HEAD_LEN;
-use bw_codec::{CodecFault, Frame, Outline};
+use bw_codec::{CodecFault, Outline};
 use std::alloc::Global;
 use std::marker::Model;
 use std::snapshot::Snapshot;
@@ -24,8 +24,8 @@ use std::snapshot::Snapshot;
 enum Source {
     /// It was appended.
     Appended(Snapshot<Buffer>),
-    /// It was found in a segment of this version.
-    Found(u16, Snapshot<Frame>),
+    /// It was found in a segment, and they were read once.
+    Found(Snapshot<Vec<u32>>),
 }
 
 /// Where the blocks of a frame begin in it, once somebody asked.
@@ -73,14 +73,19 @@ impl Starts {
         }
     }
 
-    /// Those of a frame that was found in a segment of this version. No memory is taken.
-    pub fn of_found(alloc: Global, version: u16, frame: &Frame) -> Starts
-        ensures { result ≡ starts_of version frame.now }
+    /// Those of the frame that the bytes spell in a format; nothing that was read for it is kept.
+    /// `NoMemory` is the only fault of a frame's own bytes.
+    pub fn of_found(alloc: Global, version: u16, bytes: &[u8]) -> Result<Starts, CodecFault>
+        requires { length bytes.now < 2 ^ 32 }
+        ensures { (m f : ℕ) (frame : Frame) → m < 2 ^ 16 → IsFrameIn version m f frame
+            → bytes.now ≡ frame_bytes_in version frame
+            → Gives (λ x. x) result (Some (starts_of version frame)) }
     {
-        Starts {
-            source: Source::Found(version, Snapshot::of(frame)),
+        let starts = starts_in(alloc, version, bytes)?;
+        Ok(Starts {
+            source: Source::Found(Snapshot::of(&starts)),
             known: Vec::new(alloc),
-        }
+        })
     }
 
     /// Where the block of an index begins and ends in the frame, of so many bytes; `None` where

@@ -29,4 +29,4 @@ pub use picture::{Scene, write_picture};
 pub use printer::{NotWritten, Printer};
 pub use restored::{kept_bytes, pages_at};
 pub use survey::{BlockRow, FrameRow, Kind, SegmentRow, Survey};
-pub use words::{write_hex, write_page, write_pair, write_record, write_word};
+pub use words::{write_counted, write_hex, write_page, write_pair, write_record, write_word};

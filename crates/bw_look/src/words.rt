@@ -1,7 +1,7 @@
 //! Keys, values, records and pages as words. No memory is taken.
 
 use crate::printer::Printer;
-use bw_codec::{Key, Leaf, Packed, Record, Value};
+use bw_codec::{Key, Leaf, Packed, Pair, Record, Value};
 use std::io::Write;
 
 /// Bytes as lower-case hex digits.
@@ -40,18 +40,23 @@ pub fn write_pair<O: Write>(out: &mut Printer<'_, O>, key: &Key, value: &Value) 
     write_word(out, value.as_slice());
 }
 
-/// A page's low key and its pairs.
-pub(crate) fn write_leaf<O: Write>(out: &mut Printer<'_, O>, leaf: &Leaf) {
-    let pairs = leaf.pairs.as_slice();
-    out.text(b" low ");
-    write_word(out, leaf.low.as_slice());
-    out.named(" pairs ", pairs.len());
+/// How many pairs there are, and each behind a space.
+pub fn write_counted<O: Write>(out: &mut Printer<'_, O>, pairs: &[Pair]) {
+    out.named("pairs ", pairs.len());
     for pair in pairs {
         out.text(b" ");
         write_word(out, pair.key());
         out.text(b"=");
         write_word(out, pair.value());
     }
+}
+
+/// A page's low key and its pairs.
+pub(crate) fn write_leaf<O: Write>(out: &mut Printer<'_, O>, leaf: &Leaf) {
+    out.text(b" low ");
+    write_word(out, leaf.low.as_slice());
+    out.text(b" ");
+    write_counted(out, leaf.pairs.as_slice());
 }
 
 /// A page's line.

@@ -163,28 +163,37 @@ fn behind_space(line: &[u8]) -> Result<&[u8], LineFault> {
     }
 }
 
-/// The key of a line.
-pub fn key_in(letters: Letters, line: &[u8]) -> Result<Key, LineFault> {
+/// The bytes of hex digits; `too_long` where a value has not so many.
+fn undigited(digits: &[u8], too_long: LineFault) -> Result<ArrayVec<u8, MAX_VALUE>, LineFault> {
+    let mut room = [0u8; MAX_VALUE];
+    let mut bytes = ArrayVec::new();
+    match bytes.try_extend_from_slice(decoded(digits, &mut room, too_long)?) {
+        Ok(()) => Ok(bytes),
+        Err(_) => Err(too_long),
+    }
+}
+
+/// The bytes of a line; `too_long` where a value has not so many.
+fn bytes_in(
+    letters: Letters,
+    line: &[u8],
+    too_long: LineFault,
+) -> Result<ArrayVec<u8, MAX_VALUE>, LineFault> {
     let text = behind_space(line)?;
     match letters {
-        Letters::Hex => {
-            let mut room = [0u8; MAX_VALUE];
-            key_from(decoded(text, &mut room, LineFault::BadKey)?)
-        }
-        Letters::Print => key_from(unescaped(text, LineFault::BadKey)?.as_slice()),
+        Letters::Hex => undigited(text, too_long),
+        Letters::Print => unescaped(text, too_long),
     }
+}
+
+/// The key of a line.
+pub fn key_in(letters: Letters, line: &[u8]) -> Result<Key, LineFault> {
+    key_from(bytes_in(letters, line, LineFault::BadKey)?.as_slice())
 }
 
 /// The value of a line.
 pub fn value_in(letters: Letters, line: &[u8]) -> Result<Value, LineFault> {
-    let text = behind_space(line)?;
-    match letters {
-        Letters::Hex => {
-            let mut room = [0u8; MAX_VALUE];
-            value_from(decoded(text, &mut room, LineFault::BadValue)?)
-        }
-        Letters::Print => value_from(unescaped(text, LineFault::BadValue)?.as_slice()),
-    }
+    value_from(bytes_in(letters, line, LineFault::BadValue)?.as_slice())
 }
 
 /// What is known of a dump from its header, as far as that was read.

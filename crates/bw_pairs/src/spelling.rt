@@ -80,24 +80,27 @@ pub fn value_from(bytes: &[u8]) -> Result<Value, LineFault> {
     Value::new(bytes).map_err(|_| LineFault::BadValue)
 }
 
+/// The bytes that a word stands for: its own, or those of its hex digits behind `0x`, which come to
+/// the front of `room`.
+fn bytes_of<'a>(
+    word: &'a [u8],
+    room: &'a mut [u8; MAX_VALUE],
+    too_long: LineFault,
+) -> Result<&'a [u8], LineFault> {
+    match word.strip_prefix(b"0x") {
+        Some(digits) => decoded(digits, room, too_long),
+        None => Ok(word),
+    }
+}
+
 /// The key that a word stands for: its own bytes, or those of its hex digits behind `0x`.
 pub fn key_of(word: &[u8]) -> Result<Key, LineFault> {
-    match word.strip_prefix(b"0x") {
-        Some(digits) => {
-            let mut room = [0u8; MAX_VALUE];
-            key_from(decoded(digits, &mut room, LineFault::BadKey)?)
-        }
-        None => key_from(word),
-    }
+    let mut room = [0u8; MAX_VALUE];
+    key_from(bytes_of(word, &mut room, LineFault::BadKey)?)
 }
 
 /// The value that a word stands for, likewise.
 pub fn value_of(word: &[u8]) -> Result<Value, LineFault> {
-    match word.strip_prefix(b"0x") {
-        Some(digits) => {
-            let mut room = [0u8; MAX_VALUE];
-            value_from(decoded(digits, &mut room, LineFault::BadValue)?)
-        }
-        None => value_from(word),
-    }
+    let mut room = [0u8; MAX_VALUE];
+    value_from(bytes_of(word, &mut room, LineFault::BadValue)?)
 }

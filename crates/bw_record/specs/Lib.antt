@@ -7,3 +7,4 @@ pub mod Heads
 -- what private functions say
 pub mod Paired
 pub mod Packed
+pub mod Listed

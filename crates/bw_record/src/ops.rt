@@ -6,12 +6,20 @@ use crate::packed::Packed;
 use crate::record::Record;
 use std::alloc::{AllocError, Global};
 use std::marker::Model;
+use std::slice;
+
+// How they stand in memory: one by itself, as nearly each Delta has it, takes no list of its own.
+#[derive(Drop)]
+enum Items {
+    One(Packed),
+    Several(Vec<Packed>),
+}
 
 /// Records, in the order in which they apply, each in no more room than it takes: pages that they
 /// are applied to share their bytes.
 #[derive(Drop)]
 pub struct Ops {
-    items: Vec<Packed>,
+    items: Items,
 }
 
 impl Model for Ops {
@@ -20,7 +28,9 @@ impl Model for Ops {
 
     ghost Value = { List Record };
 
-    ghost view = { λ o. o.items.items };
+    ghost use Rattle.bw_record.specs.Listed.{listed};
+
+    ghost view = { λ o. listed o.items };
 }
 
 impl Ops {
@@ -28,22 +38,34 @@ impl Ops {
     pub fn one(alloc: Global, item: &Record) -> Result<Ops, AllocError>
         ensures { IfOk result (λ ops. ops ≡ item.now ∷ []) }
     {
-        let mut items = Vec::with_capacity(alloc, 1)?;
-        items.push(Packed::of(alloc, item)?)?;
-        Ok(Ops { items })
+        Ok(Ops::single(Packed::of(alloc, item)?))
+    }
+
+    /// The same of a record that is packed already.
+    pub fn single(item: Packed) -> Ops
+        ensures { result ≡ item ∷ [] }
+    {
+        Ops {
+            items: Items::One(item),
+        }
     }
 
     /// Records as they stand in a `Vec`.
     pub fn of(items: Vec<Packed>) -> Ops
         ensures { result ≡ items.items }
     {
-        Ops { items }
+        Ops {
+            items: Items::Several(items),
+        }
     }
 
     /// The records.
     pub fn as_slice(&self) -> &[Packed]
         ensures { result.now ≡ self.now }
     {
-        self.items.as_slice()
+        match &self.items {
+            Items::One(item) => slice::from_ref(item),
+            Items::Several(items) => items.as_slice(),
+        }
     }
 }

@@ -33,8 +33,8 @@ fn would_go_on(alloc: Global, copies: Vec<MemSegment>) -> Result<(), HomeFault> 
     would_begin(alloc, boxes)
 }
 
-/// A copy of the file of the next lease; an empty segment where it has none.
-fn copy_of<R: System>(
+/// A copy of the file of the desk's next lease; an empty segment where that is none of these leases.
+pub fn copy_of<R: System>(
     rt: &R,
     reader: &FolderReader,
     desk: &mut Desk,

@@ -17,7 +17,7 @@ mod system;
 
 pub use beginning::{Beginning, beginning_of, clear};
 pub use fault::HomeFault;
-pub use folder_look::{Old, look, look_for_old};
+pub use folder_look::{Old, copy_of, look, look_for_old};
 pub use found::Found;
 pub use site::{Made, Site, count_over, desk_of, taken};
 pub use stock::{Added, Stock};

@@ -4,6 +4,8 @@ pub mod Views
 pub mod Opened
 pub mod Following
 pub mod Reading
+pub mod Going
+pub mod Looking
 pub mod Showing
 pub mod Renewing
 pub mod Machine

@@ -5,7 +5,7 @@ use Rattle.bw_versions.specs.Posted.{entries_in, posted_of}
 use Rattle.bw_history.specs.Machine.{Machine, Stops, TakesAndKeeps, keeps, shows}
 use Rattle.bw_core.specs.Machine as core
 use Rattle.bw_core.specs.declared.fault.StoreFault.{StoreFault}
-use Rattle.bw_store.specs.Kept.{Kept, core_of}
+use Rattle.bw_store.specs.Kept.{EachCutStands, Kept, core_of}
 
 -- what a store took and kept, and how much of it is published
 abbrev pub machine_of : Kept → Machine
@@ -24,3 +24,10 @@ TakesKeepsShows old new = (middle : Machine) × TakesAndKeeps old middle × (new
 -- what recovery finds, were the store stopped now: where no call appends, or in the middle of the append that failed
 abbrev pub MayBeStopped : Kept → Type 0
 MayBeStopped s = core.MayBeStopped (core_of s)
+
+-- a call that keeps all that was taken and shows it, as the machine: each cut stands behind it, and
+-- what a stop leaves is found
+pub record RunsAs {A : Type 0} (old : Kept) (result : Result A StoreFault) (new : Kept) : Type 0 where
+  pub each_cut : EachCutStands new
+  pub steps : ShowsAs result old new
+  pub may_leave : MayBeStopped new

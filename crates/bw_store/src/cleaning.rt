@@ -4,9 +4,8 @@
 ghost use Rattle.std.specs.Prelude.{◌≡◌, ◌<◌, ◌↔◌, false, length, IsErrOf, IfOk};
 ghost use Rattle.bw_care.specs.Upgrading.{old_segments};
 ghost use Rattle.bw_core.specs.Rewriting.{are_pages};
-ghost use Rattle.bw_store.specs.Following.{Continues, Follows, HasBoxes};
-ghost use Rattle.bw_store.specs.Kept.{EachCutStands};
-ghost use Rattle.bw_store.specs.Machine.{MayBeStopped, ShowsAs};
+ghost use Rattle.bw_store.specs.Following.{Continues};
+ghost use Rattle.bw_store.specs.Machine.{RunsAs};
 ghost use Rattle.bw_store.specs.Renewing.{CleanShows, CountsCleaning, CountsUpgrade, HasBoxesAfter, HasFloorAfter, RewriteShows, UpgradeShows};
 
 use crate::store::Store;
@@ -14,6 +13,7 @@ use bw_core::{Cleaned, StoreFault, Upgraded};
 use std::sync::Wait;
 
 impl Store {
+    ghost use Rattle.bw_store.specs.Going.{GoesOn};
     ghost use Rattle.bw_store.specs.Views.{forgotten_of, kept_by, noted_of, IsSound};
 
     /// Gives up the oldest live segment: what waits is flushed, then each page that was last set in
@@ -39,7 +39,6 @@ impl Store {
 
         // The floor is what is durable once a segment is given up, and stays else.
         ensures floor { HasFloorAfter 1 (kept_by self.old holding) result (kept_by self.new holding) }
-        ensures each_cut { EachCutStands (kept_by self.new holding) }
 
         // Nothing is forgotten, and what is counted is what the cleaner did.
         ensures gone { forgotten_of self.new ≡ forgotten_of self.old }
@@ -50,8 +49,7 @@ impl Store {
         ensures boxes { HasBoxesAfter 1 (kept_by self.old holding) result (kept_by self.new holding) }
 
         // As the machine: all that was taken is kept and then shown, and what a stop leaves is found.
-        ensures steps { ShowsAs result (kept_by self.old holding) (kept_by self.new holding) }
-        ensures may_leave { MayBeStopped (kept_by self.new holding) }
+        ensures runs { RunsAs (kept_by self.old holding) result (kept_by self.new holding) }
     {
         let cleaned = self.core.clean()?;
         self.publish(rt)?;
@@ -85,7 +83,6 @@ impl Store {
         // The floor is what is durable once segments are given up, and stays else.
         ensures floor { HasFloorAfter (old_segments (kept_by self.old holding).log)
             (kept_by self.old holding) result (kept_by self.new holding) }
-        ensures each_cut { EachCutStands (kept_by self.new holding) }
 
         ensures follows { Continues (kept_by self.old holding) (kept_by self.new holding) }
         ensures boxes { HasBoxesAfter (old_segments (kept_by self.old holding).log)
@@ -96,8 +93,7 @@ impl Store {
             (kept_by self.new holding) (noted_of self.new).tally }
 
         // As the machine: all that was taken is kept and then shown, and what a stop leaves is found.
-        ensures steps { ShowsAs result (kept_by self.old holding) (kept_by self.new holding) }
-        ensures may_leave { MayBeStopped (kept_by self.new holding) }
+        ensures runs { RunsAs (kept_by self.old holding) result (kept_by self.new holding) }
     {
         let upgraded = self.core.upgrade()?;
         self.publish(rt)?;
@@ -125,21 +121,15 @@ impl Store {
     /// at each page's line in memory.
     pub fn rewrite<R: Wait>(&mut self, rt: &R, pages: &[u32]) -> Result<u64, StoreFault>
         requires sound { IsSound self.old holding }
-        ensures sound { IsSound self.new holding }
+        ensures goes { GoesOn self.old self.new holding }
         ensures leaves { RewriteShows (kept_by self.old holding) pages.now result
             (kept_by self.new holding) }
 
         ensures no_page { IsErrOf result StoreFault.NoPage
             ↔ (are_pages (length (kept_by self.old holding).filed.leaves) pages.now ≡ false) }
 
-        ensures each_cut { EachCutStands (kept_by self.new holding) }
-        ensures follows { Follows (kept_by self.old holding) (kept_by self.new holding) }
-        ensures boxes { HasBoxes (kept_by self.old holding) (kept_by self.new holding) }
-        ensures noted { noted_of self.new ≡ noted_of self.old }
-
         // As the machine: all that was taken is kept and then shown, and what a stop leaves is found.
-        ensures steps { ShowsAs result (kept_by self.old holding) (kept_by self.new holding) }
-        ensures may_leave { MayBeStopped (kept_by self.new holding) }
+        ensures runs { RunsAs (kept_by self.old holding) result (kept_by self.new holding) }
     {
         let frames = self.core.rewrite(pages)?;
         self.publish(rt)?;

@@ -2,9 +2,7 @@
 
 ghost use Rattle.std.specs.Prelude.{◌≡◌, OnOk};
 ghost use Rattle.bw_core.specs.Faults.{FlushAnswers};
-ghost use Rattle.bw_store.specs.Following.{Follows, HasBoxes};
-ghost use Rattle.bw_store.specs.Kept.{EachCutStands};
-ghost use Rattle.bw_store.specs.Machine.{MayBeStopped, ShowsAs};
+ghost use Rattle.bw_store.specs.Machine.{RunsAs};
 ghost use Rattle.bw_store.specs.Showing.{FlushShows, IsSettled, flush_refusal};
 
 use crate::store::Store;
@@ -12,7 +10,8 @@ use bw_core::StoreFault;
 use std::sync::Wait;
 
 impl Store {
-    ghost use Rattle.bw_store.specs.Views.{kept_by, lanes_of, noted_of, IsSound};
+    ghost use Rattle.bw_store.specs.Going.{GoesOn};
+    ghost use Rattle.bw_store.specs.Views.{kept_by, lanes_of, IsSound};
 
     /// Seals the frame in the making and appends it; answers its number, or `None` where nothing
     /// waited.
@@ -29,21 +28,15 @@ impl Store {
     /// first publication also brings all pages of the start.
     pub fn flush<R: Wait>(&mut self, rt: &R) -> Result<Option<u64>, StoreFault>
         requires sound { IsSound self.old holding }
-        ensures sound { IsSound self.new holding }
+        ensures goes { GoesOn self.old self.new holding }
         ensures lanes { lanes_of self.new ≡ lanes_of self.old }
 
         ensures answers { FlushAnswers (flush_refusal (kept_by self.old holding)) result }
         ensures leaves { FlushShows (kept_by self.old holding) result (kept_by self.new holding) }
         ensures settled { OnOk result (IsSettled (kept_by self.new holding)) }
-        ensures each_cut { EachCutStands (kept_by self.new holding) }
-
-        ensures follows { Follows (kept_by self.old holding) (kept_by self.new holding) }
-        ensures boxes { HasBoxes (kept_by self.old holding) (kept_by self.new holding) }
-        ensures noted { noted_of self.new ≡ noted_of self.old }
 
         // As the machine: all that was taken is kept and then shown, and what a stop leaves is found.
-        ensures steps { ShowsAs result (kept_by self.old holding) (kept_by self.new holding) }
-        ensures may_leave { MayBeStopped (kept_by self.new holding) }
+        ensures runs { RunsAs (kept_by self.old holding) result (kept_by self.new holding) }
     {
         let number = self.core.flush()?;
         self.publish(rt)?;

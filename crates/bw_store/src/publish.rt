@@ -1,8 +1,7 @@
 //! What is durable is shown to readers.
 
-ghost use Rattle.std.specs.Prelude.{◌≡◌, ◌≤◌, ◌↔◌, ◌-◌, [], Err, length, MatchResult, IfOk, OnOk, OnErr};
+ghost use Rattle.std.specs.Prelude.{◌≡◌, ◌↔◌, ◌-◌, [], Err, MatchResult, IfOk, OnOk, OnErr};
 ghost use Rattle.bw_versions.specs.declared.reader.ReadFault.TheVariants as read;
-ghost use Rattle.bw_store.specs.Following.{Follows, HasBoxes};
 ghost use Rattle.bw_store.specs.Showing.{Hides, Shows, with_places};
 
 use crate::store::Store;
@@ -37,7 +36,8 @@ impl Publications {
 }
 
 impl Store {
-    ghost use Rattle.bw_store.specs.Views.{kept_by, noted_of, IsSound};
+    ghost use Rattle.bw_store.specs.Going.{GoesOn, IsQuiet};
+    ghost use Rattle.bw_store.specs.Views.{kept_by, IsSound};
 
     /// A reader of what this store publishes, which may go to another thread. It saw nothing yet.
     ///
@@ -45,7 +45,7 @@ impl Store {
     /// or `NoMemory`.
     pub fn reader(&mut self) -> Result<Reader, ReadFault>
         requires sound { IsSound self.old holding }
-        ensures sound { IsSound self.new holding }
+        ensures goes { GoesOn self.old self.new holding }
         ensures made { IfOk result (λ r. r
             ≡ record { book = (kept_by self.old holding).versions.book; seen = []; learnt = [] }) }
         ensures place { kept_by self.new holding ≡ with_places (kept_by self.old holding)
@@ -55,9 +55,6 @@ impl Store {
         ensures no_reader { (result ≡ Err read.NoReader)
             ↔ ((kept_by self.old holding).versions.places ≡ 0) }
         ensures unchanged { OnErr result (kept_by self.new holding ≡ kept_by self.old holding) }
-        ensures follows { Follows (kept_by self.old holding) (kept_by self.new holding) }
-        ensures boxes { HasBoxes (kept_by self.old holding) (kept_by self.new holding) }
-        ensures noted { noted_of self.new ≡ noted_of self.old }
     {
         self.versions.reader()
     }
@@ -80,9 +77,8 @@ impl Store {
     // Publishes the entries up to the durable cut.
     pub(crate) fn publish<R: Wait>(&mut self, rt: &R) -> Result<(), AllocError>
         requires sound { IsSound self.old holding }
-        ensures sound { IsSound self.new holding }
+        ensures quiet { IsQuiet self.old self.new holding }
         ensures core { self.new.core ≡ self.old.core }
-        ensures noted { noted_of self.new ≡ noted_of self.old }
         ensures leaves { MatchResult result
             (λ _. Shows (kept_by self.old holding) (kept_by self.new holding))
             (λ _. Hides (kept_by self.old holding) (kept_by self.new holding)) }

@@ -9,14 +9,14 @@ ghost use Rattle.bw_history.specs.Entries.{records};
 ghost use Rattle.bw_walks.specs.Back.{IsLast, IsLastBelow};
 ghost use Rattle.bw_core.specs.Counting.{noted_left};
 ghost use Rattle.bw_making.specs.Overlay.{is_made};
-ghost use Rattle.bw_store.specs.Following.{Follows, HasBoxes};
-ghost use Rattle.bw_store.specs.Reading.{leaves_now, HasRead, PageLeaves, ReadLeaves, WalkLeaves};
+ghost use Rattle.bw_store.specs.Reading.{leaves_now, PageLeaves, ReadLeaves};
 
 use crate::store::Store;
 use bw_codec::{Key, Leaf, Pair, Value};
 use bw_core::StoreFault;
 
 impl Store {
+    ghost use Rattle.bw_store.specs.Looking.{OnlyReads, Walks};
     ghost use Rattle.bw_store.specs.Views.{kept_by, is_evicted, noted_of, IsSound};
 
     /// A copy of a page as all records of the history leave it, flushed or not, in memory or
@@ -31,18 +31,11 @@ impl Store {
             leaf_at page (leaves_now (kept_by self.old holding)) ≡ Some leaf) }
         ensures no_page { IsErrOf result StoreFault.NoPage
             ↔ (leaf_at page (leaves_now (kept_by self.old holding)) ≡ None) }
-        ensures sound { IsSound self.new holding }
-        ensures read { HasRead (kept_by self.old holding) (kept_by self.new holding) }
-
+        ensures reads { OnlyReads self.old self.new holding }
         ensures leaves { PageLeaves (HoldsPage (kept_by self.old holding).log page)
             (kept_by self.old holding) result (kept_by self.new holding) }
         ensures memory { is_evicted page self.old ≡ false → IfErr result (λ fault.
             (fault ≡ StoreFault.NoPage) ⊎ (fault ≡ StoreFault.NoMemory)) }
-        ensures evicted { (p : ℕ) → is_evicted p self.new ≡ is_evicted p self.old }
-
-        ensures follows { Follows (kept_by self.old holding) (kept_by self.new holding) }
-        ensures boxes { HasBoxes (kept_by self.old holding) (kept_by self.new holding) }
-        ensures noted { noted_of self.new ≡ noted_of self.old }
     {
         self.core.page(page)
     }
@@ -56,19 +49,12 @@ impl Store {
         ensures value { IfOk result (λ value. value
             ≡ finite.get (plain (kept_by self.old holding).start
             (records (kept_by self.old holding).entries)) key.now) }
-        ensures sound { IsSound self.new holding }
-        ensures read { HasRead (kept_by self.old holding) (kept_by self.new holding) }
-
+        ensures reads { OnlyReads self.old self.new holding }
         ensures leaves { ReadLeaves (HoldsPage (kept_by self.old holding).log
             (home key.now (leaves_now (kept_by self.old holding))).page)
             (kept_by self.old holding) result (kept_by self.new holding) }
         ensures memory { is_evicted (home key.now (leaves_now (kept_by self.old holding))).page
             self.old ≡ false → IfErr result (λ fault. fault ≡ StoreFault.NoMemory) }
-        ensures evicted { (p : ℕ) → is_evicted p self.new ≡ is_evicted p self.old }
-
-        ensures follows { Follows (kept_by self.old holding) (kept_by self.new holding) }
-        ensures boxes { HasBoxes (kept_by self.old holding) (kept_by self.new holding) }
-        ensures noted { noted_of self.new ≡ noted_of self.old }
     {
         self.core.get(key)
     }
@@ -83,17 +69,8 @@ impl Store {
         requires { IsSound self.old holding }
         ensures value { IfOk result (λ pair. IsFirst (plain (kept_by self.old holding).start
             (records (kept_by self.old holding).entries)) key.now pair) }
-        ensures sound { IsSound self.new holding }
-        ensures read { HasRead (kept_by self.old holding) (kept_by self.new holding) }
-        ensures leaves { WalkLeaves (kept_by self.old holding) result
-            (kept_by self.new holding) }
-        ensures memory { ((p : ℕ) → is_evicted p self.old ≡ false)
-            → IfErr result (λ fault. fault ≡ StoreFault.NoMemory) }
-        ensures evicted { (p : ℕ) → is_evicted p self.new ≡ is_evicted p self.old }
-
-        ensures follows { Follows (kept_by self.old holding) (kept_by self.new holding) }
-        ensures boxes { HasBoxes (kept_by self.old holding) (kept_by self.new holding) }
-        ensures noted { noted_of self.new ≡ noted_of self.old }
+        ensures reads { OnlyReads self.old self.new holding }
+        ensures walks { Walks self.old result self.new holding }
     {
         self.core.next_at(key)
     }
@@ -108,17 +85,8 @@ impl Store {
         requires { IsSound self.old holding }
         ensures value { IfOk result (λ pair. IsLast (plain (kept_by self.old holding).start
             (records (kept_by self.old holding).entries)) key.now pair) }
-        ensures sound { IsSound self.new holding }
-        ensures read { HasRead (kept_by self.old holding) (kept_by self.new holding) }
-        ensures leaves { WalkLeaves (kept_by self.old holding) result
-            (kept_by self.new holding) }
-        ensures memory { ((p : ℕ) → is_evicted p self.old ≡ false)
-            → IfErr result (λ fault. fault ≡ StoreFault.NoMemory) }
-        ensures evicted { (p : ℕ) → is_evicted p self.new ≡ is_evicted p self.old }
-
-        ensures follows { Follows (kept_by self.old holding) (kept_by self.new holding) }
-        ensures boxes { HasBoxes (kept_by self.old holding) (kept_by self.new holding) }
-        ensures noted { noted_of self.new ≡ noted_of self.old }
+        ensures reads { OnlyReads self.old self.new holding }
+        ensures walks { Walks self.old result self.new holding }
     {
         self.core.prev_at(key)
     }
@@ -129,17 +97,8 @@ impl Store {
         requires { IsSound self.old holding }
         ensures value { IfOk result (λ pair. IsLastBelow (plain (kept_by self.old holding).start
             (records (kept_by self.old holding).entries)) key.now pair) }
-        ensures sound { IsSound self.new holding }
-        ensures read { HasRead (kept_by self.old holding) (kept_by self.new holding) }
-        ensures leaves { WalkLeaves (kept_by self.old holding) result
-            (kept_by self.new holding) }
-        ensures memory { ((p : ℕ) → is_evicted p self.old ≡ false)
-            → IfErr result (λ fault. fault ≡ StoreFault.NoMemory) }
-        ensures evicted { (p : ℕ) → is_evicted p self.new ≡ is_evicted p self.old }
-
-        ensures follows { Follows (kept_by self.old holding) (kept_by self.new holding) }
-        ensures boxes { HasBoxes (kept_by self.old holding) (kept_by self.new holding) }
-        ensures noted { noted_of self.new ≡ noted_of self.old }
+        ensures reads { OnlyReads self.old self.new holding }
+        ensures walks { Walks self.old result self.new holding }
     {
         self.core.prev_below(key)
     }
@@ -160,17 +119,8 @@ impl Store {
         requires { IsSound self.old holding }
         ensures value { OnOk result (IsStretch (plain (kept_by self.old holding).start
             (records (kept_by self.old holding).entries)) key.now most found.new.items) }
-        ensures sound { IsSound self.new holding }
-        ensures read { HasRead (kept_by self.old holding) (kept_by self.new holding) }
-        ensures leaves { WalkLeaves (kept_by self.old holding) result
-            (kept_by self.new holding) }
-        ensures memory { ((p : ℕ) → is_evicted p self.old ≡ false)
-            → IfErr result (λ fault. fault ≡ StoreFault.NoMemory) }
-        ensures evicted { (p : ℕ) → is_evicted p self.new ≡ is_evicted p self.old }
-
-        ensures follows { Follows (kept_by self.old holding) (kept_by self.new holding) }
-        ensures boxes { HasBoxes (kept_by self.old holding) (kept_by self.new holding) }
-        ensures noted { noted_of self.new ≡ noted_of self.old }
+        ensures reads { OnlyReads self.old self.new holding }
+        ensures walks { Walks self.old result self.new holding }
     {
         self.core.scan(key, most, found)
     }
@@ -190,17 +140,8 @@ impl Store {
         requires { IsSound self.old holding }
         ensures value { OnOk result (IsStretch (plain (kept_by self.old holding).start
             (records (kept_by self.old holding).entries)) key.now most found.new.items) }
-        ensures sound { IsSound self.new holding }
-        ensures read { HasRead (kept_by self.old holding) (kept_by self.new holding) }
-        ensures leaves { WalkLeaves (kept_by self.old holding) result
-            (kept_by self.new holding) }
-        ensures memory { ((p : ℕ) → is_evicted p self.old ≡ false)
-            → IfErr result (λ fault. fault ≡ StoreFault.NoMemory) }
-        ensures evicted { (p : ℕ) → is_evicted p self.new ≡ is_evicted p self.old }
-
-        ensures follows { Follows (kept_by self.old holding) (kept_by self.new holding) }
-        ensures boxes { HasBoxes (kept_by self.old holding) (kept_by self.new holding) }
-        ensures noted { noted_of self.new ≡ noted_of self.old }
+        ensures reads { OnlyReads self.old self.new holding }
+        ensures walks { Walks self.old result self.new holding }
     {
         self.core.scan_shared(key, most, found)
     }
@@ -214,17 +155,8 @@ impl Store {
         ensures value { IfOk result (λ count. count
             ≡ finite.len (plain (kept_by self.old holding).start
             (records (kept_by self.old holding).entries))) }
-        ensures sound { IsSound self.new holding }
-        ensures read { HasRead (kept_by self.old holding) (kept_by self.new holding) }
-        ensures leaves { WalkLeaves (kept_by self.old holding) result
-            (kept_by self.new holding) }
-        ensures memory { ((p : ℕ) → is_evicted p self.old ≡ false)
-            → IfErr result (λ fault. fault ≡ StoreFault.NoMemory) }
-        ensures evicted { (p : ℕ) → is_evicted p self.new ≡ is_evicted p self.old }
-
-        ensures follows { Follows (kept_by self.old holding) (kept_by self.new holding) }
-        ensures boxes { HasBoxes (kept_by self.old holding) (kept_by self.new holding) }
-        ensures noted { noted_of self.new ≡ noted_of self.old }
+        ensures reads { OnlyReads self.old self.new holding }
+        ensures walks { Walks self.old result self.new holding }
     {
         self.core.count()
     }

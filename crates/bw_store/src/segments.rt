@@ -5,7 +5,7 @@ ghost use Rattle.bw_care.specs.Laws.{cut_newest};
 ghost use Rattle.bw_log.specs.Limits.{IsNotTaken};
 ghost use Rattle.bw_log.specs.Reads.{IsNumbered, segment_at};
 ghost use Rattle.bw_core.specs.Stopping.{FindsCut, FindsStop, MayCut};
-ghost use Rattle.bw_store.specs.Following.{Follows, HasBoxes};
+ghost use Rattle.bw_store.specs.Following.{Follows};
 ghost use Rattle.bw_store.specs.Kept.{EachCutStands, core_of};
 ghost use Rattle.bw_store.specs.Reading.{HasRead, ReadLeaves, with_spare, rolled};
 
@@ -15,6 +15,7 @@ use bw_device::Segment;
 use std::sync::Wait;
 
 impl Store {
+    ghost use Rattle.bw_store.specs.Going.{GoesOn};
     ghost use Rattle.bw_store.specs.Views.{kept_by, kept_beside, noted_of, IsSound, IsSoundBeside};
 
     /// A further spare, which goes last. A box that is not empty or has not the room that `open`
@@ -47,15 +48,9 @@ impl Store {
     /// Closes the current segment, if any: the next append begins another. No memory is taken.
     pub fn roll(&mut self)
         requires { IsSound self.old holding }
-        ensures sound { IsSound self.new holding }
+        ensures goes { GoesOn self.old self.new holding }
         ensures closed { kept_by self.new holding
             ≡ rolled (kept_by self.old holding) }
-
-        ensures follows { Follows (kept_by self.old holding)
-            (kept_by self.new holding) }
-        ensures boxes { HasBoxes (kept_by self.old holding)
-            (kept_by self.new holding) }
-        ensures noted { noted_of self.new ≡ noted_of self.old }
     {
         self.core.roll();
     }
@@ -70,7 +65,7 @@ impl Store {
             MatchOption (segment_at (kept_by self.old holding).log
             segment) ((found ≡ false) × (out.new.items ≡ out.old.items))
             (λ h. (found ≡ true) × (out.new.items ≡ out.old.items ++ h.bytes))) }
-        ensures sound { IsSound self.new holding }
+        ensures goes { GoesOn self.old self.new holding }
         ensures read { HasRead (kept_by self.old holding)
             (kept_by self.new holding) }
 
@@ -79,12 +74,6 @@ impl Store {
             (kept_by self.old holding).log segment)
             (kept_by self.old holding) result
             (kept_by self.new holding) }
-
-        ensures follows { Follows (kept_by self.old holding)
-            (kept_by self.new holding) }
-        ensures boxes { HasBoxes (kept_by self.old holding)
-            (kept_by self.new holding) }
-        ensures noted { noted_of self.new ≡ noted_of self.old }
     {
         self.core.dump(segment, out)
     }

@@ -1,6 +1,6 @@
 //! Turns: the core's. Nothing is published.
 
-ghost use Rattle.std.specs.Prelude.{◌≡◌, ◌≤◌, ◌<◌, IfOk, IfErr, MatchResult};
+ghost use Rattle.std.specs.Prelude.{◌≤◌, ◌<◌, IfOk, IfErr, MatchResult};
 ghost use Rattle.bw_history.specs.Lanes.{AreDry};
 ghost use Rattle.bw_history.specs.Machine.{TakesAndStops, TakesMany};
 ghost use Rattle.bw_store.specs.Following.{Turned, TookInTurn, RefusedAfter, groups_since};
@@ -10,7 +10,8 @@ use crate::store::Store;
 use bw_core::TurnFault;
 
 impl Store {
-    ghost use Rattle.bw_store.specs.Views.{away_in, kept_by, lanes_of, noted_of, IsSound};
+    ghost use Rattle.bw_store.specs.Going.{IsQuiet};
+    ghost use Rattle.bw_store.specs.Views.{away_in, kept_by, lanes_of, IsSound};
 
     /// Takes groups in rounds over lanes 0, 1, .., one from each that has one, until `limit` of
     /// them are taken or a round took none; answers how many records these have. A group's blocks
@@ -26,7 +27,7 @@ impl Store {
     /// `NoMemory`.
     pub fn turn(&mut self, limit: u32) -> Result<u64, TurnFault>
         requires sound { IsSound self.old holding }
-        ensures sound { IsSound self.new holding }
+        ensures quiet { IsQuiet self.old self.new holding }
         ensures turned { MatchResult result (λ n.
             Turned n (kept_by self.old holding) (kept_by self.new holding))
             (λ fault. Turned fault.taken (kept_by self.old holding) (kept_by self.new holding)) }
@@ -48,7 +49,6 @@ impl Store {
             (kept_by self.new holding)) }
         ensures tried { IfErr result (λ fault.
             groups_since (kept_by self.old holding) (kept_by self.new holding) < limit) }
-        ensures noted { noted_of self.new ≡ noted_of self.old }
 
         // As the machine: so many groups are taken, and what a stop leaves is found.
         ensures steps { MatchResult result

@@ -18,3 +18,13 @@ use std::test::*;
 fn clear(rt: HostRuntime, path: &str) {
     let _ = fs::remove_dir_all(&rt, path);
 }
+
+/// What went otherwise than told in a folder, which is gone then.
+fn cleared(
+    rt: HostRuntime,
+    path: &str,
+    wrong: Option<(&'static str, usize)>,
+) -> Option<(&'static str, usize)> {
+    clear(rt, path);
+    wrong
+}

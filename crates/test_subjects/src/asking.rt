@@ -137,6 +137,8 @@ pub fn is_stretch(alloc: Global, store: &mut Subject, key: &[u8], most: usize, t
     let Ok(key) = Key::new(key) else {
         return false;
     };
-    let mut found = Vec::new(alloc);
-    store.scan_shared(&key, most, &mut found) == Ok(()) && are_pairs(&found, text)
+    match store.pairs_from(alloc, &key, most) {
+        Ok(found) => are_pairs(&found, text),
+        Err(_) => false,
+    }
 }

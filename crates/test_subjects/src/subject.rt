@@ -254,20 +254,23 @@ impl Subject {
         }
     }
 
-    pub fn scan_shared(
+    /// The pairs at or above a key, no more than so many: `scan_shared`.
+    pub fn pairs_from(
         &mut self,
+        alloc: Global,
         key: &Key,
         most: usize,
-        found: &mut Vec<Pair>,
-    ) -> Result<(), StoreFault>
+    ) -> Result<Vec<Pair>, StoreFault>
         requires { IsSound self.old holding }
         ensures sound { IsSound self.new holding }
         ensures rings { rings_by self.new holding ≡ rings_by self.old holding }
     {
+        let mut found = Vec::new(alloc);
         match self {
-            Subject::Bare(core) => core.scan_shared(key, most, found),
-            Subject::Shown(store) => store.scan_shared(key, most, found),
+            Subject::Bare(core) => core.scan_shared(key, most, &mut found)?,
+            Subject::Shown(store) => store.scan_shared(key, most, &mut found)?,
         }
+        Ok(found)
     }
 
     pub fn count(&mut self) -> Result<u64, StoreFault>

@@ -347,10 +347,8 @@ const TABLES: &[&[Step]] = &[SEALED, COPIED, COPIED_TO_THE_END, FULL, WORKED];
 
 #[test]
 fn buffers_go_as_told(rt: HostRuntime) {
-    assert_eq!(rt;
-        wrong_table(TABLES, |steps| wrong_steps(rt.alloc(), steps)),
-        None
-    );
+    let wrong = wrong_table(TABLES, |steps| wrong_steps(rt.alloc(), steps));
+    assert_eq!(rt; wrong, None);
 }
 
 /// Whether a new buffer of this number gives the bytes whose blocks it takes, and a second seal changes
@@ -379,8 +377,6 @@ fn wrong_frame(alloc: Global, frames: &[&'static str]) -> Option<usize> {
 #[test]
 fn frames_made_by_buffers_are_the_worked_bytes(rt: HostRuntime) {
     assert_eq!(rt; wrong_frame(rt.alloc(), &[EMPTY]), None);
-    assert_eq!(rt;
-        wrong_frame(rt.alloc(), &[PUT_A, PUT_B, PUT_C, PUT_D, SPLIT]),
-        None
-    );
+    let wrong = wrong_frame(rt.alloc(), &[PUT_A, PUT_B, PUT_C, PUT_D, SPLIT]);
+    assert_eq!(rt; wrong, None);
 }

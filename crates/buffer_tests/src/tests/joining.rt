@@ -213,10 +213,8 @@ const TABLES: &[&[Step]] = &[
 
 #[test]
 fn records_join_the_last_delta_of_their_page(rt: HostRuntime) {
-    assert_eq!(rt;
-        wrong_table(TABLES, |steps| wrong_steps(rt.alloc(), steps)),
-        None
-    );
+    let wrong = wrong_table(TABLES, |steps| wrong_steps(rt.alloc(), steps));
+    assert_eq!(rt; wrong, None);
 }
 
 /// A sealed buffer that was walked so.
@@ -267,10 +265,8 @@ const REFUSED: &[Refused] = &[
 
 #[test]
 fn a_refused_put_leaves_the_frame(rt: HostRuntime) {
-    assert_eq!(rt;
-        wrong_row(REFUSED, |row| refused_goes(rt.alloc(), row)),
-        None
-    );
+    let wrong = wrong_row(REFUSED, |row| refused_goes(rt.alloc(), row));
+    assert_eq!(rt; wrong, None);
 }
 
 /// The frame of one Delta of page 1 that deletes a so many times.

@@ -60,8 +60,6 @@ const VECTORS: &[OfBytes] = &[
 
 #[test]
 fn each_changed_byte_is_answered(rt: HostRuntime) {
-    assert_eq!(rt;
-        wrong_table(VECTORS, |vector| wrong_byte(rt.alloc(), vector)),
-        None
-    );
+    let wrong = wrong_table(VECTORS, |vector| wrong_byte(rt.alloc(), vector));
+    assert_eq!(rt; wrong, None);
 }

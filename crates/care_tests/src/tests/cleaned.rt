@@ -77,10 +77,8 @@ const TABLES: &[Course] = &[
 
 #[test]
 fn cleanings_go_as_told(rt: HostRuntime) {
-    assert_eq!(rt;
-        wrong_table(TABLES, |course| wrong_in_course(rt.alloc(), course)),
-        None
-    );
+    let wrong = wrong_table(TABLES, |course| wrong_in_course(rt.alloc(), course));
+    assert_eq!(rt; wrong, None);
 }
 
 #[test]

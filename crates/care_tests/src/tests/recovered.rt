@@ -466,28 +466,17 @@ const TABLES: &[&'static [Row]] = &[
 
 #[test]
 fn worked_boxes_are_told(rt: HostRuntime) {
-    assert_eq!(rt;
-        wrong_table(
-            &in_format(Format::Latest),
-            |table| wrong_in_format(rt.alloc(), table)
-        ),
-        None
-    );
-    assert_eq!(rt;
-        wrong_table(TABLES, |rows| wrong_of_rows(rt.alloc(), rows)),
-        None
-    );
+    let worked = in_format(Format::Latest);
+    let worked = wrong_table(&worked, |table| wrong_in_format(rt.alloc(), table));
+    let beside = wrong_table(TABLES, |rows| wrong_of_rows(rt.alloc(), rows));
+    assert_eq!(rt; (worked, beside), (None, None));
 }
 
 #[test]
 fn worked_boxes_of_format_1_are_told(rt: HostRuntime) {
-    assert_eq!(rt;
-        wrong_table(
-            &in_format(Format::Old),
-            |table| wrong_in_format(rt.alloc(), table)
-        ),
-        None
-    );
+    let worked = in_format(Format::Old);
+    let wrong = wrong_table(&worked, |table| wrong_in_format(rt.alloc(), table));
+    assert_eq!(rt; wrong, None);
 }
 
 /// Boxes of both formats.
@@ -495,8 +484,6 @@ const BOTH_TABLES: &[&'static [Row]] = &[MIXED, OLD_SPARES];
 
 #[test]
 fn boxes_of_both_formats_are_told(rt: HostRuntime) {
-    assert_eq!(rt;
-        wrong_table(BOTH_TABLES, |rows| wrong_of_rows(rt.alloc(), rows)),
-        None
-    );
+    let wrong = wrong_table(BOTH_TABLES, |rows| wrong_of_rows(rt.alloc(), rows));
+    assert_eq!(rt; wrong, None);
 }

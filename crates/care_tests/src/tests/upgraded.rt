@@ -150,10 +150,8 @@ const TABLES: &[Course] = &[
 
 #[test]
 fn upgrades_go_as_told(rt: HostRuntime) {
-    assert_eq!(rt;
-        wrong_table(TABLES, |course| wrong_in_course(rt.alloc(), course)),
-        None
-    );
+    let wrong = wrong_table(TABLES, |course| wrong_in_course(rt.alloc(), course));
+    assert_eq!(rt; wrong, None);
 }
 
 #[test]

@@ -1,6 +1,6 @@
 // Frames that are whole, that were cut, or that are bad.
 
-use bw_codec::{CodecFault, FrameRead, Header, read_frame};
+use bw_codec::{CodecFault, FrameRead, FrameSeen, Header, check_frame, read_frame};
 use std::alloc::Global;
 use test_tables::wrong_row;
 use test_vectors::digits::{bytes_of, changed};
@@ -14,8 +14,18 @@ pub(crate) enum Found {
     Bad,
 }
 
+/// What a check finds, which makes no frame.
+fn seen_in(bytes: &[u8], header: &Header) -> Found {
+    match check_frame(bytes, header) {
+        Ok(FrameSeen::Whole(_, used)) => Found::Whole(used),
+        Ok(FrameSeen::Tail) => Found::Tail,
+        Err(_) => Found::Bad,
+    }
+}
+
 /// What stands at the front of the bytes of a frame of this format, where a page has at most so many
-/// pairs and frames are of the least limit; `None` where memory was wanted.
+/// pairs and frames are of the least limit; `None` where memory was wanted, or where a check finds
+/// something else.
 pub(crate) fn found_in(alloc: Global, version: u16, m: u16, bytes: &[u8]) -> Option<Found> {
     let header = Header {
         version,
@@ -23,11 +33,16 @@ pub(crate) fn found_in(alloc: Global, version: u16, m: u16, bytes: &[u8]) -> Opt
         m,
         f: if version == 1 { 16_384 } else { 65_536 },
     };
-    match read_frame(alloc, bytes, &header) {
-        Ok(FrameRead::Whole(_, used)) => Some(Found::Whole(used)),
-        Ok(FrameRead::Tail) => Some(Found::Tail),
-        Err(CodecFault::BadBytes) => Some(Found::Bad),
-        Err(CodecFault::NoMemory) => None,
+    let found = match read_frame(alloc, bytes, &header) {
+        Ok(FrameRead::Whole(_, used)) => Found::Whole(used),
+        Ok(FrameRead::Tail) => Found::Tail,
+        Err(CodecFault::BadBytes) => Found::Bad,
+        Err(CodecFault::NoMemory) => return None,
+    };
+    if seen_in(bytes, &header) == found {
+        Some(found)
+    } else {
+        None
     }
 }
 
@@ -137,14 +152,9 @@ const CHANGED: &[Change] = &[
 
 #[test]
 fn a_frame_cut_short_is_a_tail_and_a_changed_one_is_bad(rt: HostRuntime) {
-    assert_eq!(rt;
-        wrong_row(IN_BOTH, |row| in_both_goes(rt.alloc(), row)),
-        None
-    );
-    assert_eq!(rt;
-        wrong_row(CHANGED, |row| change_goes(rt.alloc(), row)),
-        None
-    );
+    let in_both = wrong_row(IN_BOTH, |row| in_both_goes(rt.alloc(), row));
+    let changed = wrong_row(CHANGED, |row| change_goes(rt.alloc(), row));
+    assert_eq!(rt; (in_both, changed), (None, None));
 }
 
 // ---- heads

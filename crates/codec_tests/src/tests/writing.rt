@@ -105,10 +105,8 @@ const SEGMENTS: &[Written] = &[
 
 #[test]
 fn the_worked_bytes_are_read_and_written_again(rt: HostRuntime) {
-    assert_eq!(rt;
-        wrong_row(SEGMENTS, |row| written_goes(rt.alloc(), row)),
-        None
-    );
+    let wrong = wrong_row(SEGMENTS, |row| written_goes(rt.alloc(), row));
+    assert_eq!(rt; wrong, None);
 }
 
 /// Whether these bytes are an empty page 1, written without memory.

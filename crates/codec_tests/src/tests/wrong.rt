@@ -227,20 +227,13 @@ const COUNTED: &[OfPairs] = &[(4, COUNTS), (32, COUNTS), (u16::MAX, COUNTS)];
 
 #[test]
 fn each_part_of_a_block_is_looked_at(rt: HostRuntime) {
-    assert_eq!(rt;
-        wrong_table(TABLES, |table| wrong_of_pairs(rt.alloc(), table)),
-        None
-    );
-    assert_eq!(rt;
-        wrong_row(LONGEST, |row| longest_goes(rt.alloc(), row)),
-        None
-    );
+    let parts = wrong_table(TABLES, |table| wrong_of_pairs(rt.alloc(), table));
+    let longest = wrong_row(LONGEST, |row| longest_goes(rt.alloc(), row));
+    assert_eq!(rt; (parts, longest), (None, None));
 }
 
 #[test]
 fn a_count_is_no_reason_to_take_memory(rt: HostRuntime) {
-    assert_eq!(rt;
-        wrong_table(COUNTED, |table| wrong_of_pairs(rt.alloc(), table)),
-        None
-    );
+    let wrong = wrong_table(COUNTED, |table| wrong_of_pairs(rt.alloc(), table));
+    assert_eq!(rt; wrong, None);
 }

@@ -1,6 +1,7 @@
 //! Boxes in memory.
 
 use bw_device::Segment;
+use bw_store::Config;
 use std::alloc::Global;
 use test_boxes::{Fuse, LEAST, NEVER, segments_of};
 
@@ -18,6 +19,15 @@ pub(super) fn boxes_of(
     }
     Some(boxes)
 }
+
+/// The numbers of a store of two writers.
+pub(super) const TWO_WRITERS: &Config = &Config {
+    writers: 2,
+    places: 8,
+    readers: 1,
+    m: 4,
+    f: 65_536,
+};
 
 /// Four boxes of the least capacity.
 pub(super) fn four_boxes(alloc: Global) -> Option<Vec<Box<dyn Segment>>> {

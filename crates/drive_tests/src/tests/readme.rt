@@ -4,11 +4,11 @@ ghost use Rattle.std.specs.Prelude.{◌≡◌, map};
 ghost use Rattle.bw_ring.specs.Ends.{ring_of_feed};
 ghost use Rattle.bw_store.specs.Views.{kept_by, IsSound};
 
-use super::boxes::four_boxes;
+use super::boxes::{TWO_WRITERS, four_boxes};
 use super::scripts::{Part, Sizes, scripts};
 use bw_drive::{OpenGate, Plan, drive};
 use bw_ring::Feed;
-use bw_store::{Config, Store};
+use bw_store::Store;
 use std::alloc::{AllocError, Global};
 use std::sync::Wait;
 use std::thread::Threads;
@@ -44,14 +44,7 @@ fn is_settled<R: Threads + Wait>(rt: &R, alloc: Global) -> bool {
     let Some(boxes) = four_boxes(alloc) else {
         return false;
     };
-    let config = Config {
-        writers: 2,
-        places: 8,
-        readers: 1,
-        m: 4,
-        f: 65_536,
-    };
-    let Ok((mut store, feeds)) = Store::open(rt, alloc, &config, boxes) else {
+    let Ok((mut store, feeds)) = Store::open(rt, alloc, TWO_WRITERS, boxes) else {
         return false;
     };
     let entries = example(rt, alloc, &mut store, feeds, Part(0, 10, 10));

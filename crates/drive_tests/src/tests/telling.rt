@@ -4,12 +4,12 @@ ghost use Rattle.std.specs.Prelude.{◌≡◌, ◌<◌, length, map};
 ghost use Rattle.bw_ring.specs.Ends.{ring_of_feed};
 ghost use Rattle.bw_store.specs.Views.{kept_by, IsSound};
 
-use super::boxes::four_boxes;
+use super::boxes::{TWO_WRITERS, four_boxes};
 use super::scripts::{Part, Sizes, numbered, scripts};
 use bw_codec::Record;
 use bw_drive::{Driven, Gate, Plan, drive};
 use bw_ring::Feed;
-use bw_store::{Config, Store};
+use bw_store::Store;
 use std::alloc::Global;
 use std::sync::Wait;
 use std::sync::atomic::{AtomicU64, Ordering};
@@ -129,14 +129,7 @@ fn driven<R: AllocGlobal + Threads + Wait>(
 // The same over a new store of two writers.
 fn run<R: AllocGlobal + Threads + Wait>(rt: &R, alloc: Global, gate: &Notes) -> Option<Driven> {
     let boxes = four_boxes(alloc)?;
-    let config = Config {
-        writers: 2,
-        places: 8,
-        readers: 1,
-        m: 4,
-        f: 65_536,
-    };
-    let Ok((mut store, mut feeds)) = Store::open(rt, alloc, &config, boxes) else {
+    let Ok((mut store, mut feeds)) = Store::open(rt, alloc, TWO_WRITERS, boxes) else {
         return None;
     };
     let are_put = fill(&mut feeds);

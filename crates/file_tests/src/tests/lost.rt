@@ -2,7 +2,7 @@
 //! in place of those that are lost, up to any length. The bytes of the segment are all there, and
 //! nothing is told.
 
-use super::clear;
+use super::cleared;
 use super::steps::Act::{Holds, Make, Open, Opens, Segment, Stop, Write};
 use super::steps::Told::Done;
 use super::steps::{Act, Row, Stand, at, is_told};
@@ -94,7 +94,5 @@ fn wrong_lost(rt: HostRuntime) -> Option<(&'static str, usize)> {
 
 #[test]
 fn a_loss_of_power_is_no_damage(rt: HostRuntime) {
-    let wrong = wrong_lost(rt);
-    clear(rt, "lost");
-    assert_eq!(rt; wrong, None);
+    assert_eq!(rt; cleared(rt, "lost", wrong_lost(rt)), None);
 }

@@ -1,7 +1,7 @@
 //! The sums beside a segment's file: their bytes, what is told of a file that was changed, and what a
 //! crash may leave of both files, of which nothing is told.
 
-use super::clear;
+use super::cleared;
 use super::steps::Act::{
     Append, Bytes, Copy, Fail, File, Has, HeldBack, Holds, Leave, Link, Look, LookEvicted, Make,
     NoFile, Open, Opens, Segment, Spare, Stop, Verify, Whole, Write,
@@ -202,9 +202,7 @@ fn wrong_left(rt: HostRuntime) -> Option<(&'static str, usize)> {
 
 #[test]
 fn what_a_crash_left_is_no_damage(rt: HostRuntime) {
-    let wrong = wrong_left(rt);
-    clear(rt, "left");
-    assert_eq!(rt; wrong, None);
+    assert_eq!(rt; cleared(rt, "left", wrong_left(rt)), None);
 }
 
 // Whether a file in which this bit is another is told so, by where its piece begins.
@@ -238,7 +236,5 @@ fn wrong_bit(rt: HostRuntime) -> Option<(&'static str, usize)> {
 
 #[test]
 fn each_changed_bit_is_found(rt: HostRuntime) {
-    let wrong = wrong_bit(rt);
-    clear(rt, "flipped");
-    assert_eq!(rt; wrong, None);
+    assert_eq!(rt; cleared(rt, "flipped", wrong_bit(rt)), None);
 }

@@ -190,14 +190,28 @@ const FIRST_LIFE: [Step; 12] = [
 // What was not kept is not there.
 const SECOND_LIFE: [Step; 4] = [Get(b"a", b""), Get(b"b", b""), Get(b"c", b"3"), Keep(0)];
 
+// The first life in a folder, and the first step of that one, that goes otherwise than told.
+fn wrong_in<R: System>(
+    rt: &R,
+    path: &str,
+    options: &Options,
+    lives: &[&'static [Step]],
+) -> Result<Option<(usize, usize)>, Fail> {
+    for (life, steps) in lives.iter().enumerate() {
+        let went = with_store_in_legs(rt, path, options, &mut Walks::over(*steps))??;
+        if went != steps.len() {
+            return Ok(Some((life, went)));
+        }
+    }
+    fs::remove_dir_all(rt, path)?;
+    Ok(None)
+}
+
 #[test]
 fn a_home_is_a_map(rt: HostRuntime) -> Result<(), Fail> {
-    let path = "folder_tests_mapped";
-    let first = with_store_in_legs(&rt, path, &SMALL, &mut Walks::over(&FIRST_LIFE))??;
-    assert_eq!(&rt; first, FIRST_LIFE.len());
-    let second = with_store_in_legs(&rt, path, &SMALL, &mut Walks::over(&SECOND_LIFE))??;
-    assert_eq!(&rt; second, SECOND_LIFE.len());
-    fs::remove_dir_all(&rt, path)?;
+    let lives: [&'static [Step]; 2] = [&FIRST_LIFE, &SECOND_LIFE];
+    let wrong = wrong_in(&rt, "folder_tests_mapped", &SMALL, &lives)?;
+    assert_eq!(&rt; wrong, None);
     Ok(())
 }
 
@@ -227,10 +241,8 @@ const FULL: [Step; 13] = [
 
 #[test]
 fn a_change_without_room_waits(rt: HostRuntime) -> Result<(), Fail> {
-    let path = "folder_tests_mapped_full";
-    let went = with_store_in_legs(&rt, path, &ONE_SPARE, &mut Walks::over(&FULL))??;
-    assert_eq!(&rt; went, FULL.len());
-    fs::remove_dir_all(&rt, path)?;
+    let wrong = wrong_in(&rt, "folder_tests_mapped_full", &ONE_SPARE, &[&FULL])?;
+    assert_eq!(&rt; wrong, None);
     Ok(())
 }
 
@@ -244,9 +256,7 @@ const NO_MAP: [Step; 2] = [NoMap, Get(b"a", b"")];
 
 #[test]
 fn a_home_of_two_writers_is_no_map(rt: HostRuntime) -> Result<(), Fail> {
-    let path = "folder_tests_no_map";
-    let went = with_store_in_legs(&rt, path, &TWO_WRITERS, &mut Walks::over(&NO_MAP))??;
-    assert_eq!(&rt; went, NO_MAP.len());
-    fs::remove_dir_all(&rt, path)?;
+    let wrong = wrong_in(&rt, "folder_tests_no_map", &TWO_WRITERS, &[&NO_MAP])?;
+    assert_eq!(&rt; wrong, None);
     Ok(())
 }

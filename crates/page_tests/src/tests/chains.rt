@@ -161,10 +161,8 @@ const TABLES: &[&[Step]] = &[EVICTION, CONSOLIDATION, RESERVED, RESTED];
 
 #[test]
 fn chains_go_as_told(rt: HostRuntime) {
-    assert_eq!(rt;
-        wrong_table(TABLES, |steps| wrong_steps(rt.alloc(), steps)),
-        None
-    );
+    let wrong = wrong_table(TABLES, |steps| wrong_steps(rt.alloc(), steps));
+    assert_eq!(rt; wrong, None);
 }
 
 #[test]

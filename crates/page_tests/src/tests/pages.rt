@@ -363,10 +363,8 @@ const TABLES: &[OfLimit] = &[(4, FOUR), (4, SINGLE), (4, HINTED), (5, FIVE)];
 
 #[test]
 fn leaves_of_four_and_of_five_go_as_told(rt: HostRuntime) {
-    assert_eq!(rt;
-        wrong_table(TABLES, |table| wrong_of_limit(rt.alloc(), table)),
-        None
-    );
+    let wrong = wrong_table(TABLES, |table| wrong_of_limit(rt.alloc(), table));
+    assert_eq!(rt; wrong, None);
 }
 
 /// How many pairs a page has at most, and how many both parts have of a page with one more.
@@ -390,10 +388,8 @@ const FILLS: &[Filled] = &[(4, 2, 3), (5, 3, 3), (32, 16, 17)];
 
 #[test]
 fn a_page_is_cut_where_it_has_one_pair_too_many(rt: HostRuntime) {
-    assert_eq!(rt;
-        wrong_table(FILLS, |table| wrong_filled(rt.alloc(), table)),
-        None
-    );
+    let wrong = wrong_table(FILLS, |table| wrong_filled(rt.alloc(), table));
+    assert_eq!(rt; wrong, None);
 }
 
 const TAKEN: &[Step] = &[

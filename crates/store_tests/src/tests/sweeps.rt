@@ -117,60 +117,58 @@ fn finds_nothing<R: AllocGlobal>(rt: &R, supply: Supply) -> bool {
     }
 }
 
-// Whether a store whose append failed, with so many bytes kept, is found again with the frames that
-// are whole, and goes on.
-fn is_found<R: AllocGlobal + Wait>(
-    rt: &R,
+/// A course over a core or a store that stops in an append, of which so many bytes are kept.
+#[derive(Clone, Copy)]
+struct Stopped<'a> {
     over: Over,
-    course: &Course,
-    append: &Append,
+    course: &'a Course,
+    append: &'a Append,
     keep: u64,
-) -> bool {
-    let Append(lease, calls, length, torn, whole) = append;
-    let row = fused(*lease, (*calls, keep), 5u32.saturating_sub(*lease));
-    let Some(mut supply) = supplied(rt.alloc(), &row) else {
-        return false;
-    };
-    if !stops(rt, over, &mut supply, course) {
-        return false;
-    }
-    let frames = if keep == *length { *whole } else { *torn };
-    if frames == 0 {
-        return finds_nothing(rt, supply);
-    }
-    match course.shown.get(frames - 1) {
-        Some(steps) => lives_on(rt, over, &mut supply, None, *steps).is_none(),
-        None => false,
-    }
 }
 
-// Whether a box that failed for good in this append fails in recovery too, and all boxes come back.
-fn is_dead<R: AllocGlobal + Wait>(
-    rt: &R,
-    over: Over,
-    course: &Course,
-    append: &Append,
-    keep: u64,
-) -> bool {
-    let Append(lease, calls, _, torn, _) = append;
-    let Some(mut supply) = dying(rt.alloc(), *lease, (*calls, keep)) else {
-        return false;
-    };
-    if !stops(rt, over, &mut supply, course) {
-        return false;
+impl Stopped<'_> {
+    // Whether the store is found again with the frames that are whole, and goes on.
+    fn is_found<R: AllocGlobal + Wait>(&self, rt: &R) -> bool {
+        let Append(lease, calls, length, torn, whole) = self.append;
+        let row = fused(*lease, (*calls, self.keep), 5u32.saturating_sub(*lease));
+        let Some(mut supply) = supplied(rt.alloc(), &row) else {
+            return false;
+        };
+        if !stops(rt, self.over, &mut supply, self.course) {
+            return false;
+        }
+        let frames = if self.keep == *length { *whole } else { *torn };
+        if frames == 0 {
+            return finds_nothing(rt, supply);
+        }
+        match self.course.shown.get(frames - 1) {
+            Some(steps) => lives_on(rt, self.over, &mut supply, None, *steps).is_none(),
+            None => false,
+        }
     }
-    let Supply { boxes, more: _ } = supply;
-    // Where the box kept nothing it is a spare, and is not read.
-    let is_spare = *calls == 0 && keep == 0;
-    match recover(rt.alloc(), boxes) {
-        Ok(_recovered) => is_spare && *torn > 0,
-        Err(fault) => {
-            let told = if is_spare && *torn == 0 {
-                RecoverCause::Empty
-            } else {
-                RecoverCause::Device { lease: *lease }
-            };
-            (fault.cause == told) & (fault.boxes.len() == 6)
+
+    // Whether a box that failed for good there fails in recovery too, and all boxes come back.
+    fn is_dead<R: AllocGlobal + Wait>(&self, rt: &R) -> bool {
+        let Append(lease, calls, _, torn, _) = self.append;
+        let Some(mut supply) = dying(rt.alloc(), *lease, (*calls, self.keep)) else {
+            return false;
+        };
+        if !stops(rt, self.over, &mut supply, self.course) {
+            return false;
+        }
+        let Supply { boxes, more: _ } = supply;
+        // Where the box kept nothing it is a spare, and is not read.
+        let is_spare = *calls == 0 && self.keep == 0;
+        match recover(rt.alloc(), boxes) {
+            Ok(_recovered) => is_spare && *torn > 0,
+            Err(fault) => {
+                let told = if is_spare && *torn == 0 {
+                    RecoverCause::Empty
+                } else {
+                    RecoverCause::Device { lease: *lease }
+                };
+                (fault.cause == told) & (fault.boxes.len() == 6)
+            }
         }
     }
 }
@@ -178,7 +176,13 @@ fn is_dead<R: AllocGlobal + Wait>(
 // Whether an append goes as told with each number of bytes kept.
 fn goes_well<R: AllocGlobal + Wait>(rt: &R, over: Over, course: &Course, append: &Append) -> bool {
     for keep in 0..=append.2 {
-        if !is_found(rt, over, course, append, keep) || !is_dead(rt, over, course, append, keep) {
+        let stopped = Stopped {
+            over,
+            course,
+            append,
+            keep,
+        };
+        if !stopped.is_found(rt) || !stopped.is_dead(rt) {
             return false;
         }
     }

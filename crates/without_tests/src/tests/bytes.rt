@@ -6,9 +6,9 @@ ghost use Rattle.bw_codec.specs.Grammar.{IsBlock};
 use super::{asked, spared};
 use bw_codec::limits::LATEST;
 use bw_codec::{
-    Block, Blocks, Head, Header, HeaderRead, Key, Low, Ops, Outline, Packed, Pair, Pairs, Place,
-    Value, ascend, block_length, frame_cells, header_cells, is_before, read_block, read_header,
-    write_block,
+    Block, Blocks, FrameSeen, Head, Header, HeaderRead, Key, Low, Ops, Outline, Packed, Pair,
+    Pairs, Place, Value, ascend, block_length, check_frame, frame_cells, header_cells, is_before,
+    read_block, read_header, write_block,
 };
 use std::alloc::Global;
 use test_marks::begin_without;
@@ -50,10 +50,13 @@ fn is_record() -> bool {
 fn listed(alloc: Global) -> Option<bool> {
     let mut items = Vec::new(alloc);
     items.push(packed_put(alloc, b"k", b"v")?).ok()?;
+    let item = packed_put(alloc, b"k", b"w")?;
     begin_without(alloc);
     let ops = Ops::of(items);
-    let is_so = ops.as_slice().len() == 1;
+    let one = Ops::single(item);
+    let is_so = ops.as_slice().len() == 1 && one.as_slice().len() == 1;
     drop(ops);
+    drop(one);
     asked(alloc, is_so)
 }
 
@@ -73,6 +76,23 @@ const HEADER: &[u8] = b"BWLOGSG2\x01\0\0\0\0\0\0\0\x04\0\0\0\0\0\x01\0";
 /// The head of the first frame, with 33 bytes of two blocks.
 const HEAD: &[u8] = b"FRM2\x01\0\0\0\0\0\0\0\x21\0\0\0\x02\0\0\0";
 
+/// Frame 2, which puts v at k into page 1, behind the first block of frame 1.
+const FRAME: &[u8] =
+    b"FRM2\x02\0\0\0\0\0\0\0\x19\0\0\0\x01\0\0\0\x01\x01\0\0\0\x01\0\0\0\0\0\0\0\0\0\0\0\x01\0\x01\x01k\x01\0v";
+
+/// Whether a frame is checked as what it is, whole and cut.
+fn is_checked() -> bool {
+    let header = Header {
+        version: LATEST,
+        number: 1,
+        m: 4,
+        f: 65_536,
+    };
+    check_frame(FRAME, &header) == Ok(FrameSeen::Whole(2, 45))
+        && check_frame(&FRAME[..44], &header) == Ok(FrameSeen::Tail)
+        && check_frame(&FRAME[1..], &header).is_err()
+}
+
 fn are_heads() -> bool {
     let head = Head {
         number: 1,
@@ -89,6 +109,7 @@ fn are_heads() -> bool {
 fn heads(alloc: Global) -> Option<bool> {
     begin_without(alloc);
     let is_so = are_heads()
+        && is_checked()
         && is(&header_cells(1, 4, 65_536), HEADER)
         && is(&frame_cells(1, 33, 2), HEAD);
     asked(alloc, is_so)

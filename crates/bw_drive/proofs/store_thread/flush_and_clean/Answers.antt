@@ -6,7 +6,7 @@ use Rattle.bw_drive.proofs.store_thread.flush_and_clean.Goals.{then-clean_at-eq0
 use Rattle.bw_drive.proofs.store_thread.flush_and_clean.Goals as goal
 
 pub returns-in_err-flush-clause-runs : goal.returns-in_err-flush-clause-runs
-returns-in_err-flush-clause-runs g c = kept_all _ _ _ c.flush.ensures.follows c.flush.ensures.boxes
+returns-in_err-flush-clause-runs g c = kept_all _ _ _ c.flush.ensures.goes.follows c.flush.ensures.goes.boxes
 
 pub returns-in_err-flush-clause-refused : goal.returns-in_err-flush-clause-refused
 returns-in_err-flush-clause-refused g c =
@@ -14,12 +14,12 @@ returns-in_err-flush-clause-refused g c =
     rw (p.1, p.2) (stops_now _ _ _ c.in_err-flush.field-0.0 (inr (inl (c.in_err-flush.ensures.answers, c.in_err-flush.ensures.leaves))))
 
 pub returns-then-clean_at-eq0-clause-runs : goal.returns-then-clean_at-eq0-clause-runs
-returns-then-clean_at-eq0-clause-runs g c = kept_all _ _ _ c.flush.ensures.follows c.flush.ensures.boxes
+returns-then-clean_at-eq0-clause-runs g c = kept_all _ _ _ c.flush.ensures.goes.follows c.flush.ensures.goes.boxes
 
 pub returns-in_err-clean-clause-runs : goal.returns-in_err-clean-clause-runs
 returns-in_err-clean-clause-runs g c =
     let some = c.if-clean_at-eq0.false in
-    runs_then _ _ _ _ (kept_all _ _ _ c.flush.ensures.follows c.flush.ensures.boxes)
+    runs_then _ _ _ _ (kept_all _ _ _ c.flush.ensures.goes.follows c.flush.ensures.goes.boxes)
     (kept_but _ _ _ c.clean.result (omega arith) c.clean.ensures.follows c.clean.ensures.boxes c.clean.ensures.floor)
 
 pub returns-in_err-clean-clause-refused : goal.returns-in_err-clean-clause-refused
@@ -28,13 +28,13 @@ returns-in_err-clean-clause-refused g c =
     let some = c.if-clean_at-eq0.false in
     let live = c.live.ensures in
     let many = c.if-live-clean_at.false in
-    rw (p.1, p.2) (stops_then _ _ _ _ c.in_err-clean.field-0.0 (kept_all _ _ _ c.flush.ensures.follows c.flush.ensures.boxes)
+    rw (p.1, p.2) (stops_then _ _ _ _ c.in_err-clean.field-0.0 (kept_all _ _ _ c.flush.ensures.goes.follows c.flush.ensures.goes.boxes)
     (stops_now _ _ _ c.in_err-clean.field-0.0 (inr (inr (inl (omega arith, omega arith, c.in_err-clean.ensures.leaves))))))
 
 pub returns-clause-runs : goal.returns-clause-runs
 returns-clause-runs g c =
     let some = c.if-clean_at-eq0.false in
-    runs_then _ _ _ _ (kept_all _ _ _ c.flush.ensures.follows c.flush.ensures.boxes)
+    runs_then _ _ _ _ (kept_all _ _ _ c.flush.ensures.goes.follows c.flush.ensures.goes.boxes)
     (kept_but _ _ _ c.clean.result (omega arith) c.clean.ensures.follows c.clean.ensures.boxes c.clean.ensures.floor)
 
 pub returns-in_err-flush-clause-paced : goal.returns-in_err-flush-clause-paced

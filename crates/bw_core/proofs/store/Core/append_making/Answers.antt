@@ -1,4 +1,4 @@
-use Rattle.std.proofs.Common.{ℕ, List, [], length, ap, refl, sym, ◌∙◌, arith}
+use Rattle.std.proofs.Common.{ℕ, List, [], length, ap, refl, sym, ◌∙◌, arith, rules}
 use Rattle.bw_codec.specs.declared.block.Block.{Block}
 use Rattle.bw_buffer.specs.Filling.{Filling}
 use Rattle.bw_making.specs.Overlay.{is_made}
@@ -38,11 +38,15 @@ invariant_of-self-in-Err-1 g c =
       began = c.args.self.now.began;
     }
 
-pub returns-in-Ok-clause-sound : goal.returns-in-Ok-clause-sound
-returns-in-Ok-clause-sound g c =
-    flushed_at c.requires.sound c.requires.next c.requires.works c.begin_next.new.making c.seal.new.self _ c.push_reserved.new.self.items _ c.seal.ensures
-    c.begin_next.ensures c.in-Ok.ensures.leaves.sound c.in-Ok.ensures.leaves.added c.in-Ok.ensures.leaves.log
-    c.push_reserved.ensures.items c.len-end.ensures
+pub returns-in-Ok-clause-keeps : goal.returns-in-Ok-clause-keeps
+returns-in-Ok-clause-keeps g c = record {
+  sound = (
+      flushed_at c.requires.sound c.requires.next c.requires.works c.begin_next.new.making c.seal.new.self _ c.push_reserved.new.self.items _ c.seal.ensures
+      c.begin_next.ensures c.in-Ok.ensures.leaves.sound c.in-Ok.ensures.leaves.added c.in-Ok.ensures.leaves.log
+      c.push_reserved.ensures.items c.len-end.ensures);
+  intake = search rules;
+  noted = search rules;
+}
 
 pub returns-in-Ok-clause-leaves : goal.returns-in-Ok-clause-leaves
 returns-in-Ok-clause-leaves g c =
@@ -50,9 +54,13 @@ returns-in-Ok-clause-leaves g c =
     c.begin_next.ensures c.in-Ok.ensures.leaves.added c.in-Ok.ensures.leaves.log
     c.push_reserved.ensures.items c.len-end.ensures
 
-pub returns-in-Err-clause-sound : goal.returns-in-Err-clause-sound
-returns-in-Err-clause-sound g c =
-    stopped_at c.requires.sound c.requires.next c.requires.works c.seal.new.self _ c.push_reserved.new.self.items _ c.in-Err.fault _ c.seal.ensures
-    c.in-Err.ensures.leaves.sound c.in-Err.ensures.leaves.log
-    (c.in-Err.ensures.prepared (rw c.seal.ensures c.requires.ready)) c.in-Err.ensures.leaves.device c.push_reserved.ensures.items
-    c.len-end.ensures
+pub returns-in-Err-clause-keeps : goal.returns-in-Err-clause-keeps
+returns-in-Err-clause-keeps g c = record {
+  sound = (
+      stopped_at c.requires.sound c.requires.next c.requires.works c.seal.new.self _ c.push_reserved.new.self.items _ c.in-Err.fault _ c.seal.ensures
+      c.in-Err.ensures.leaves.sound c.in-Err.ensures.leaves.log
+      (c.in-Err.ensures.prepared (rw c.seal.ensures c.requires.ready)) c.in-Err.ensures.leaves.device c.push_reserved.ensures.items
+      c.len-end.ensures);
+  intake = search rules;
+  noted = search rules;
+}

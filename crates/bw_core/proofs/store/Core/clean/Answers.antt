@@ -12,8 +12,9 @@ use Rattle.bw_core.specs.Noted.{Noted}
 use Rattle.bw_core.specs.Views.{kept_by}
 use Rattle.bw_core.proofs.CountsMore.{step_counts}
 use Rattle.bw_core.proofs.FollowMore.{continue_then, follows_as}
-use Rattle.bw_core.proofs.Machines.{clean_keeps, may_leave}
+use Rattle.bw_core.proofs.Machines.{clean_keeps}
 use Rattle.bw_core.proofs.Refusing.{never_unready}
+use Rattle.bw_core.proofs.GoesMore.{runs_as}
 use Rattle.bw_core.proofs.store.Core.clean.Goals as goal
 
 pub returns-then-live-lt2-clause-follows : goal.returns-then-live-lt2-clause-follows
@@ -37,19 +38,19 @@ returns-in_err-make_ready-clause-nothing_old g c =
 
 pub returns-in_err-make_ready-clause-floor : goal.returns-in_err-make_ready-clause-floor
 returns-in_err-make_ready-clause-floor g c =
-    (let p = err_from_is_err_and c.from_residual.result c.from_residual.ensures.1 in rw p.1 c.make_ready.ensures.follows.floor)
+    (let p = err_from_is_err_and c.from_residual.result c.from_residual.ensures.1 in rw p.1 c.make_ready.ensures.goes.follows.floor)
 
 pub returns-in_err-make_ready-clause-follows : goal.returns-in_err-make_ready-clause-follows
-returns-in_err-make_ready-clause-follows g c = c.make_ready.ensures.follows.continues
+returns-in_err-make_ready-clause-follows g c = c.make_ready.ensures.goes.follows.continues
 
 pub returns-in_err-make_ready-clause-boxes : goal.returns-in_err-make_ready-clause-boxes
 returns-in_err-make_ready-clause-boxes g c =
-    (let p = err_from_is_err_and c.from_residual.result c.from_residual.ensures.1 in rw p.1 c.make_ready.ensures.boxes.same)
+    (let p = err_from_is_err_and c.from_residual.result c.from_residual.ensures.1 in rw p.1 c.make_ready.ensures.goes.boxes.same)
 
 pub returns-in_err-make_ready-clause-counts : goal.returns-in_err-make_ready-clause-counts
 returns-in_err-make_ready-clause-counts g c =
     let p = err_from_is_err_and c.from_residual.result c.from_residual.ensures.1 in
-    rw (p.1, p.2) (inl (inr c.in_err-make_ready.ensures.refused, ap (λ (n : Noted). n.tally) c.make_ready.ensures.noted))
+    rw (p.1, p.2) (inl (inr c.in_err-make_ready.ensures.refused, ap (λ (n : Noted). n.tally) c.make_ready.ensures.goes.noted))
 
 pub move_pages-requires-clause-two : goal.move_pages-requires-clause-two
 move_pages-requires-clause-two g c =
@@ -76,39 +77,30 @@ returns-clause-nothing_old g c =
 pub returns-clause-floor : goal.returns-clause-floor
 returns-clause-floor g c =
     gives_floor (λ (x : Cleaned). x.frames) IsCleaned Refuses (kept_by c.args.self.now (λ z. (goal.Segment-dyn g z).holding z.1)) _ _ _
-    c.make_ready.ensures.follows.floor c.move_pages.ensures.leaves
+    c.make_ready.ensures.goes.follows.floor c.move_pages.ensures.leaves
 
 pub returns-clause-follows : goal.returns-clause-follows
 returns-clause-follows g c =
-    continue_then _ _ _ c.make_ready.ensures.follows.continues
-    (gives_follows (λ (x : Cleaned). x.frames) IsCleaned Refuses _ _ _ c.make_ready.ensures.sound.floor c.move_pages.ensures.leaves)
+    continue_then _ _ _ c.make_ready.ensures.goes.follows.continues
+    (gives_follows (λ (x : Cleaned). x.frames) IsCleaned Refuses _ _ _ c.make_ready.ensures.goes.sound.floor c.move_pages.ensures.leaves)
 
 pub returns-clause-boxes : goal.returns-clause-boxes
 returns-clause-boxes g c =
-    move_boxes (kept_by c.args.self.now (λ z. (goal.Segment-dyn g z).holding z.1)) _ _ _ c.make_ready.ensures.boxes.same c.move_pages.ensures.leaves
+    move_boxes (kept_by c.args.self.now (λ z. (goal.Segment-dyn g z).holding z.1)) _ _ _ c.make_ready.ensures.goes.boxes.same c.move_pages.ensures.leaves
 
 pub returns-clause-counts : goal.returns-clause-counts
 returns-clause-counts g c =
     let s = kept_by c.make_ready.new.self (λ z. (goal.Segment-dyn g z).holding z.1) in
     let new = kept_by c.move_pages.new.self (λ z. (goal.Segment-dyn g z).holding z.1) in
-    let tally = ap (λ (n : Noted). n.tally) c.make_ready.ensures.noted in
+    let tally = ap (λ (n : Noted). n.tally) c.make_ready.ensures.goes.noted in
     step_counts (λ _. 1) MoveLeaves _ s new c.move_pages.result _ _ c.in_ok-make_ready.ensures.emptied c.move_pages.ensures.leaves
     (c.move_pages.ensures.counts ∙ ap (λ (t : Tally). counted_gone 1 t s (is_ok c.move_pages.result) new) tally)
 
-pub returns-then-live-lt2-clause-steps : goal.returns-then-live-lt2-clause-steps
-returns-then-live-lt2-clause-steps g c = inr (inl refl)
+pub returns-then-live-lt2-clause-runs : goal.returns-then-live-lt2-clause-runs
+returns-then-live-lt2-clause-runs g c = runs_as _ _ _ c.requires.sound (inr (inl refl))
 
-pub returns-then-live-lt2-clause-may_leave : goal.returns-then-live-lt2-clause-may_leave
-returns-then-live-lt2-clause-may_leave g c = may_leave _ c.requires.sound
+pub returns-in_err-make_ready-clause-runs : goal.returns-in_err-make_ready-clause-runs
+returns-in_err-make_ready-clause-runs g c = runs_as _ _ _ c.make_ready.ensures.goes.sound (clean_keeps _ _ _ c.requires.sound (returns-in_err-make_ready-clause-leaves g c))
 
-pub returns-in_err-make_ready-clause-steps : goal.returns-in_err-make_ready-clause-steps
-returns-in_err-make_ready-clause-steps g c = clean_keeps _ _ _ c.requires.sound (returns-in_err-make_ready-clause-leaves g c)
-
-pub returns-in_err-make_ready-clause-may_leave : goal.returns-in_err-make_ready-clause-may_leave
-returns-in_err-make_ready-clause-may_leave g c = may_leave _ c.make_ready.ensures.sound
-
-pub returns-clause-steps : goal.returns-clause-steps
-returns-clause-steps g c = clean_keeps _ _ _ c.requires.sound (returns-clause-leaves g c)
-
-pub returns-clause-may_leave : goal.returns-clause-may_leave
-returns-clause-may_leave g c = may_leave _ c.move_pages.ensures.sound
+pub returns-clause-runs : goal.returns-clause-runs
+returns-clause-runs g c = runs_as _ _ _ c.move_pages.ensures.sound (clean_keeps _ _ _ c.requires.sound (returns-clause-leaves g c))

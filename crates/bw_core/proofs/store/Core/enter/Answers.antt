@@ -1,4 +1,4 @@
-use Rattle.std.proofs.Common.{◌≡◌, [], ◌∷◌, ◌∙◌, ◌+◌, ◌++◌, ℕ, Err, refl, List, true, length, map, ap, subst, sym, arith}
+use Rattle.std.proofs.Common.{◌≡◌, [], ◌∷◌, ◌∙◌, ◌+◌, ◌++◌, ℕ, Err, refl, List, true, length, map, ap, subst, sym, arith, rules}
 use Rattle.bw_buffer.specs.Filling.{Filling, frame_of}
 use Rattle.bw_page.specs.Seats.{is_among}
 use Rattle.bw_buffer.specs.Joining.{added}
@@ -22,10 +22,10 @@ use Rattle.bw_ring.specs.Ends.{ring_of_lane}
 use Rattle.bw_core.proofs.store.Core.enter.Goals as goal
 
 pub apply_entry-requires-clause-here : goal.apply_entry-requires-clause-here
-apply_entry-requires-clause-here g c = c.requires.here
+apply_entry-requires-clause-here g c = c.requires.at.here
 
 pub apply_entry-requires-clause-page : goal.apply_entry-requires-clause-page
-apply_entry-requires-clause-page g c = c.requires.page
+apply_entry-requires-clause-page g c = c.requires.at.directed
 
 pub invariant_of-self-2 : goal.invariant_of-self-2
 invariant_of-self-2 g c =
@@ -36,12 +36,12 @@ invariant_of-self-2 g c =
     ap (λ (b : Filling). b.blocks) c.file.ensures.making ∙ ap (added was.making.blocks) c.requires.blocks in
     record {
       whole = whole_entered was.cuts.items was.intake.history.items c.enter_alone.new.self.history.items c.args.lane (c.args.item.now ∷ [])
-          c.requires.sound.ordered was.whole
+          c.requires.comes.sound.ordered was.whole
           (c.enter_alone.ensures.grows ∙ ap (λ (es : List Entry). es ++ entries_of c.args.lane (marked (c.args.item.now ∷ []))) c.reserve.ensures.history);
       logged = λ q evicted.
           ap (is_made q) made
           ∙ evicted_entered f.m f.leaves c.args.back here c.args.item.now was.making.blocks f.evicted q
-          (subst (λ (ps : List ℕ). is_among q ps ≡ true) c.apply_entry.ensures.evicted evicted) c.requires.here
+          (subst (λ (ps : List ℕ). is_among q ps ≡ true) c.apply_entry.ensures.evicted evicted) c.requires.at.here
           (c.count.ensures.beyond (length f.leaves + 1) (omega arith))
           (was.logged q (subst (λ (ps : List ℕ). is_among q ps ≡ true) c.apply_entry.ensures.evicted evicted));
       began = was.began;
@@ -50,31 +50,39 @@ invariant_of-self-2 g c =
 
 pub file-requires-clause-lawful : goal.file-requires-clause-lawful
 file-requires-clause-lawful g c =
-    file_lawful (enters_at c.args.page c.requires.sound c.requires.next c.key.ensures.lawful c.requires.page c.requires.back c.requires.blocks c.requires.fits)
+    file_lawful (enters_at c.args.page c.requires.comes.sound c.requires.frame.next c.key.ensures.lawful c.requires.at.directed c.requires.back c.requires.blocks c.requires.fits)
     (λ p. let x = c.in_ok-apply_entry.ensures.spent p in cc)
 
 pub file-requires-clause-one : goal.file-requires-clause-one
 file-requires-clause-one g c =
-    file_one (enters_at c.args.page c.requires.sound c.requires.next c.key.ensures.lawful c.requires.page c.requires.back c.requires.blocks c.requires.fits)
-    c.args.page c.requires.page
+    file_one (enters_at c.args.page c.requires.comes.sound c.requires.frame.next c.key.ensures.lawful c.requires.at.directed c.requires.back c.requires.blocks c.requires.fits)
+    c.args.page c.requires.at.directed
 
 pub file-requires-clause-page : goal.file-requires-clause-page
 file-requires-clause-page g c =
     rw c.reserve-2.ensures.items
-    (file_page (enters_at c.args.page c.requires.sound c.requires.next c.key.ensures.lawful c.requires.page c.requires.back c.requires.blocks c.requires.fits)
-    c.args.page c.requires.page)
+    (file_page (enters_at c.args.page c.requires.comes.sound c.requires.frame.next c.key.ensures.lawful c.requires.at.directed c.requires.back c.requires.blocks c.requires.fits)
+    c.args.page c.requires.at.directed)
 
-pub returns-clause-sound : goal.returns-clause-sound
-returns-clause-sound g c =
-    let e = enters_at c.args.page c.requires.sound c.requires.next c.key.ensures.lawful c.requires.page c.requires.back c.requires.blocks c.requires.fits in
+pub returns-clause-takes : goal.returns-clause-takes
+returns-clause-takes g c =
+    let e = enters_at c.args.page c.requires.comes.sound c.requires.frame.next c.key.ensures.lawful c.requires.at.directed c.requires.back c.requires.blocks c.requires.fits in
     let not : IsSpent c.args.self.now.leaves c.args.item.now → ⊥ = λ p. let x = c.in_ok-apply_entry.ensures.spent p in cc in
-    subst kept.IsSound
-    (sym (entered (alone c.args.item.now) e not c.args.lane c.args.page c.enter_alone.new.self.history.items (filed_of c.apply_entry.new.leaves)
-    c.file.new.newest.items c.file.new.making c.requires.page
-    _ c.enter_alone.ensures.grows c.reserve.ensures.history (ap filed_of c.in_ok-apply_entry.ensures.ok)
-    _ c.file.ensures.newest c.reserve-2.ensures.items c.file.ensures.making
-    _ _ c.enter_alone.ensures.rings (ap (λ v. map ring_of_lane v.items) c.reserve.ensures.lanes)))
-    (entered_sound (alone c.args.item.now) e not c.args.lane (lane_inside _ _ c.requires.inside))
+    record {
+      sound =
+          subst kept.IsSound
+          (sym (entered (alone c.args.item.now) e not c.args.lane c.args.page c.enter_alone.new.self.history.items (filed_of c.apply_entry.new.leaves)
+          c.file.new.newest.items c.file.new.making c.requires.at.directed
+          _ c.enter_alone.ensures.grows c.reserve.ensures.history (ap filed_of c.in_ok-apply_entry.ensures.ok)
+          _ c.file.ensures.newest c.reserve-2.ensures.items c.file.ensures.making
+          _ _ c.enter_alone.ensures.rings (ap (λ v. map ring_of_lane v.items) c.reserve.ensures.lanes)))
+          (entered_sound (alone c.args.item.now) e not c.args.lane (lane_inside _ _ c.requires.comes.inside));
+      count = search rules;
+      given = search rules;
+      known = search rules;
+      stays = search rules;
+      noted = search rules;
+    }
 
 pub returns-in_err-apply_entry-clause-refused : goal.returns-in_err-apply_entry-clause-refused
 returns-in_err-apply_entry-clause-refused g c =

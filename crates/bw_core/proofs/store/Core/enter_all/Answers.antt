@@ -1,4 +1,4 @@
-use Rattle.std.proofs.Common.{◌≡◌, ◌∙◌, ◌++◌, ℕ, List, Err, true, length, map, ap, refl, subst, sym, arith}
+use Rattle.std.proofs.Common.{◌≡◌, ◌∙◌, ◌++◌, ℕ, List, Err, true, length, map, ap, refl, subst, sym, arith, rules}
 use Rattle.std.proofs.lemmas.Result.{err_from_is_err_and}
 use Rattle.bw_record.specs.declared.leaf.Leaf.{Leaf}
 use Rattle.bw_page.specs.Leaves.{pages}
@@ -27,18 +27,18 @@ returns-in_err-apply_entries-clause-refused g c =
 pub file_all-requires-clause-some : goal.file_all-requires-clause-some
 file_all-requires-clause-some g c =
     let s = kept_by c.args.self.now (λ z. (goal.Segment-dyn g z).holding z.1) in
-    blocks_some s c.args.group c.args.draft.now c.requires.sound c.requires.lawful c.requires.draft _ c.as_slice-3.ensures.value c.as_slice.ensures.few.0
+    blocks_some s c.args.group c.args.draft.now c.requires.comes.sound c.requires.packed.lawful c.requires.draft _ c.as_slice-3.ensures.value c.as_slice.ensures.few.0
 
 pub file_all-requires-clause-inside : goal.file_all-requires-clause-inside
 file_all-requires-clause-inside g c =
     let s = kept_by c.args.self.now (λ z. (goal.Segment-dyn g z).holding z.1) in
-    rows_inside s c.args.group c.args.draft.now c.requires.sound c.requires.lawful c.requires.draft _ _
-    (ap length c.reserve-2.ensures.items ∙ c.requires.sound.grown.count) c.as_slice-rows.ensures.value
+    rows_inside s c.args.group c.args.draft.now c.requires.comes.sound c.requires.packed.lawful c.requires.draft _ _
+    (ap length c.reserve-2.ensures.items ∙ c.requires.comes.sound.grown.count) c.as_slice-rows.ensures.value
 
 pub file_all-requires-clause-room : goal.file_all-requires-clause-room
 file_all-requires-clause-room g c =
     let s = kept_by c.args.self.now (λ z. (goal.Segment-dyn g z).holding z.1) in
-    let many = rows_many s c.args.group c.args.draft.now c.requires.sound c.requires.lawful c.requires.draft _ c.as_slice-rows.ensures.value in
+    let many = rows_many s c.args.group c.args.draft.now c.requires.comes.sound c.requires.packed.lawful c.requires.draft _ c.as_slice-rows.ensures.value in
     let count = c.len.ensures.value in
     let room = c.in_ok-reserve-2.ensures.ok in
     omega arith
@@ -50,10 +50,10 @@ invariant_of-self-2 g c =
     let after = c.in_ok-apply_entries.ensures.ok in
     let evicted = ap (λ (x : Shown). x.evicted) after in
     record {
-      whole = whole_entered was.cuts.items was.intake.history.items c.enter.new.self.history.items c.args.lane c.args.group c.requires.sound.ordered was.whole
+      whole = whole_entered was.cuts.items was.intake.history.items c.enter.new.self.history.items c.args.lane c.args.group c.requires.comes.sound.ordered was.whole
           (c.enter.ensures.grows ∙ ap (λ (es : List Entry). es ++ entered c.args.lane (marked c.args.group)) c.reserve.ensures.history);
       logged = λ q there.
-          evicted_now s c.args.group c.args.draft.now c.requires.sound c.requires.lawful c.requires.draft was.leaves.evicted q _ _ c.requires.here
+          evicted_now s c.args.group c.args.draft.now c.requires.comes.sound c.requires.packed.lawful c.requires.draft was.leaves.evicted q _ _ c.requires.packed.here
           c.count.ensures.beyond
           (subst (λ (ps : List ℕ). is_among q ps ≡ true) evicted there) (was.logged q (subst (λ (ps : List ℕ). is_among q ps ≡ true) evicted there))
           c.file_all.ensures.making c.as_slice-3.ensures.value;
@@ -61,26 +61,34 @@ invariant_of-self-2 g c =
       forgotten = (let entered = c.enter.ensures.gone in let reserved = c.reserve.ensures.gone in let known = was.forgotten in omega arith);
     }
 
-pub returns-clause-sound : goal.returns-clause-sound
-returns-clause-sound g c =
+pub returns-clause-takes : goal.returns-clause-takes
+returns-clause-takes g c =
     let was = c.args.self.now in
     let s = kept_by was (λ z. (goal.Segment-dyn g z).holding z.1) in
     let leaves = ap (pages was.leaves.m was.leaves.leaves) c.as_slice.ensures.value in
-    subst kept.IsSound
-    (sym (entered_all s c.args.group c.args.draft.now c.requires.sound c.requires.lawful c.requires.draft c.args.lane _ _ c.enter.new.self.history.items _
-    (filed_of c.apply_entries.new.leaves) _ _ _ _ _
-    c.enter.ensures.rings (ap (λ v. map ring_of_lane v.items) c.reserve.ensures.lanes) c.enter.ensures.grows c.reserve.ensures.history
-    (ap filed_of c.in_ok-apply_entries.ensures.ok ∙ ap (λ (ls : List Leaf). filed_with was.leaves.m ls) leaves)
-    c.file_all.ensures.newest c.reserve-2.ensures.items c.as_slice-rows.ensures.value c.file_all.ensures.making c.as_slice-3.ensures.value))
-    (all_sound s c.args.group c.args.draft.now c.requires.sound c.requires.lawful c.requires.draft c.args.lane c.requires.next
-    (lane_inside _ _ c.requires.inside))
+    record {
+      sound =
+          subst kept.IsSound
+          (sym (entered_all s c.args.group c.args.draft.now c.requires.comes.sound c.requires.packed.lawful c.requires.draft c.args.lane _ _ c.enter.new.self.history.items _
+          (filed_of c.apply_entries.new.leaves) _ _ _ _ _
+          c.enter.ensures.rings (ap (λ v. map ring_of_lane v.items) c.reserve.ensures.lanes) c.enter.ensures.grows c.reserve.ensures.history
+          (ap filed_of c.in_ok-apply_entries.ensures.ok ∙ ap (λ (ls : List Leaf). filed_with was.leaves.m ls) leaves)
+          c.file_all.ensures.newest c.reserve-2.ensures.items c.as_slice-rows.ensures.value c.file_all.ensures.making c.as_slice-3.ensures.value))
+          (all_sound s c.args.group c.args.draft.now c.requires.comes.sound c.requires.packed.lawful c.requires.draft c.args.lane c.requires.frame.next
+          (lane_inside _ _ c.requires.comes.inside));
+      count = search rules;
+      given = search rules;
+      known = search rules;
+      stays = search rules;
+      noted = search rules;
+    }
 
 pub returns-clause-ok : goal.returns-clause-ok
 returns-clause-ok g c =
     let was = c.args.self.now in
     let s = kept_by was (λ z. (goal.Segment-dyn g z).holding z.1) in
     let leaves = ap (pages was.leaves.m was.leaves.leaves) c.as_slice.ensures.value in
-    entered_all s c.args.group c.args.draft.now c.requires.sound c.requires.lawful c.requires.draft c.args.lane _ _ c.enter.new.self.history.items _
+    entered_all s c.args.group c.args.draft.now c.requires.comes.sound c.requires.packed.lawful c.requires.draft c.args.lane _ _ c.enter.new.self.history.items _
     (filed_of c.apply_entries.new.leaves) _ _ _ _ _
     c.enter.ensures.rings (ap (λ v. map ring_of_lane v.items) c.reserve.ensures.lanes) c.enter.ensures.grows c.reserve.ensures.history
     (ap filed_of c.in_ok-apply_entries.ensures.ok ∙ ap (λ (ls : List Leaf). filed_with was.leaves.m ls) leaves)

@@ -15,4 +15,4 @@ invariant_of-self g c =
 pub returns-clause-others : goal.returns-clause-others
 returns-clause-others g c = λ other here.
     still_here c.read_evicted.new.self.leaves c.bring_back.new.self c.find-page.result other c.bring_back.ensures.leaves c.bring_back.ensures.evicted
-    (same_here _ _ other c.read_evicted.ensures.pages here)
+    (same_here _ _ other c.read_evicted.ensures.looks.pages here)

@@ -14,9 +14,9 @@ pub records-preserved : goal.records-preserved
 records-preserved g c =
     let i = c.records.invariant in
     record {
-      sound = c.fetch_one.ensures.sound;
-      intake = c.fetch_one.ensures.intake ∙ i.intake;
-      noted = c.fetch_one.ensures.noted ∙ i.noted;
+      sound = c.fetch_one.ensures.keeps.sound;
+      intake = c.fetch_one.ensures.keeps.intake ∙ i.intake;
+      noted = c.fetch_one.ensures.keeps.noted ∙ i.noted;
       same = c.in_ok-fetch_one.ensures.leaves ∙ i.same;
       here = all_more (λ r. IsHere (key_of r) c.fetch_one.new.self.leaves) c.args.records.now c.records.at _ c.records-test.true c.index-records-at.is
           (all_here c.records.self.leaves c.fetch_one.new.self.leaves _ c.in_ok-fetch_one.ensures.others i.here) c.in_ok-fetch_one.ensures.here;

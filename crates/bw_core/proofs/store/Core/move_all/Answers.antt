@@ -15,7 +15,7 @@ returns-in-Ok g c =
     (cleaned_wrote (kept_by c.args.self.now (λ z. (goal.Segment-dyn g z).holding z.1)) c.in-Ok.cleaned _ (begins c.requires.ready)
     c.clean-result.ensures.sound c.in-Ok.ensures.cleaned c.clean-result.ensures.stands)
     (care.IsCleaned (kept_by c.args.self.now (λ z. (goal.Segment-dyn g z).holding z.1)).log c.in-Ok.cleaned) c.in-Ok.ensures.cleaned in
-    record { sound = done.0; leaves = done.1; noted = c.note_moved.ensures.stays }
+    record { quiet = record { sound = done.0; noted = c.note_moved.ensures.stays }; leaves = done.1 }
 
 pub returns-in-Err : goal.returns-in-Err
 returns-in-Err g c =
@@ -23,4 +23,4 @@ returns-in-Err g c =
     c.requires.two c.clean-result.ensures.sound c.in-Err.ensures.refused c.clean-result.ensures.stands in
     let stop = stopped_noted _ _ _ (begins c.requires.ready) _ c.next_frame-first.ensures _ _ c.note_moved.ensures.noted wrote
     (care.Refuses c.in-Err.fault (kept_by c.args.self.now (λ z. (goal.Segment-dyn g z).holding z.1)).log) c.in-Err.ensures.refused in
-    record { sound = stop.0; leaves = (c.in-Err.fault, c.from.ensures, stop.1); noted = c.note_moved.ensures.stays }
+    record { quiet = record { sound = stop.0; noted = c.note_moved.ensures.stays }; leaves = (c.in-Err.fault, c.from.ensures, stop.1) }

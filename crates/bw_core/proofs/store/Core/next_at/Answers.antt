@@ -5,7 +5,7 @@ use Rattle.bw_leaf.specs.Changed.{Bytes}
 use Rattle.bw_page.specs.Leaves.{home}
 use Rattle.bw_page.specs.Shown.{Shown}
 use Rattle.bw_core.specs.Views.{kept_by}
-use Rattle.bw_core.proofs.FollowMore.{read_follows}
+use Rattle.bw_core.proofs.LookingMore.{reads_behind, stays_on, stays_yet}
 use Rattle.bw_core.proofs.Walks.{map_of, fewer_ahead, walk_first, walk_some, walk_further, walk_last, no_pair}
 use Rattle.bw_core.proofs.store.Core.next_at.Goals as goal
 
@@ -13,52 +13,46 @@ pub pages-init : goal.pages-init
 pages-init g c =
     let s = kept_by c.args.self.now (λ z. (goal.Segment-dyn g z).holding z.1) in
     record {
-      sound = c.requires;
-      same = refl;
-      pages = refl;
-      noted = refl;
+      stays = stays_yet _ _ c.requires;
       come = subst (λ (f : Bytes). HasCome (map_of s) c.args.key.now f) (sym c.copy-from.ensures) (walk_first s c.requires c.args.key.now);
     }
 
-pub returns-in_err-found-clause-follows : goal.returns-in_err-found-clause-follows
-returns-in_err-found-clause-follows g c = read_follows _ _ _ c.pages.invariant.same c.pair_from.ensures.read
+pub returns-in_err-found-clause-reads : goal.returns-in_err-found-clause-reads
+returns-in_err-found-clause-reads g c = reads_behind _ _ _ _ _ _ c.pages.invariant.stays c.pair_from.ensures.looks
 
 pub returns-then-is_some-clause-value : goal.returns-then-is_some-clause-value
 returns-then-is_some-clause-value g c =
     let s = kept_by c.args.self.now (λ z. (goal.Segment-dyn g z).holding z.1) in
     walk_some s c.requires c.args.key.now c.pages.from c.in_ok-found.found c.pages.invariant.come
-    (c.in_ok-found.ensures.value ∙ ap (λ (f : Shown). pair_above c.pages.from (home c.pages.from f.leaves).pairs) c.pages.invariant.pages)
+    (c.in_ok-found.ensures.value ∙ ap (λ (f : Shown). pair_above c.pages.from (home c.pages.from f.leaves).pairs) c.pages.invariant.stays.pages)
     (sym c.is_some.ensures ∙ c.if-is_some.true)
 
-pub returns-then-is_some-clause-follows : goal.returns-then-is_some-clause-follows
-returns-then-is_some-clause-follows g c = read_follows _ _ _ c.pages.invariant.same c.pair_from.ensures.read
+pub returns-then-is_some-clause-reads : goal.returns-then-is_some-clause-reads
+returns-then-is_some-clause-reads g c = reads_behind _ _ _ _ _ _ c.pages.invariant.stays c.pair_from.ensures.looks
 
 pub pages-smaller : goal.pages-smaller
 pages-smaller g c =
-    omega (arith, fewer_ahead c.pages.from c.in-Some.low _ _ c.pair_from.ensures.pages c.in-Some.ensures.some)
+    omega (arith, fewer_ahead c.pages.from c.in-Some.low _ _ c.pair_from.ensures.looks.pages c.in-Some.ensures.some)
 
 pub pages-preserved : goal.pages-preserved
 pages-preserved g c =
     let s = kept_by c.args.self.now (λ z. (goal.Segment-dyn g z).holding z.1) in
-    let value = c.in_ok-found.ensures.value ∙ ap (λ (f : Shown). pair_above c.pages.from (home c.pages.from f.leaves).pairs) c.pages.invariant.pages in
+    let value = c.in_ok-found.ensures.value ∙ ap (λ (f : Shown). pair_above c.pages.from (home c.pages.from f.leaves).pairs) c.pages.invariant.stays.pages in
     let none = no_pair c.in_ok-found.found _ value (sym c.is_some.ensures ∙ c.if-is_some.false) in
-    let next = subst (λ (f : Shown). IsNextLow f.leaves c.pages.from c.in-Some.low) (c.pair_from.ensures.pages ∙ c.pages.invariant.pages)
+    let next = subst (λ (f : Shown). IsNextLow f.leaves c.pages.from c.in-Some.low) (c.pair_from.ensures.looks.pages ∙ c.pages.invariant.stays.pages)
     c.in-Some.ensures.some in
     record {
-      sound = c.pair_from.ensures.sound;
-      same = c.in_ok-found.ensures.leaves ∙ c.pages.invariant.same;
-      pages = c.pair_from.ensures.pages ∙ c.pages.invariant.pages;
-      noted = c.pair_from.ensures.noted ∙ c.pages.invariant.noted;
+      stays = stays_on _ _ _ _ _ _ c.pages.invariant.stays c.in_ok-found.ensures.looks;
       come = walk_further s c.requires c.args.key.now c.pages.from c.in-Some.low c.pages.invariant.come none next;
     }
 
 pub returns-in-None-clause-value : goal.returns-in-None-clause-value
 returns-in-None-clause-value g c =
     let s = kept_by c.args.self.now (λ z. (goal.Segment-dyn g z).holding z.1) in
-    let value = c.in_ok-found.ensures.value ∙ ap (λ (f : Shown). pair_above c.pages.from (home c.pages.from f.leaves).pairs) c.pages.invariant.pages in
+    let value = c.in_ok-found.ensures.value ∙ ap (λ (f : Shown). pair_above c.pages.from (home c.pages.from f.leaves).pairs) c.pages.invariant.stays.pages in
     let none = no_pair c.in_ok-found.found _ value (sym c.is_some.ensures ∙ c.if-is_some.false) in
-    let last = subst (λ (f : Shown). HasNoLowAbove f.leaves c.pages.from) (c.pair_from.ensures.pages ∙ c.pages.invariant.pages) (c.in-None.ensures.none refl) in
+    let last = subst (λ (f : Shown). HasNoLowAbove f.leaves c.pages.from) (c.pair_from.ensures.looks.pages ∙ c.pages.invariant.stays.pages) (c.in-None.ensures.none refl) in
     walk_last s c.requires c.args.key.now c.pages.from c.pages.invariant.come none last
 
-pub returns-in-None-clause-follows : goal.returns-in-None-clause-follows
-returns-in-None-clause-follows g c = read_follows _ _ _ c.pages.invariant.same c.pair_from.ensures.read
+pub returns-in-None-clause-reads : goal.returns-in-None-clause-reads
+returns-in-None-clause-reads g c = reads_behind _ _ _ _ _ _ c.pages.invariant.stays c.pair_from.ensures.looks

@@ -8,20 +8,20 @@ use Rattle.bw_core.proofs.store.Core.plan.Goals as goal
 
 pub planned_for-requires-clause-within : goal.planned_for-requires-clause-within
 planned_for-requires-clause-within g c =
-    page_within (kept_by c.args.self.now (λ z. (goal.Segment-dyn g z).holding z.1)) c.requires.sound c.args.item.now c.args.page c.requires.page
+    page_within (kept_by c.args.self.now (λ z. (goal.Segment-dyn g z).holding z.1)) c.requires.sound c.args.item.now c.args.page c.requires.at.directed
 
 pub returns-clause-lawful : goal.returns-clause-lawful
 returns-clause-lawful g c =
     let e = c.in_ok-plan.ensures in
-    let all = plan_all _ c.requires.sound c.args.item.now c.key.ensures.lawful c.in_ok-goes_on.ensures.next c.room.result c.room.ensures c.args.page
-    c.requires.page c.place_for-here.result c.place_for-here.ensures c.in_ok-plan.plan e.page (rw (sym c.deref.ensures.value) e.back) e.room e.blocks in
+    let all = plan_all _ c.requires.sound c.args.item.now c.key.ensures.lawful c.in_ok-goes_on.ensures.frame.next c.room.result c.room.ensures c.args.page
+    c.requires.at.directed c.place_for-here.result c.place_for-here.ensures c.in_ok-plan.plan e.page (rw (sym c.deref.ensures.value) e.back) e.room e.blocks in
     (all.0, all.1)
 
 pub returns-clause-short : goal.returns-clause-short
 returns-clause-short g c =
     let e = c.in_ok-plan.ensures in
-    let all = plan_all _ c.requires.sound c.args.item.now c.key.ensures.lawful c.in_ok-goes_on.ensures.next c.room.result c.room.ensures c.args.page
-    c.requires.page c.place_for-here.result c.place_for-here.ensures c.in_ok-plan.plan e.page (rw (sym c.deref.ensures.value) e.back) e.room e.blocks in
+    let all = plan_all _ c.requires.sound c.args.item.now c.key.ensures.lawful c.in_ok-goes_on.ensures.frame.next c.room.result c.room.ensures c.args.page
+    c.requires.at.directed c.place_for-here.result c.place_for-here.ensures c.in_ok-plan.plan e.page (rw (sym c.deref.ensures.value) e.back) e.room e.blocks in
     all.3
 
 pub returns-in_err-goes_on-clause-refused : goal.returns-in_err-goes_on-clause-refused

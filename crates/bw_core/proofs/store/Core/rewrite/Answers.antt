@@ -5,57 +5,48 @@ use Rattle.std.proofs.lemmas.Result.{err_from_is_err_and}
 use Rattle.bw_core.specs.declared.fault.StoreFault.{StoreFault}
 use Rattle.bw_core.specs.declared.fault.StoreFault.TheVariants.{NoPage}
 use Rattle.bw_core.specs.Faults.{FlushAnswers, refusal_by}
-use Rattle.bw_log.specs.Contents.{roster}
 use Rattle.bw_log.specs.Reads.{IsPage}
-use Rattle.bw_core.specs.Following.{Follows}
 use Rattle.bw_core.specs.Kept.{IsSound, Kept}
 use Rattle.bw_core.specs.Emptied.{Emptied}
 use Rattle.bw_core.specs.Rewriting.{are_pages, RewriteMoves}
 use Rattle.bw_core.specs.Views.{kept_by}
 use Rattle.bw_core.proofs.CleanedMore.{goes_on}
-use Rattle.bw_core.proofs.FollowMore.{follow_then, follows_as, follows_left}
-use Rattle.bw_core.proofs.Machines.{flush_stops, may_leave, rewrite_keeps}
+use Rattle.bw_core.proofs.Machines.{flush_stops, rewrite_keeps}
 use Rattle.bw_core.proofs.Refusing.{never_page}
 use Rattle.bw_core.proofs.SettledMore.{settled_by}
 use Rattle.bw_core.proofs.RewrittenMore.{all_there, same_count, rewrite_stays, never_no_page}
+use Rattle.bw_core.proofs.GoesMore.{goes_flushed, goes_nowhere, goes_same, goes_then, runs_as}
 use Rattle.bw_core.proofs.store.Core.rewrite.Goals as goal
 
-pub returns-then-not-are_pages-clause-follows : goal.returns-then-not-are_pages-clause-follows
-returns-then-not-are_pages-clause-follows g c = (follows_as _ _ refl).follows
+pub returns-then-not-are_pages-clause-goes : goal.returns-then-not-are_pages-clause-goes
+returns-then-not-are_pages-clause-goes g c = goes_nowhere _ _ c.requires.sound
 
-pub returns-in_err-flush_making-clause-follows : goal.returns-in_err-flush_making-clause-follows
-returns-in_err-flush_making-clause-follows g c = (follows_left _ _ _ c.flush_making.ensures.leaves).follows
+pub returns-in_err-flush_making-clause-goes : goal.returns-in_err-flush_making-clause-goes
+returns-in_err-flush_making-clause-goes g c = goes_flushed _ _ _ _ c.flush_making.ensures.keeps c.flush_making.ensures.leaves
 
-pub returns-in_err-reserve_cuts-clause-follows : goal.returns-in_err-reserve_cuts-clause-follows
-returns-in_err-reserve_cuts-clause-follows g c = rw c.reserve_cuts.ensures.same (follows_left _ _ _ c.flush_making.ensures.leaves).follows
+pub returns-in_err-reserve_cuts-clause-goes : goal.returns-in_err-reserve_cuts-clause-goes
+returns-in_err-reserve_cuts-clause-goes g c = goes_same _ _ _ _ (goes_flushed c.args.self.now _ _ _ c.flush_making.ensures.keeps c.flush_making.ensures.leaves) c.reserve_cuts.ensures.same c.reserve_cuts.ensures.stays
 
 pub rewrite_pages-requires-clause-settled : goal.rewrite_pages-requires-clause-settled
 rewrite_pages-requires-clause-settled g c =
-    rw c.reserve_cuts.ensures.same (settled_by true _ _ c.in_ok-flush_making.field-0 c.in_ok-flush_making.ensures.sound c.in_ok-flush_making.ensures.answers
+    rw c.reserve_cuts.ensures.same (settled_by true _ _ c.in_ok-flush_making.field-0 c.in_ok-flush_making.ensures.keeps.sound c.in_ok-flush_making.ensures.answers
     c.in_ok-flush_making.ensures.leaves)
 
 pub rewrite_pages-requires-clause-pages : goal.rewrite_pages-requires-clause-pages
 rewrite_pages-requires-clause-pages g c =
     let old = kept_by c.args.self.now (λ z. (goal.Segment-dyn g z).holding z.1) in
     let flushed = kept_by c.flush_making.new.self (λ z. (goal.Segment-dyn g z).holding z.1) in
-    let done = settled_by true _ _ c.in_ok-flush_making.field-0 c.in_ok-flush_making.ensures.sound c.in_ok-flush_making.ensures.answers
+    let done = settled_by true _ _ c.in_ok-flush_making.field-0 c.in_ok-flush_making.ensures.keeps.sound c.in_ok-flush_making.ensures.answers
     c.in_ok-flush_making.ensures.leaves in
     let same = same_count old flushed c.in_ok-flush_making.field-0 c.in_ok-flush_making.ensures.leaves in
     subst (λ (k : Kept). All (IsPage k.log) c.args.pages.now) (sym c.reserve_cuts.ensures.same)
-    (all_there old flushed c.args.pages.now c.in_ok-flush_making.ensures.sound done same
+    (all_there old flushed c.args.pages.now c.in_ok-flush_making.ensures.keeps.sound done same
     (ap (λ (n : ℕ). are_pages n c.args.pages.now) (sym c.count.ensures.value) ∙ sym c.are_pages.ensures ∙ c.if-not-are_pages.false))
 
-pub returns-clause-follows : goal.returns-clause-follows
-returns-clause-follows g c =
-    let flushed = (follows_left _ _ _ c.flush_making.ensures.leaves).follows in
-    let begun : Follows (kept_by c.args.self.now (λ z. (goal.Segment-dyn g z).holding z.1)) (kept_by c.reserve_cuts.new.self (λ z. (goal.Segment-dyn g z).holding z.1)) = rw c.reserve_cuts.ensures.same flushed in
-    follow_then _ _ _ begun (rewrite_stays _ _ c.args.pages.now c.rewrite_pages.result c.rewrite_pages.ensures.leaves).0
-
-pub returns-clause-boxes : goal.returns-clause-boxes
-returns-clause-boxes g c = record {
-  same = (rewrite_stays _ _ c.args.pages.now c.rewrite_pages.result c.rewrite_pages.ensures.leaves).1.same
-      ∙ ap (λ (s : Kept). roster s.log) c.reserve_cuts.ensures.same ∙ (follows_left _ _ _ c.flush_making.ensures.leaves).boxes.same;
-}
+pub returns-clause-goes : goal.returns-clause-goes
+returns-clause-goes g c =
+    goes_then _ _ _ _ (goes_same _ _ _ _ (goes_flushed c.args.self.now _ _ _ c.flush_making.ensures.keeps c.flush_making.ensures.leaves) c.reserve_cuts.ensures.same c.reserve_cuts.ensures.stays) c.rewrite_pages.ensures.quiet
+    (rewrite_stays _ _ c.args.pages.now c.rewrite_pages.result c.rewrite_pages.ensures.leaves)
 
 pub returns-clause-leaves : goal.returns-clause-leaves
 returns-clause-leaves g c =
@@ -94,32 +85,23 @@ returns-clause-no_page g c =
     ap (λ (n : ℕ). are_pages n c.args.pages.now) (sym c.count.ensures.value) ∙ sym c.are_pages.ensures ∙ c.if-not-are_pages.false in
     (λ e. absurd (never_no_page _ _ c.args.pages.now c.rewrite_pages.result c.rewrite_pages.ensures.leaves e), λ none. absurd (true≢false (sym are ∙ none)))
 
-pub returns-then-not-are_pages-clause-steps : goal.returns-then-not-are_pages-clause-steps
-returns-then-not-are_pages-clause-steps g c = inr (inl refl)
+pub returns-then-not-are_pages-clause-runs : goal.returns-then-not-are_pages-clause-runs
+returns-then-not-are_pages-clause-runs g c = runs_as _ _ _ c.requires.sound (inr (inl refl))
 
-pub returns-then-not-are_pages-clause-may_leave : goal.returns-then-not-are_pages-clause-may_leave
-returns-then-not-are_pages-clause-may_leave g c = may_leave _ c.requires.sound
-
-pub returns-in_err-flush_making-clause-steps : goal.returns-in_err-flush_making-clause-steps
-returns-in_err-flush_making-clause-steps g c =
+pub returns-in_err-flush_making-clause-runs : goal.returns-in_err-flush_making-clause-runs
+returns-in_err-flush_making-clause-runs g c =
     let p = err_from_is_err_and c.from_residual.result c.from_residual.ensures.1 in
-    rw p.1 (inr (flush_stops true _ _ _ c.requires.sound c.in_err-flush_making.ensures.answers c.in_err-flush_making.ensures.leaves))
+    rw p.1 (runs_as _ _ _ c.flush_making.ensures.keeps.sound
+    (inr (flush_stops true _ _ _ c.requires.sound c.in_err-flush_making.ensures.answers c.in_err-flush_making.ensures.leaves)))
 
-pub returns-in_err-flush_making-clause-may_leave : goal.returns-in_err-flush_making-clause-may_leave
-returns-in_err-flush_making-clause-may_leave g c = may_leave _ c.flush_making.ensures.sound
+pub returns-in_err-reserve_cuts-clause-runs : goal.returns-in_err-reserve_cuts-clause-runs
+returns-in_err-reserve_cuts-clause-runs g c =
+    runs_as _ _ _ (subst IsSound (sym c.reserve_cuts.ensures.same) c.flush_making.ensures.keeps.sound)
+    (rewrite_keeps (kept_by c.args.self.now (λ z. (goal.Segment-dyn g z).holding z.1)) (kept_by c.reserve_cuts.new.self (λ z. (goal.Segment-dyn g z).holding z.1)) c.args.pages.now
+    c.from_residual-in_err-reserve_cuts.result c.requires.sound (returns-in_err-reserve_cuts-clause-leaves g c))
 
-pub returns-in_err-reserve_cuts-clause-steps : goal.returns-in_err-reserve_cuts-clause-steps
-returns-in_err-reserve_cuts-clause-steps g c =
-    rewrite_keeps (kept_by c.args.self.now (λ z. (goal.Segment-dyn g z).holding z.1)) (kept_by c.reserve_cuts.new.self (λ z. (goal.Segment-dyn g z).holding z.1)) c.args.pages.now c.from_residual-in_err-reserve_cuts.result c.requires.sound
-    (returns-in_err-reserve_cuts-clause-leaves g c)
-
-pub returns-in_err-reserve_cuts-clause-may_leave : goal.returns-in_err-reserve_cuts-clause-may_leave
-returns-in_err-reserve_cuts-clause-may_leave g c =
-    may_leave _ (subst IsSound (sym c.reserve_cuts.ensures.same) c.flush_making.ensures.sound)
-
-pub returns-clause-steps : goal.returns-clause-steps
-returns-clause-steps g c =
-    rewrite_keeps (kept_by c.args.self.now (λ z. (goal.Segment-dyn g z).holding z.1)) (kept_by c.rewrite_pages.new.self (λ z. (goal.Segment-dyn g z).holding z.1)) c.args.pages.now c.rewrite_pages.result c.requires.sound (returns-clause-leaves g c)
-
-pub returns-clause-may_leave : goal.returns-clause-may_leave
-returns-clause-may_leave g c = may_leave _ c.rewrite_pages.ensures.sound
+pub returns-clause-runs : goal.returns-clause-runs
+returns-clause-runs g c =
+    runs_as _ _ _ c.rewrite_pages.ensures.quiet.sound
+    (rewrite_keeps (kept_by c.args.self.now (λ z. (goal.Segment-dyn g z).holding z.1)) (kept_by c.rewrite_pages.new.self (λ z. (goal.Segment-dyn g z).holding z.1)) c.args.pages.now c.rewrite_pages.result
+    c.requires.sound (returns-clause-leaves g c))

@@ -26,7 +26,7 @@ returns-in-Ok g c =
     let wrote = moved_wrote s 0 ps c.in-Ok.frames (length ps) _ b c.rewrite-result.ensures.sound le c.in-Ok.ensures.rewritten c.rewrite-result.ensures.stands in
     let holds = λ (l : logs.Contents). care.MovedBehind 0 s.log l ps [] c.in-Ok.frames in
     let done = moved_noted s _ _ b _ c.next_frame-first.ensures _ _ c.note_moved.ensures.noted _ wrote holds c.in-Ok.ensures.rewritten in
-    record { sound = done.0; leaves = done.1; noted = c.note_moved.ensures.stays }
+    record { quiet = record { sound = done.0; noted = c.note_moved.ensures.stays }; leaves = done.1 }
 
 pub returns-in-Err : goal.returns-in-Err
 returns-in-Err g c =
@@ -39,4 +39,4 @@ returns-in-Err g c =
     let wrote = refused_wrote s 0 ps c.in-Err.fault (length ps) _ b c.rewrite-result.ensures.sound le held c.rewrite-result.ensures.stands in
     let stop = stopped_noted s _ _ b _ c.next_frame-first.ensures _ _ c.note_moved.ensures.noted wrote
     (rewrites.RefusesRewrite c.in-Err.fault s.log ps) c.in-Err.ensures.refused in
-    record { sound = stop.0; leaves = (c.in-Err.fault, c.from.ensures, stop.1); noted = c.note_moved.ensures.stays }
+    record { quiet = record { sound = stop.0; noted = c.note_moved.ensures.stays }; leaves = (c.in-Err.fault, c.from.ensures, stop.1) }

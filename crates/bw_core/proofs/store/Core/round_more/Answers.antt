@@ -18,14 +18,14 @@ lanes-init g c = record {
 
 pub lanes-preserved : goal.lanes-preserved
 lanes-preserved g c = record {
-  sound = c.in_ok-so_far.ensures.sound;
+  sound = c.in_ok-so_far.ensures.quiet.sound;
   count = c.in_ok-so_far.ensures.count ∙ c.lanes.invariant.count;
   turned = λ first x. c.in_ok-so_far.ensures.turned first (c.lanes.invariant.turned first x);
   low = (let a = c.in_ok-so_far.ensures.within.0 in let b = c.lanes.invariant.low in omega arith);
   within = still_within c.lanes.so_far.groups c.in_ok-so_far.so_far.groups c.args.limit c.if-so_far-limit.false c.lanes.invariant.within
       c.in_ok-so_far.ensures.within.1;
   few = c.in_ok-so_far.ensures.few;
-  noted = c.in_ok-so_far.ensures.noted ∙ c.lanes.invariant.noted;
+  noted = c.in_ok-so_far.ensures.quiet.noted ∙ c.lanes.invariant.noted;
   dry = dry_further _ _ c.lanes.lane c.args.taken.groups c.lanes.so_far.groups c.in_ok-so_far.so_far.groups c.lanes.invariant.low
       c.in_ok-so_far.ensures.within.0 c.lanes.invariant.dry c.in_ok-so_far.ensures.dry;
 }

@@ -5,7 +5,7 @@ use Rattle.bw_leaf.specs.Changed.{Bytes, Pairs}
 use Rattle.bw_page.specs.Leaves.{home}
 use Rattle.bw_page.specs.Shown.{Shown}
 use Rattle.bw_core.specs.Views.{kept_by}
-use Rattle.bw_core.proofs.FollowMore.{follows_as, read_follows}
+use Rattle.bw_core.proofs.LookingMore.{reads_behind, reads_no_more, stays_on, stays_yet}
 use Rattle.bw_core.proofs.Walks.{map_of, fewer_ahead, stretch_first, stretch_more, stretch_last, stretch_full}
 use Rattle.bw_core.proofs.store.Core.scan.Goals as goal
 
@@ -13,33 +13,27 @@ pub pages-init : goal.pages-init
 pages-init g c =
     let s = kept_by c.args.self.now (λ z. (goal.Segment-dyn g z).holding z.1) in
     record {
-      sound = c.requires;
-      same = refl;
-      pages = refl;
-      noted = refl;
+      stays = stays_yet _ _ c.requires;
       gone = subst (λ (x : Bytes × Pairs). HasGone (map_of s) c.args.key.now x.0 c.args.most x.1)
           (λ i. (sym c.copy-from.ensures i, sym c.clear.ensures.items i)) (stretch_first s c.requires c.args.key.now c.args.most);
     }
 
-pub returns-in_err-add_pairs-clause-follows : goal.returns-in_err-add_pairs-clause-follows
-returns-in_err-add_pairs-clause-follows g c = read_follows _ _ _ c.pages.invariant.same c.add_pairs.ensures.read
+pub returns-in_err-add_pairs-clause-reads : goal.returns-in_err-add_pairs-clause-reads
+returns-in_err-add_pairs-clause-reads g c = reads_behind _ _ _ _ _ _ c.pages.invariant.stays c.add_pairs.ensures.looks
 
 pub pages-smaller : goal.pages-smaller
 pages-smaller g c =
-    omega (arith, fewer_ahead c.pages.from c.in-Some.low _ _ c.add_pairs.ensures.pages c.in-Some.ensures.some)
+    omega (arith, fewer_ahead c.pages.from c.in-Some.low _ _ c.add_pairs.ensures.looks.pages c.in-Some.ensures.some)
 
 pub pages-preserved : goal.pages-preserved
 pages-preserved g c =
     let s = kept_by c.args.self.now (λ z. (goal.Segment-dyn g z).holding z.1) in
     let value = c.in_ok-add_pairs.ensures.value
-    ∙ ap (λ (f : Shown). with_some c.args.most c.pages.found.items (pairs_above c.pages.from (home c.pages.from f.leaves).pairs)) c.pages.invariant.pages in
-    let next = subst (λ (f : Shown). IsNextLow f.leaves c.pages.from c.in-Some.low) (c.add_pairs.ensures.pages ∙ c.pages.invariant.pages)
+    ∙ ap (λ (f : Shown). with_some c.args.most c.pages.found.items (pairs_above c.pages.from (home c.pages.from f.leaves).pairs)) c.pages.invariant.stays.pages in
+    let next = subst (λ (f : Shown). IsNextLow f.leaves c.pages.from c.in-Some.low) (c.add_pairs.ensures.looks.pages ∙ c.pages.invariant.stays.pages)
     c.in-Some.ensures.some in
     record {
-      sound = c.add_pairs.ensures.sound;
-      same = c.in_ok-add_pairs.ensures.leaves ∙ c.pages.invariant.same;
-      pages = c.add_pairs.ensures.pages ∙ c.pages.invariant.pages;
-      noted = c.add_pairs.ensures.noted ∙ c.pages.invariant.noted;
+      stays = stays_on _ _ _ _ _ _ c.pages.invariant.stays c.in_ok-add_pairs.ensures.looks;
       gone = subst (λ (ps : Pairs). HasGone (map_of s) c.args.key.now c.in-Some.low c.args.most ps) (sym value)
           (stretch_more s c.requires c.args.key.now c.pages.from c.args.most c.pages.found.items c.pages.invariant.gone c.in-Some.low
           (omega (arith, c.pages-test.true, c.len.ensures)) next);
@@ -49,14 +43,14 @@ pub returns-in-None-clause-value : goal.returns-in-None-clause-value
 returns-in-None-clause-value g c =
     let s = kept_by c.args.self.now (λ z. (goal.Segment-dyn g z).holding z.1) in
     let value = c.in_ok-add_pairs.ensures.value
-    ∙ ap (λ (f : Shown). with_some c.args.most c.pages.found.items (pairs_above c.pages.from (home c.pages.from f.leaves).pairs)) c.pages.invariant.pages in
-    let last = subst (λ (f : Shown). HasNoLowAbove f.leaves c.pages.from) (c.add_pairs.ensures.pages ∙ c.pages.invariant.pages) (c.in-None.ensures.none refl) in
+    ∙ ap (λ (f : Shown). with_some c.args.most c.pages.found.items (pairs_above c.pages.from (home c.pages.from f.leaves).pairs)) c.pages.invariant.stays.pages in
+    let last = subst (λ (f : Shown). HasNoLowAbove f.leaves c.pages.from) (c.add_pairs.ensures.looks.pages ∙ c.pages.invariant.stays.pages) (c.in-None.ensures.none refl) in
     subst (λ (ps : Pairs). IsStretch (map_of s) c.args.key.now c.args.most ps) (sym value)
     (stretch_last s c.requires c.args.key.now c.pages.from c.args.most c.pages.found.items c.pages.invariant.gone
     (omega (arith, c.pages-test.true, c.len.ensures)) last)
 
-pub returns-in-None-clause-follows : goal.returns-in-None-clause-follows
-returns-in-None-clause-follows g c = read_follows _ _ _ c.pages.invariant.same c.add_pairs.ensures.read
+pub returns-in-None-clause-reads : goal.returns-in-None-clause-reads
+returns-in-None-clause-reads g c = reads_behind _ _ _ _ _ _ c.pages.invariant.stays c.add_pairs.ensures.looks
 
 pub returns-clause-value : goal.returns-clause-value
 returns-clause-value g c =
@@ -64,5 +58,5 @@ returns-clause-value g c =
     stretch_full s c.requires c.args.key.now c.pages.from c.args.most c.pages.found.items c.pages.invariant.gone
     (omega (arith, c.pages-test.false, c.len.ensures))
 
-pub returns-clause-follows : goal.returns-clause-follows
-returns-clause-follows g c = (follows_as _ _ c.pages.invariant.same).follows
+pub returns-clause-reads : goal.returns-clause-reads
+returns-clause-reads g c = reads_no_more _ _ _ c.pages.invariant.stays

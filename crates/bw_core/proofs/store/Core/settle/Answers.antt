@@ -30,11 +30,11 @@ returns-in_err-take_known-clause-steps g c =
 
 pub returns-in_err-take_known-clause-sequel : goal.returns-in_err-take_known-clause-sequel
 returns-in_err-take_known-clause-sequel g c = rw (sym c.look_beside.ensures.same) (record {
-  each_cut = c.take_known.ensures.sound.stands;
+  each_cut = c.take_known.ensures.quiet.sound.stands;
   follows = refused_follows _ _ _ _ _ c.in_err-take_known.ensures.took;
   boxes = refused_boxes _ _ _ _ _ c.in_err-take_known.ensures.took;
-  noted = c.take_known.ensures.noted ∙ c.look_beside.ensures.noted;
-  may_leave = may_leave _ c.take_known.ensures.sound;
+  noted = c.take_known.ensures.quiet.noted ∙ c.look_beside.ensures.noted;
+  may_leave = may_leave _ c.take_known.ensures.quiet.sound;
 })
 
 pub returns-in_err-flush_making-clause-refused : goal.returns-in_err-flush_making-clause-refused
@@ -55,15 +55,15 @@ returns-in_err-flush_making-clause-steps g c =
     let p = err_from_is_err_and c.from_residual-in_err-flush_making.result c.from_residual-in_err-flush_making.ensures.1 in
     rw p.1 (subst (λ (s : Kept). TakesAndStops (machine_of s) (machine_of (kept_by c.flush_making.new.self (λ z. (goal.Segment-dyn g z).holding z.1)))) c.look_beside.ensures.same
     (settle_stops _ _ _ _ (subst IsSound (sym c.look_beside.ensures.same) c.requires.sound) c.in_ok-take_known.ensures.took
-    c.take_known.ensures.sound c.in_err-flush_making.ensures.answers c.in_err-flush_making.ensures.leaves))
+    c.take_known.ensures.quiet.sound c.in_err-flush_making.ensures.answers c.in_err-flush_making.ensures.leaves))
 
 pub returns-in_err-flush_making-clause-sequel : goal.returns-in_err-flush_making-clause-sequel
 returns-in_err-flush_making-clause-sequel g c = rw (sym c.look_beside.ensures.same) (record {
-  each_cut = c.flush_making.ensures.sound.stands;
+  each_cut = c.flush_making.ensures.keeps.sound.stands;
   follows = flushed_follows _ _ _ _ c.in_ok-take_known.ensures.took c.flush_making.ensures.leaves;
   boxes = flushed_boxes _ _ _ _ c.in_ok-take_known.ensures.took c.flush_making.ensures.leaves;
-  noted = c.flush_making.ensures.noted ∙ c.take_known.ensures.noted ∙ c.look_beside.ensures.noted;
-  may_leave = may_leave _ c.flush_making.ensures.sound;
+  noted = c.flush_making.ensures.keeps.noted ∙ c.take_known.ensures.quiet.noted ∙ c.look_beside.ensures.noted;
+  may_leave = may_leave _ c.flush_making.ensures.keeps.sound;
 })
 
 pub returns-clause-failed : goal.returns-clause-failed
@@ -75,31 +75,31 @@ pub returns-clause-steps : goal.returns-clause-steps
 returns-clause-steps g c =
     subst (λ (s : Kept). TakesAndKeeps (machine_of s) (machine_of (kept_by c.flush_making.new.self (λ z. (goal.Segment-dyn g z).holding z.1)))) c.look_beside.ensures.same
     (settle_keeps _ _ _ _ (subst IsSound (sym c.look_beside.ensures.same) c.requires.sound) c.in_ok-take_known.ensures.took
-    c.take_known.ensures.sound c.in_ok-flush_making.ensures.answers c.in_ok-flush_making.ensures.leaves)
+    c.take_known.ensures.quiet.sound c.in_ok-flush_making.ensures.answers c.in_ok-flush_making.ensures.leaves)
 
 pub returns-clause-sequel : goal.returns-clause-sequel
 returns-clause-sequel g c = rw (sym c.look_beside.ensures.same) (record {
-  each_cut = c.flush_making.ensures.sound.stands;
+  each_cut = c.flush_making.ensures.keeps.sound.stands;
   follows = flushed_follows _ _ _ _ c.in_ok-take_known.ensures.took c.flush_making.ensures.leaves;
   boxes = flushed_boxes _ _ _ _ c.in_ok-take_known.ensures.took c.flush_making.ensures.leaves;
-  noted = c.flush_making.ensures.noted ∙ c.take_known.ensures.noted ∙ c.look_beside.ensures.noted;
-  may_leave = may_leave _ c.flush_making.ensures.sound;
+  noted = c.flush_making.ensures.keeps.noted ∙ c.take_known.ensures.quiet.noted ∙ c.look_beside.ensures.noted;
+  may_leave = may_leave _ c.flush_making.ensures.keeps.sound;
 })
 
 pub returns-clause-goal : goal.returns-clause-goal
 returns-clause-goal g c =
-    let settled = settled_by false _ _ _ c.in_ok-flush_making.ensures.sound c.in_ok-flush_making.ensures.answers c.in_ok-flush_making.ensures.leaves in
+    let settled = settled_by false _ _ _ c.in_ok-flush_making.ensures.keeps.sound c.in_ok-flush_making.ensures.answers c.in_ok-flush_making.ensures.leaves in
     rw (sym c.look_beside.ensures.same) (record {
       exactly = exact c.flush_making.new.self.intake.lanes.items _ _ c.flush_making.new.self.intake.takes
-          (ap (λ i. map taken i.lanes.items) c.flush_making.ensures.intake ∙ c.in_ok-take_known.ensures.taken
+          (ap (λ i. map taken i.lanes.items) c.flush_making.ensures.keeps.intake ∙ c.in_ok-take_known.ensures.taken
           ∙ c.look_beside.ensures.whole ∙ sym c.look_beside.ensures.accepted);
       writers = writers_of c.flush_making.new.self.intake.lanes.items _ _
           (c.look_beside.ensures.ends ∙ c.requires.feeds
-          ∙ sym (ap (λ i. map ring_of_lane i.lanes.items) c.flush_making.ensures.intake
+          ∙ sym (ap (λ i. map ring_of_lane i.lanes.items) c.flush_making.ensures.keeps.intake
           ∙ c.in_ok-take_known.ensures.took.1.turned.follows.continues.rings
-          ∙ ap (λ (s : Kept). s.rings) c.look_beside.ensures.same)) c.flush_making.ensures.sound.writers;
+          ∙ ap (λ (s : Kept). s.rings) c.look_beside.ensures.same)) c.flush_making.ensures.keeps.sound.writers;
       last_cut = settled.cut;
-      shares = c.flush_making.ensures.sound.shares;
+      shares = c.flush_making.ensures.keeps.sound.shares;
       whole = settled.whole;
       stand = settled.stands;
       answer = c.len.ensures;

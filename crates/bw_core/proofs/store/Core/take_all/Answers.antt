@@ -23,11 +23,11 @@ returns-in_err-take_known-clause-steps g c =
 
 pub returns-in_err-take_known-clause-sequel : goal.returns-in_err-take_known-clause-sequel
 returns-in_err-take_known-clause-sequel g c = rw (sym c.look_beside.ensures.same) (record {
-  each_cut = c.take_known.ensures.sound.stands;
+  each_cut = c.take_known.ensures.quiet.sound.stands;
   follows = refused_follows _ _ _ _ _ c.in_err-take_known.ensures.took;
   boxes = refused_boxes _ _ _ _ _ c.in_err-take_known.ensures.took;
-  noted = c.take_known.ensures.noted ∙ c.look_beside.ensures.noted;
-  may_leave = may_leave _ c.take_known.ensures.sound;
+  noted = c.take_known.ensures.quiet.noted ∙ c.look_beside.ensures.noted;
+  may_leave = may_leave _ c.take_known.ensures.quiet.sound;
 })
 
 pub returns-clause-steps : goal.returns-clause-steps
@@ -37,11 +37,11 @@ returns-clause-steps g c =
 
 pub returns-clause-sequel : goal.returns-clause-sequel
 returns-clause-sequel g c = rw (sym c.look_beside.ensures.same) (record {
-  each_cut = c.take_known.ensures.sound.stands;
+  each_cut = c.take_known.ensures.quiet.sound.stands;
   follows = c.in_ok-take_known.ensures.took.1.turned.follows;
   boxes = c.in_ok-take_known.ensures.took.1.turned.boxes;
-  noted = c.take_known.ensures.noted ∙ c.look_beside.ensures.noted;
-  may_leave = may_leave _ c.take_known.ensures.sound;
+  noted = c.take_known.ensures.quiet.noted ∙ c.look_beside.ensures.noted;
+  may_leave = may_leave _ c.take_known.ensures.quiet.sound;
 })
 
 pub returns-clause-exactly : goal.returns-clause-exactly
@@ -54,7 +54,7 @@ returns-clause-writers g c =
     writers_of c.take_known.new.self.intake.lanes.items _ _
     (c.look_beside.ensures.ends ∙ c.requires.feeds
     ∙ sym (c.in_ok-take_known.ensures.took.1.turned.follows.continues.rings ∙ ap (λ (s : Kept). s.rings) c.look_beside.ensures.same))
-    c.take_known.ensures.sound.writers
+    c.take_known.ensures.quiet.sound.writers
 
 pub returns-clause-answer : goal.returns-clause-answer
 returns-clause-answer g c = c.len.ensures

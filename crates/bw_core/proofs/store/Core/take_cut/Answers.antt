@@ -35,7 +35,7 @@ returns-clause-leaves g c =
     (no_room c.args.self.now.making _ _ c.has_room.ensures c.if-has_room.false c.as_slice.ensures))
     c.in_ok-flush_making.ensures.answers c.in_ok-flush_making.ensures.leaves)
     (plan_fits _ c.args.item.now c.in_ok-plan-2.plan c.in_ok-plan-2.ensures.plan
-    (fits_empty _ _ c.flush_making.ensures.sound (flushed_empty _ _ _ c.in_ok-flush_making.ensures.leaves) c.in_ok-plan-2.ensures.short))
+    (fits_empty _ _ c.flush_making.ensures.keeps.sound (flushed_empty _ _ _ c.in_ok-flush_making.ensures.leaves) c.in_ok-plan-2.ensures.short))
     c.in_ok-plan-2.ensures.works
     (one_entered _ _ c.args.lane c.args.item.now c.in_ok-plan-2.plan _ c.in_ok-plan-2.ensures.plan c.enter-2.ensures.ok) c.enter-2.ensures.unchanged
     c.enter-2.ensures.refused
@@ -43,4 +43,4 @@ returns-clause-leaves g c =
 pub enter-requires-2-clause-fits : goal.enter-requires-2-clause-fits
 enter-requires-2-clause-fits g c =
     rw c.as_slice-2.ensures
-    (fits_empty _ _ c.flush_making.ensures.sound (flushed_empty _ _ _ c.in_ok-flush_making.ensures.leaves) c.in_ok-plan-2.ensures.short)
+    (fits_empty _ _ c.flush_making.ensures.keeps.sound (flushed_empty _ _ _ c.in_ok-flush_making.ensures.leaves) c.in_ok-plan-2.ensures.short)

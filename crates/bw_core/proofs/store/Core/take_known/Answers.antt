@@ -12,8 +12,8 @@ pub lanes-preserved : goal.lanes-preserved
 lanes-preserved g c =
     let i = c.lanes.invariant in
     record {
-      taken = took_on _ _ _ _ i.taken c.take_lane.ensures.sound c.take_lane.ensures.count c.in_ok-take_lane.ensures.given
-          (some_then _ _ _ i.taken.took c.in_ok-take_lane.ensures.took) c.take_lane.ensures.noted;
+      taken = took_on _ _ _ _ i.taken c.take_lane.ensures.quiet.sound c.take_lane.ensures.count c.in_ok-take_lane.ensures.given
+          (some_then _ _ _ i.taken.took c.in_ok-take_lane.ensures.took) c.take_lane.ensures.quiet.noted;
       dry = dry_next _ _ c.lanes.lane i.dry c.in_ok-take_lane.ensures.others c.in_ok-take_lane.ensures.dry;
     }
 

@@ -10,14 +10,14 @@ pub records-preserved : goal.records-preserved
 records-preserved g c =
     let i = c.records.invariant in
     record {
-      taken = took_on _ _ _ _ i.taken c.take_waiting.ensures.sound c.take_waiting.ensures.count c.in_ok-take_waiting.ensures.given
-          (any_then c.args.lane _ _ _ i.taken.took c.in_ok-take_waiting.ensures.leaves) c.take_waiting.ensures.noted;
-      others = λ j e. took_dry c.args.lane _ _ c.in_ok-take_waiting.ensures.known j (i.others j e);
+      taken = took_on _ _ _ _ i.taken c.take_waiting.ensures.takes.sound c.take_waiting.ensures.takes.count c.in_ok-take_waiting.ensures.takes.given
+          (any_then c.args.lane _ _ _ i.taken.took c.in_ok-take_waiting.ensures.leaves) c.take_waiting.ensures.takes.noted;
+      others = λ j e. took_dry c.args.lane _ _ c.in_ok-take_waiting.ensures.takes.known j (i.others j e);
     }
 
 pub records-smaller : goal.records-smaller
 records-smaller g c =
-    took_fewer c.args.lane _ _ c.in_ok-take_waiting.ensures.known (c.waits.ensures.0 c.records-test.true)
+    took_fewer c.args.lane _ _ c.in_ok-take_waiting.ensures.takes.known (c.waits.ensures.0 c.records-test.true)
 
 pub returns-clause-dry : goal.returns-clause-dry
 returns-clause-dry g c = none_waits _ c.waits.result c.waits.ensures.1 c.records-test.false

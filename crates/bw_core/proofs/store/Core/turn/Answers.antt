@@ -9,11 +9,11 @@ rounds-init g c = record { sound = c.requires.sound; turned = no_groups _ _ refl
 
 pub rounds-preserved : goal.rounds-preserved
 rounds-preserved g c = record {
-  sound = c.in_ok-more.ensures.sound;
+  sound = c.in_ok-more.ensures.quiet.sound;
   turned = c.in_ok-more.ensures.turned _ c.rounds.invariant.turned;
   within = c.in_ok-more.ensures.within.1;
   few = c.in_ok-more.ensures.few;
-  noted = c.in_ok-more.ensures.noted ∙ c.rounds.invariant.noted;
+  noted = c.in_ok-more.ensures.quiet.noted ∙ c.rounds.invariant.noted;
 }
 
 pub returns-then-more-taken-clause-turned : goal.returns-then-more-taken-clause-turned
@@ -63,7 +63,7 @@ pub returns-then-more-taken-clause-steps : goal.returns-then-more-taken-clause-s
 returns-then-more-taken-clause-steps g c = turn_takes _ _ _ c.requires.sound (c.in_ok-more.ensures.turned _ c.rounds.invariant.turned).0
 
 pub returns-then-more-taken-clause-may_leave : goal.returns-then-more-taken-clause-may_leave
-returns-then-more-taken-clause-may_leave g c = may_leave _ c.round_more.ensures.sound
+returns-then-more-taken-clause-may_leave g c = may_leave _ c.round_more.ensures.quiet.sound
 
 pub returns-clause-steps : goal.returns-clause-steps
 returns-clause-steps g c = turn_takes _ _ _ c.requires.sound c.rounds.invariant.turned.0
@@ -77,4 +77,4 @@ returns-in_err-more-clause-steps g c =
     rw p.1 (refused_stops _ _ _ _ _ _ c.requires.sound (c.in_err-more.ensures.turned _ c.rounds.invariant.turned).0)
 
 pub returns-in_err-more-clause-may_leave : goal.returns-in_err-more-clause-may_leave
-returns-in_err-more-clause-may_leave g c = may_leave _ c.round_more.ensures.sound
+returns-in_err-more-clause-may_leave g c = may_leave _ c.round_more.ensures.quiet.sound

@@ -22,10 +22,9 @@ returns-in-Ok g c =
     c.upgrade-result.ensures.sound c.in-Ok.ensures.upgraded c.upgrade-result.ensures.stands)
     (care.IsUpgraded (kept_by c.args.self.now (λ z. (goal.Segment-dyn g z).holding z.1)).log c.in-Ok.upgraded) c.in-Ok.ensures.upgraded in
     record {
-      sound = done.0;
+      quiet = record { sound = done.0; noted = c.note_moved.ensures.stays };
       leaves = done.1;
       none_left = ap (λ (k : kept.Kept). old_segments k.log) c.note_moved.ensures.noted.noted ∙ c.in-Ok.ensures.none_left;
-      noted = c.note_moved.ensures.stays;
     }
 
 pub returns-in-Err : goal.returns-in-Err
@@ -34,4 +33,4 @@ returns-in-Err g c =
     c.requires.some c.upgrade-result.ensures.sound c.in-Err.ensures.refused c.upgrade-result.ensures.stands in
     let stop = stopped_noted _ _ _ (begins c.requires.ready) _ c.next_frame-first.ensures _ _ c.note_moved.ensures.noted wrote
     (care.RefusesUpgrade c.in-Err.fault (kept_by c.args.self.now (λ z. (goal.Segment-dyn g z).holding z.1)).log) c.in-Err.ensures.refused in
-    record { sound = stop.0; leaves = (c.in-Err.fault, c.from.ensures, stop.1); none_left = tt; noted = c.note_moved.ensures.stays }
+    record { quiet = record { sound = stop.0; noted = c.note_moved.ensures.stays }; leaves = (c.in-Err.fault, c.from.ensures, stop.1); none_left = tt }

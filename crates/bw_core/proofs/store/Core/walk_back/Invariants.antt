@@ -1,18 +1,16 @@
-use Rattle.std.proofs.Common.{◌≡◌, ◌≤◌, length}
+use Rattle.std.proofs.Common.{◌≤◌, length}
 use Rattle.bw_page.specs.Leaves.{leaf_at}
 use Rattle.bw_walks.specs.Back.{HasComeBack, behind_leaf}
-use Rattle.bw_core.specs.Views.{kept_by, noted_of, IsSound}
+use Rattle.bw_core.specs.Views.{kept_by}
 use Rattle.bw_core.proofs.Walks.{map_of}
+use Rattle.bw_core.proofs.LookingMore.{Stays}
 use Rattle.bw_core.proofs.store.Core.walk_back.Given as goal
 
 abbrev pub invariant-pages : goal.invariant-pages
 invariant-pages g l = record {
-  sound : IsSound l.self (λ z. (goal.Segment-dyn g z).holding z.1);
-  same : kept_by l.self (λ z. (goal.Segment-dyn g z).holding z.1) ≡ kept_by l.initial.self (λ z. (goal.Segment-dyn g z).holding z.1);
-  pages : l.self.leaves ≡ l.initial.self.leaves;
+  stays : Stays l.initial.self l.self (λ z. (goal.Segment-dyn g z).holding z.1);
   inside : (1 ≤ l.page) × (l.page ≤ length l.self.leaves.leaves);
   come : HasComeBack (map_of (kept_by l.initial.self (λ z. (goal.Segment-dyn g z).holding z.1))) l.initial.self.leaves.leaves l.reach l.key l.page;
-  noted : noted_of l.self ≡ noted_of l.initial.self;
 }
 
 abbrev pub decreases-pages : goal.decreases-pages

@@ -5,8 +5,8 @@ use Rattle.bw_core.specs.Views as core
 use Rattle.bw_store.specs.Kept.{with_versions}
 use Rattle.bw_store.specs.Views.{kept_by}
 use Rattle.bw_store.proofs.Later.{beside_sound}
-use Rattle.bw_store.proofs.Machines.{keeps_hides, keeps_shows, left, refused_seen}
 use Rattle.bw_store.proofs.Showing.{beside_continues, hides_boxes, hides_continues, hides_floor, shows_continues, shows_floor, shows_roster}
+use Rattle.bw_store.proofs.Beside.{runs_hidden, runs_refused, runs_shown}
 use Rattle.bw_store.proofs.store.Store.clean.Goals as goal
 
 pub publish-requires : goal.publish-requires
@@ -70,7 +70,7 @@ returns-in_err-publish-clause-boxes g c =
 pub returns-in_err-publish-clause-counts : goal.returns-in_err-publish-clause-counts
 returns-in_err-publish-clause-counts g c =
     let p = err_from_is_err_and c.from_residual-in_err-publish.result c.from_residual-in_err-publish.ensures.1 in
-    rw (p.1, p.2, ap (λ (n : Noted). n.tally) c.publish.ensures.noted) (inr (refl, (_, (_, record { base = c.in_ok-cleaned.ensures.counts; quiet = refl }), c.in_err-publish.ensures.leaves)))
+    rw (p.1, p.2, ap (λ (n : Noted). n.tally) c.publish.ensures.quiet.noted) (inr (refl, (_, (_, record { base = c.in_ok-cleaned.ensures.counts; quiet = refl }), c.in_err-publish.ensures.leaves)))
 
 pub returns-clause-leaves : goal.returns-clause-leaves
 returns-clause-leaves g c = (_, record { base = c.in_ok-cleaned.ensures.leaves; quiet = refl }, c.in_ok-publish.ensures.leaves)
@@ -89,29 +89,25 @@ returns-clause-floor g c =
 
 pub returns-clause-counts : goal.returns-clause-counts
 returns-clause-counts g c =
-    rw (ap (λ (n : Noted). n.tally) c.publish.ensures.noted) (_, record { base = c.in_ok-cleaned.ensures.counts; quiet = refl }, c.in_ok-publish.ensures.leaves)
+    rw (ap (λ (n : Noted). n.tally) c.publish.ensures.quiet.noted) (_, record { base = c.in_ok-cleaned.ensures.counts; quiet = refl }, c.in_ok-publish.ensures.leaves)
 
-pub returns-in_err-cleaned-clause-steps : goal.returns-in_err-cleaned-clause-steps
-returns-in_err-cleaned-clause-steps g c =
+pub returns-in_err-cleaned-clause-runs : goal.returns-in_err-cleaned-clause-runs
+returns-in_err-cleaned-clause-runs g c =
     let p = err_from_is_err_and c.from_residual.result c.from_residual.ensures.1 in
-    rw p.1 (refused_seen (kept_by c.args.self.now (λ z. (goal.Segment-dyn g z).holding z.1)) (with_versions (core.kept_by c.clean.new.self (λ z. (goal.Segment-dyn g z).holding z.1)) c.args.self.now.versions) c.in_err-cleaned.ensures.steps refl)
+    let old = kept_by c.args.self.now (λ z. (goal.Segment-dyn g z).holding z.1) in
+    let middle = with_versions (core.kept_by c.clean.new.self (λ z. (goal.Segment-dyn g z).holding z.1)) c.args.self.now.versions in
+    rw p.1 (runs_refused old middle _ (beside_sound old middle c.requires.sound c.clean.ensures.sound c.clean.ensures.follows refl) c.in_err-cleaned.ensures.runs.steps refl)
 
-pub returns-in_err-cleaned-clause-may_leave : goal.returns-in_err-cleaned-clause-may_leave
-returns-in_err-cleaned-clause-may_leave g c = c.clean.ensures.may_leave
-
-pub returns-in_err-publish-clause-steps : goal.returns-in_err-publish-clause-steps
-returns-in_err-publish-clause-steps g c =
+pub returns-in_err-publish-clause-runs : goal.returns-in_err-publish-clause-runs
+returns-in_err-publish-clause-runs g c =
     let p = err_from_is_err_and c.from_residual-in_err-publish.result c.from_residual-in_err-publish.ensures.1 in
-    rw p.1 (inl (keeps_hides (kept_by c.args.self.now (λ z. (goal.Segment-dyn g z).holding z.1)) (with_versions (core.kept_by c.clean.new.self (λ z. (goal.Segment-dyn g z).holding z.1)) c.args.self.now.versions) _ c.in_ok-cleaned.ensures.steps refl c.in_err-publish.ensures.leaves))
+    let old = kept_by c.args.self.now (λ z. (goal.Segment-dyn g z).holding z.1) in
+    let middle = with_versions (core.kept_by c.clean.new.self (λ z. (goal.Segment-dyn g z).holding z.1)) c.args.self.now.versions in
+    rw p.1 (runs_hidden old middle _ _ c.publish.ensures.quiet.sound c.in_ok-cleaned.ensures.runs.steps refl c.in_err-publish.ensures.leaves)
 
-pub returns-in_err-publish-clause-may_leave : goal.returns-in_err-publish-clause-may_leave
-returns-in_err-publish-clause-may_leave g c = left _ c.publish.ensures.sound
-
-pub returns-clause-steps : goal.returns-clause-steps
-returns-clause-steps g c =
-    keeps_shows (kept_by c.args.self.now (λ z. (goal.Segment-dyn g z).holding z.1)) (with_versions (core.kept_by c.clean.new.self (λ z. (goal.Segment-dyn g z).holding z.1)) c.args.self.now.versions) _
-    (beside_sound (kept_by c.args.self.now (λ z. (goal.Segment-dyn g z).holding z.1)) (with_versions (core.kept_by c.clean.new.self (λ z. (goal.Segment-dyn g z).holding z.1)) c.args.self.now.versions) c.requires.sound c.clean.ensures.sound c.clean.ensures.follows refl)
-    c.in_ok-cleaned.ensures.steps refl c.in_ok-publish.ensures.leaves
-
-pub returns-clause-may_leave : goal.returns-clause-may_leave
-returns-clause-may_leave g c = left _ c.publish.ensures.sound
+pub returns-clause-runs : goal.returns-clause-runs
+returns-clause-runs g c =
+    let old = kept_by c.args.self.now (λ z. (goal.Segment-dyn g z).holding z.1) in
+    let middle = with_versions (core.kept_by c.clean.new.self (λ z. (goal.Segment-dyn g z).holding z.1)) c.args.self.now.versions in
+    runs_shown old middle _ _ (beside_sound old middle c.requires.sound c.clean.ensures.sound c.clean.ensures.follows refl) c.publish.ensures.quiet.sound
+    c.in_ok-cleaned.ensures.runs.steps refl c.in_ok-publish.ensures.leaves

@@ -1,22 +1,9 @@
 use Rattle.std.proofs.Common.{refl}
-use Rattle.bw_core.specs.Views as core
-use Rattle.bw_store.specs.Kept.{with_versions}
-use Rattle.bw_store.specs.Views.{kept_by}
-use Rattle.bw_store.proofs.Later.{beside_sound}
-use Rattle.bw_store.proofs.Showing.{beside_follows}
+use Rattle.bw_store.proofs.Beside.{reads_beside, walks_beside}
 use Rattle.bw_store.proofs.store.Store.count.Goals as goal
 
-pub returns-clause-sound : goal.returns-clause-sound
-returns-clause-sound g c =
-    beside_sound (kept_by c.args.self.now (λ z. (goal.Segment-dyn g z).holding z.1))
-    (with_versions (core.kept_by c.count.new.self (λ z. (goal.Segment-dyn g z).holding z.1)) c.args.self.now.versions)
-    c.requires c.count.ensures.sound c.count.ensures.follows.continues refl
+pub returns-clause-reads : goal.returns-clause-reads
+returns-clause-reads g c = reads_beside _ _ _ c.requires c.count.ensures.reads refl
 
-pub returns-clause-read : goal.returns-clause-read
-returns-clause-read g c = record { base = c.count.ensures.read; quiet = refl }
-
-pub returns-clause-leaves : goal.returns-clause-leaves
-returns-clause-leaves g c = record { base = c.count.ensures.leaves; quiet = refl }
-
-pub returns-clause-follows : goal.returns-clause-follows
-returns-clause-follows g c = beside_follows _ _ c.count.ensures.follows refl
+pub returns-clause-walks : goal.returns-clause-walks
+returns-clause-walks g c = walks_beside _ _ _ _ c.count.ensures.walks refl

@@ -4,30 +4,24 @@ use Rattle.bw_core.specs.Views as core
 use Rattle.bw_store.specs.Kept.{with_versions}
 use Rattle.bw_store.specs.Views.{kept_by}
 use Rattle.bw_store.proofs.Later.{beside_sound}
-use Rattle.bw_store.proofs.Machines.{keeps_hides, keeps_shows, left, refused_seen}
-use Rattle.bw_store.proofs.Showing.{beside_follows, flush_hides, flush_shows, hides_follows, may_want, shows_follows}
+use Rattle.bw_store.proofs.Showing.{flush_hides, flush_shows, may_want}
+use Rattle.bw_store.proofs.Beside.{goes_beside, goes_hidden, goes_shown, runs_hidden, runs_refused, runs_shown}
 use Rattle.bw_store.proofs.store.Store.flush.Goals as goal
 
 pub publish-requires : goal.publish-requires
 publish-requires g c = record {
   sound = beside_sound (kept_by c.args.self.now (λ z. (goal.Segment-dyn g z).holding z.1))
       (with_versions (core.kept_by c.flush.new.self (λ z. (goal.Segment-dyn g z).holding z.1)) c.args.self.now.versions)
-      c.requires.sound c.flush.ensures.sound c.flush.ensures.follows.continues refl;
+      c.requires.sound c.flush.ensures.goes.sound c.flush.ensures.goes.follows.continues refl;
 }
 
-pub returns-in_err-number-clause-sound : goal.returns-in_err-number-clause-sound
-returns-in_err-number-clause-sound g c =
-    beside_sound (kept_by c.args.self.now (λ z. (goal.Segment-dyn g z).holding z.1))
-    (with_versions (core.kept_by c.flush.new.self (λ z. (goal.Segment-dyn g z).holding z.1)) c.args.self.now.versions)
-    c.requires.sound c.flush.ensures.sound c.flush.ensures.follows.continues refl
+pub returns-in_err-number-clause-goes : goal.returns-in_err-number-clause-goes
+returns-in_err-number-clause-goes g c = goes_beside _ _ _ c.requires.sound c.flush.ensures.goes refl
 
 pub returns-in_err-number-clause-leaves : goal.returns-in_err-number-clause-leaves
 returns-in_err-number-clause-leaves g c =
     let p = err_from_is_err_and c.from_residual.result c.from_residual.ensures.1 in
     rw (p.1, p.2) (inl (record { base = c.in_err-number.ensures.leaves; quiet = refl }))
-
-pub returns-in_err-number-clause-follows : goal.returns-in_err-number-clause-follows
-returns-in_err-number-clause-follows g c = beside_follows _ _ c.flush.ensures.follows refl
 
 pub returns-in_err-publish-clause-answers : goal.returns-in_err-publish-clause-answers
 returns-in_err-publish-clause-answers g c =
@@ -39,36 +33,36 @@ returns-in_err-publish-clause-leaves g c =
     let p = err_from_is_err_and c.from_residual-in_err-publish.result c.from_residual-in_err-publish.ensures.1 in
     rw (p.1, p.2) (flush_hides _ _ _ _ c.in_ok-number.ensures.answers (record { base = c.in_ok-number.ensures.leaves; quiet = refl }) c.in_err-publish.ensures.leaves)
 
-pub returns-in_err-publish-clause-follows : goal.returns-in_err-publish-clause-follows
-returns-in_err-publish-clause-follows g c = hides_follows _ _ _ (beside_follows _ _ c.flush.ensures.follows refl) c.in_err-publish.ensures.leaves
+pub returns-in_err-publish-clause-goes : goal.returns-in_err-publish-clause-goes
+returns-in_err-publish-clause-goes g c =
+    goes_hidden _ _ _ _ (goes_beside c.args.self.now _ _ c.requires.sound c.flush.ensures.goes refl) c.publish.ensures.quiet
+    c.in_err-publish.ensures.leaves
 
 pub returns-clause-leaves : goal.returns-clause-leaves
 returns-clause-leaves g c = flush_shows _ _ _ _ (record { base = c.in_ok-number.ensures.leaves; quiet = refl }) c.in_ok-publish.ensures.leaves
 
-pub returns-clause-follows : goal.returns-clause-follows
-returns-clause-follows g c = shows_follows _ _ _ (beside_follows _ _ c.flush.ensures.follows refl) c.in_ok-publish.ensures.leaves
+pub returns-clause-goes : goal.returns-clause-goes
+returns-clause-goes g c =
+    goes_shown _ _ _ _ (goes_beside c.args.self.now _ _ c.requires.sound c.flush.ensures.goes refl) c.publish.ensures.quiet
+    c.in_ok-publish.ensures.leaves
 
-pub returns-in_err-number-clause-steps : goal.returns-in_err-number-clause-steps
-returns-in_err-number-clause-steps g c =
+pub returns-in_err-number-clause-runs : goal.returns-in_err-number-clause-runs
+returns-in_err-number-clause-runs g c =
     let p = err_from_is_err_and c.from_residual.result c.from_residual.ensures.1 in
-    rw p.1 (refused_seen (kept_by c.args.self.now (λ z. (goal.Segment-dyn g z).holding z.1)) (with_versions (core.kept_by c.flush.new.self (λ z. (goal.Segment-dyn g z).holding z.1)) c.args.self.now.versions) (inr c.in_err-number.ensures.steps) refl)
+    let old = kept_by c.args.self.now (λ z. (goal.Segment-dyn g z).holding z.1) in
+    let middle = with_versions (core.kept_by c.flush.new.self (λ z. (goal.Segment-dyn g z).holding z.1)) c.args.self.now.versions in
+    rw p.1 (runs_refused old middle _ (beside_sound old middle c.requires.sound c.flush.ensures.goes.sound c.flush.ensures.goes.follows.continues refl) (inr c.in_err-number.ensures.steps) refl)
 
-pub returns-in_err-number-clause-may_leave : goal.returns-in_err-number-clause-may_leave
-returns-in_err-number-clause-may_leave g c = c.flush.ensures.may_leave
-
-pub returns-in_err-publish-clause-steps : goal.returns-in_err-publish-clause-steps
-returns-in_err-publish-clause-steps g c =
+pub returns-in_err-publish-clause-runs : goal.returns-in_err-publish-clause-runs
+returns-in_err-publish-clause-runs g c =
     let p = err_from_is_err_and c.from_residual-in_err-publish.result c.from_residual-in_err-publish.ensures.1 in
-    rw p.1 (inl (keeps_hides (kept_by c.args.self.now (λ z. (goal.Segment-dyn g z).holding z.1)) (with_versions (core.kept_by c.flush.new.self (λ z. (goal.Segment-dyn g z).holding z.1)) c.args.self.now.versions) _ c.in_ok-number.ensures.steps refl c.in_err-publish.ensures.leaves))
+    let old = kept_by c.args.self.now (λ z. (goal.Segment-dyn g z).holding z.1) in
+    let middle = with_versions (core.kept_by c.flush.new.self (λ z. (goal.Segment-dyn g z).holding z.1)) c.args.self.now.versions in
+    rw p.1 (runs_hidden old middle _ _ c.publish.ensures.quiet.sound c.in_ok-number.ensures.steps refl c.in_err-publish.ensures.leaves)
 
-pub returns-in_err-publish-clause-may_leave : goal.returns-in_err-publish-clause-may_leave
-returns-in_err-publish-clause-may_leave g c = left _ c.publish.ensures.sound
-
-pub returns-clause-steps : goal.returns-clause-steps
-returns-clause-steps g c =
-    keeps_shows (kept_by c.args.self.now (λ z. (goal.Segment-dyn g z).holding z.1)) (with_versions (core.kept_by c.flush.new.self (λ z. (goal.Segment-dyn g z).holding z.1)) c.args.self.now.versions) _
-    (beside_sound (kept_by c.args.self.now (λ z. (goal.Segment-dyn g z).holding z.1)) (with_versions (core.kept_by c.flush.new.self (λ z. (goal.Segment-dyn g z).holding z.1)) c.args.self.now.versions) c.requires.sound c.flush.ensures.sound c.flush.ensures.follows.continues refl)
+pub returns-clause-runs : goal.returns-clause-runs
+returns-clause-runs g c =
+    let old = kept_by c.args.self.now (λ z. (goal.Segment-dyn g z).holding z.1) in
+    let middle = with_versions (core.kept_by c.flush.new.self (λ z. (goal.Segment-dyn g z).holding z.1)) c.args.self.now.versions in
+    runs_shown old middle _ _ (beside_sound old middle c.requires.sound c.flush.ensures.goes.sound c.flush.ensures.goes.follows.continues refl) c.publish.ensures.quiet.sound
     c.in_ok-number.ensures.steps refl c.in_ok-publish.ensures.leaves
-
-pub returns-clause-may_leave : goal.returns-clause-may_leave
-returns-clause-may_leave g c = left _ c.publish.ensures.sound

@@ -1,16 +1,6 @@
 use Rattle.std.proofs.Common.{refl}
-use Rattle.bw_core.specs.Views as core
-use Rattle.bw_store.specs.Kept.{with_versions}
-use Rattle.bw_store.specs.Views.{kept_by}
-use Rattle.bw_store.proofs.Later.{beside_sound}
-use Rattle.bw_store.proofs.Showing.{beside_follows}
+use Rattle.bw_store.proofs.Beside.{goes_beside}
 use Rattle.bw_store.proofs.store.Store.roll.Goals as goal
 
-pub returns-clause-sound : goal.returns-clause-sound
-returns-clause-sound g c =
-    beside_sound (kept_by c.args.self.now (λ z. (goal.Segment-dyn g z).holding z.1))
-    (with_versions (core.kept_by c.roll.new.self (λ z. (goal.Segment-dyn g z).holding z.1)) c.args.self.now.versions)
-    c.requires c.roll.ensures.sound c.roll.ensures.follows.continues refl
-
-pub returns-clause-follows : goal.returns-clause-follows
-returns-clause-follows g c = beside_follows _ _ c.roll.ensures.follows refl
+pub returns-clause-goes : goal.returns-clause-goes
+returns-clause-goes g c = goes_beside _ _ _ c.requires c.roll.ensures.goes refl

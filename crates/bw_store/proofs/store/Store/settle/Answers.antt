@@ -55,11 +55,11 @@ returns-in_err-publish-clause-steps g c =
 
 pub returns-in_err-publish-clause-sequel : goal.returns-in_err-publish-clause-sequel
 returns-in_err-publish-clause-sequel g c = record {
-  each_cut = c.publish.ensures.sound.base.stands;
+  each_cut = c.publish.ensures.quiet.sound.base.stands;
   follows = hides_follows _ _ _ (beside_follows _ _ c.settle.ensures.sequel.follows refl) c.in_err-publish.ensures.leaves;
   boxes = record { same = hides_roster _ _ c.in_err-publish.ensures.leaves ∙ c.settle.ensures.sequel.boxes.same };
-  noted = c.publish.ensures.noted ∙ c.settle.ensures.sequel.noted;
-  may_leave = machine.left _ c.publish.ensures.sound;
+  noted = c.publish.ensures.quiet.noted ∙ c.settle.ensures.sequel.noted;
+  may_leave = machine.left _ c.publish.ensures.quiet.sound;
 }
 
 pub returns-clause-steps : goal.returns-clause-steps
@@ -70,11 +70,11 @@ returns-clause-steps g c =
 
 pub returns-clause-sequel : goal.returns-clause-sequel
 returns-clause-sequel g c = record {
-  each_cut = c.publish.ensures.sound.base.stands;
+  each_cut = c.publish.ensures.quiet.sound.base.stands;
   follows = shows_follows _ _ _ (beside_follows _ _ c.settle.ensures.sequel.follows refl) c.in_ok-publish.ensures.leaves;
   boxes = record { same = shows_roster _ _ c.in_ok-publish.ensures.leaves ∙ c.settle.ensures.sequel.boxes.same };
-  noted = c.publish.ensures.noted ∙ c.settle.ensures.sequel.noted;
-  may_leave = machine.left _ c.publish.ensures.sound;
+  noted = c.publish.ensures.quiet.noted ∙ c.settle.ensures.sequel.noted;
+  may_leave = machine.left _ c.publish.ensures.quiet.sound;
 }
 
 pub returns-clause-goal : goal.returns-clause-goal

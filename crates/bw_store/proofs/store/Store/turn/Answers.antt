@@ -1,4 +1,4 @@
-use Rattle.std.proofs.Common.{refl}
+use Rattle.std.proofs.Common.{refl, rules}
 use Rattle.bw_core.specs.Following as follow
 use Rattle.bw_core.specs.Views as core
 use Rattle.bw_core.specs.declared.fault.TurnFault.{TurnFault}
@@ -9,11 +9,14 @@ use Rattle.bw_store.proofs.Later.{beside_sound}
 use Rattle.bw_store.proofs.Machines.{turn_steps}
 use Rattle.bw_store.proofs.store.Store.turn.Goals as goal
 
-pub returns-clause-sound : goal.returns-clause-sound
-returns-clause-sound g c =
-    beside_sound (kept_by c.args.self.now (λ z. (goal.Segment-dyn g z).holding z.1))
-    (with_versions (core.kept_by c.turn.new.self (λ z. (goal.Segment-dyn g z).holding z.1)) c.args.self.now.versions)
-    c.requires.sound c.turn.ensures.sound (turned_continues _ _ c.turn.result c.turn.ensures.turned) refl
+pub returns-clause-quiet : goal.returns-clause-quiet
+returns-clause-quiet g c = record {
+  sound = (
+      beside_sound (kept_by c.args.self.now (λ z. (goal.Segment-dyn g z).holding z.1))
+      (with_versions (core.kept_by c.turn.new.self (λ z. (goal.Segment-dyn g z).holding z.1)) c.args.self.now.versions)
+      c.requires.sound c.turn.ensures.quiet.sound (turned_continues _ _ c.turn.result c.turn.ensures.turned) refl);
+  noted = search rules;
+}
 
 pub returns-clause-turned : goal.returns-clause-turned
 returns-clause-turned g c = turned_beside _ _ refl c.turn.result c.turn.ensures.turned

@@ -1,0 +1,8 @@
+use Rattle.std.proofs.Common.{◌≡◌, ◌-◌}
+use Rattle.bw_codec.specs.Reading.{block_at}
+use Rattle.bw_codec.specs.Skipping.{many_after}
+use Rattle.bw_codec.specs.Checking.{past}
+use Rattle.bw_codec.proofs.check.check_blocks.Given as goal
+
+abbrev pub invariant-loop-i : goal.invariant-loop-i
+invariant-loop-i l = many_after (λ b. past (block_at l.version l.m b)) (l.count - l._i) l.rest ≡ many_after (λ b. past (block_at l.version l.m b)) l.count l.bytes
