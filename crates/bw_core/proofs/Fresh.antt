@@ -25,7 +25,8 @@ use Rattle.bw_page.specs.Shown.{Shown}
 use Rattle.bw_history.specs.declared.entry.Entry.{Entry}
 use Rattle.bw_core.specs.declared.config.Config.{Config}
 use Rattle.bw_making.specs.Begun.{first_place, first_frame, first_making}
-use Rattle.bw_core.specs.Opened.{one_empty, started, opened, AreTaken}
+use Rattle.bw_core.specs.Opened.{one_empty, opened, AreTaken}
+use Rattle.bw_core.specs.Reopened.{reopened}
 use Rattle.bw_core.specs.Kept.{Kept, IsSound}
 use Rattle.bw_core.proofs.Telling.{tells_none}
 
@@ -90,12 +91,13 @@ taken_at {X} config view shown items taken same = subst (λ (xs : List X). AreTa
 -- a store of the parts that `open` makes is an opened one
 pub started_sound : {k : Kept} (rings : List Ring) (entries : List Entry) (filed : Shown) (newest : List Place) (making : Filling) (log : logs.Contents)
     (m f : ℕ) (spares : List Holding)
-    → k ≡ started rings entries filed newest making log → entries ≡ [] → filed ≡ one_empty m
+    → k ≡ record (reopened rings 0 filed newest making log) { entries = entries } → entries ≡ [] → filed ≡ one_empty m
     → newest ≡ first_place ∷ [] → making ≡ first_making f → log ≡ fresh m f spares → logs.IsSound log → IsSound k
 started_sound rings entries filed newest making log m f spares is e1 e2 e3 e4 e5 sound =
-    let same : started rings entries filed newest making log ≡ opened rings m f spares =
-    ap (λ (x : List Entry). started rings x filed newest making log) e1 ∙ ap (λ (x : Shown). started rings [] x newest making log) e2
-    ∙ ap (λ (x : List Place). started rings [] (one_empty m) x making log) e3
-    ∙ ap (λ (x : Filling). started rings [] (one_empty m) (first_place ∷ []) x log) e4
-    ∙ ap (λ (x : logs.Contents). started rings [] (one_empty m) (first_place ∷ []) (first_making f) x) e5 in
+    let same : record (reopened rings 0 filed newest making log) { entries = entries } ≡ opened rings m f spares =
+    ap (λ (x : List Entry). record (reopened rings 0 filed newest making log) { entries = x }) e1
+    ∙ ap (λ (x : Shown). reopened rings 0 x newest making log) e2
+    ∙ ap (λ (x : List Place). reopened rings 0 (one_empty m) x making log) e3
+    ∙ ap (λ (x : Filling). reopened rings 0 (one_empty m) (first_place ∷ []) x log) e4
+    ∙ ap (λ (x : logs.Contents). reopened rings 0 (one_empty m) (first_place ∷ []) (first_making f) x) e5 in
     subst IsSound (sym (is ∙ same)) (opened_sound rings m f spares (subst logs.IsSound e5 sound))

@@ -21,7 +21,7 @@ module _ {I : Type 0} {H : I → Type 0} where
   pub record Stays (old new : Core I H) (v : (i : I) × H i → Holding) : Type 0 where
     pub sound : IsSound new v
     pub same : kept_by new v ≡ kept_by old v
-    pub pages : new.leaves ≡ old.leaves
+    pub pages : new.pages.leaves ≡ old.pages.leaves
     pub noted : noted_of new ≡ noted_of old
 
   pub stays_yet : (s : Core I H) (v : (i : I) × H i → Holding) → IsSound s v → Stays s s v

@@ -29,7 +29,7 @@ module _ {I : Type 0} {H : I → Type 0} where
   -- a page was looked at, and read where it is away: the pages are as they were
   pub record LooksAt {A : Type 0} (page : ℕ) (old : Core I H) (result : Result A StoreFault) (new : Core I H) (v : (i : I) × H i → Holding) : Type 0 where
     pub sound : IsSound new v
-    pub pages : new.leaves ≡ old.leaves
+    pub pages : new.pages.leaves ≡ old.pages.leaves
     pub read : HasRead (kept_by old v) (kept_by new v)
     pub leaves : ReadLeaves (HoldsPage (kept_by old v).log page) (kept_by old v) result (kept_by new v)
     pub noted : noted_of new ≡ noted_of old

@@ -17,9 +17,9 @@ use Rattle.bw_core.specs.declared.store.Core.{Core}
 pub record MayMove {I : Type 0} {H : I → Type 0} (s : Core I H) (v : (i : I) × H i → Holding) : Type 0 where
   pub sound : IsSound s v
   pub settled : IsSettled (kept_by s v)
-  pub empty : s.making.blocks ≡ []
+  pub empty : s.pages.making.blocks ≡ []
   pub works : (kept_by s v).log.is_failed ≡ false
-  pub room : vec_len s.cuts + length (kept_by s v).log.pages ≤ vec_capacity s.cuts
+  pub room : vec_len s.seals.cuts + length (kept_by s v).log.pages ≤ vec_capacity s.seals.cuts
 
 -- what noting asks of a store: the frames since `first` are the newest that its log counts
 pub record MayNote (s : Kept) (first : Option ℕ) (cuts capacity : ℕ) : Type 0 where

@@ -39,19 +39,19 @@ module _ {I : Type 0} {H : I → Type 0} where
 
   -- the record is directed at this page, which is in memory
   pub record IsAt (page : ℕ) (item : Record) (s : Core I H) : Type 0 where
-    pub here : IsHere (key_of item) s.leaves
-    pub directed : page ≡ directed_at s.leaves.leaves item
+    pub here : IsHere (key_of item) s.pages.leaves
+    pub directed : page ≡ directed_at s.pages.leaves.leaves item
 
   -- the frame in the making is open, and the next of the log
   pub record HasFrame (s : Core I H) (v : (i : I) × H i → Holding) : Type 0 where
-    pub unsealed : s.making.is_sealed ≡ false
-    pub next : (kept_by s v).log.next ≡ Some s.making.frame
+    pub unsealed : s.pages.making.is_sealed ≡ false
+    pub next : (kept_by s v).log.next ≡ Some s.pages.making.frame
 
   -- the group's entries are packed, and all its pages are in memory
   pub record IsPacked (lane : ℕ) (group : List Record) (packed : List Entry) (s : Core I H) : Type 0 where
     pub entries : packed ≡ entered lane (marked group)
     pub records : history.records packed ≡ group
-    pub here : AreHere s.leaves group
+    pub here : AreHere s.pages.leaves group
     pub lawful : AllByRecursion IsOp group
 
   -- a take of the next group, which there may not be: the store stays sound, its lanes stay as many,

@@ -18,16 +18,16 @@ module _ {I : Type 0} {H : I → Type 0} where
   abbrev pub kept_beside : Core I H → (DynBox I Global H → Holding) → Kept
   kept_beside s v = record {
     rings = map ring_of_lane s.intake.lanes.items;
-    start = s.start.value.leaves;
-    before = s.before;
-    floor = s.floor;
-    edge = s.edge;
+    start = s.origin.start.value.leaves;
+    before = s.origin.before;
+    floor = s.seals.floor;
+    edge = s.origin.edge;
     entries = s.intake.history.items;
-    cuts = s.cuts.items;
-    durable = s.durable;
-    filed = filed_of s.leaves;
-    newest = s.newest.items;
-    making = s.making;
+    cuts = s.seals.cuts.items;
+    durable = s.seals.durable;
+    filed = filed_of s.pages.leaves;
+    newest = s.pages.newest.items;
+    making = s.pages.making;
     log = seen_by v s.log;
   }
 
@@ -36,11 +36,11 @@ module _ {I : Type 0} {H : I → Type 0} where
 
   -- a page is not in memory; what a store keeps is the same, wherever its pages are
   abbrev pub is_evicted : ℕ → Core I H → Bool
-  is_evicted page s = is_evicted_page page s.leaves
+  is_evicted page s = is_evicted_page page s.pages.leaves
 
   -- which pages are away
   abbrev pub away_in : Core I H → ℕ → Bool
-  away_in s page = is_evicted_page page s.leaves
+  away_in s page = is_evicted_page page s.pages.leaves
 
   -- its ends of the rings, in the order of the writers
   abbrev pub lanes_of : Core I H → List Lane
@@ -52,11 +52,11 @@ module _ {I : Type 0} {H : I → Type 0} where
 
   -- what it notes beside what it keeps
   abbrev pub noted_of : Core I H → Noted
-  noted_of s = record { gone = s.intake.history.gone; tally = s.tally }
+  noted_of s = record { gone = s.intake.history.gone; tally = s.counts.tally }
 
   -- what it read so far
   abbrev pub looks_of : Core I H → Looks
-  looks_of s = s.looks
+  looks_of s = s.counts.looks
 
   -- what every store keeps between calls
   abbrev pub IsSoundBeside : Core I H → (DynBox I Global H → Holding) → Type 0

@@ -25,7 +25,7 @@ use bw_care::{Cleaned, bytes_upto, clean, live_bytes};
 impl Core {
     ghost use Rattle.bw_core.specs.Moving.{MayMove};
     ghost use Rattle.bw_core.specs.Going.{GoesOn, IsQuiet};
-    ghost use Rattle.bw_core.specs.Views.{forgotten_of, kept_by, IsSound};
+    ghost use Rattle.bw_core.specs.Views.{forgotten_of, kept_by, noted_of, IsSound};
 
     /// Gives up the oldest live segment: what waits is flushed, then each page that was last set in
     /// that segment is written again, and its box is dropped.
@@ -50,8 +50,8 @@ impl Core {
 
         // Nothing is forgotten, and what is counted is what the cleaner did.
         ensures gone { forgotten_of self.new ≡ forgotten_of self.old }
-        ensures counts { CountsClean (kept_by self.old holding) self.old.tally result
-            (kept_by self.new holding) self.new.tally }
+        ensures counts { CountsClean (kept_by self.old holding) (noted_of self.old).tally result
+            (kept_by self.new holding) (noted_of self.new).tally }
 
         ensures follows { Continues (kept_by self.old holding) (kept_by self.new holding) }
         ensures boxes { HasBoxesBut 1 (kept_by self.old holding) result (kept_by self.new holding) }
@@ -74,10 +74,10 @@ impl Core {
         ensures emptied { OnOk result
             (Emptied true (kept_by self.old holding) (kept_by self.new holding)) }
         ensures settled { OnOk result (IsSettled (kept_by self.new holding)) }
-        ensures empty { OnOk result (self.new.making.blocks ≡ []) }
+        ensures empty { OnOk result (self.new.pages.making.blocks ≡ []) }
         ensures works { OnOk result ((kept_by self.new holding).log.is_failed ≡ false) }
-        ensures room { OnOk result (vec_len self.new.cuts
-            + length (kept_by self.new holding).log.pages ≤ vec_capacity self.new.cuts) }
+        ensures room { OnOk result (vec_len self.new.seals.cuts
+            + length (kept_by self.new holding).log.pages ≤ vec_capacity self.new.seals.cuts) }
         ensures refused { IfErr result (λ fault. IsUnready (kept_by self.old holding) fault
             (kept_by self.new holding)) }
     {
@@ -93,18 +93,18 @@ impl Core {
         requires two { 2 ≤ length (kept_by self.old holding).log.live }
         ensures sound { IsSound self.new holding }
         ensures leaves { MoveLeaves (kept_by self.old holding) result (kept_by self.new holding) }
-        ensures counts { self.new.tally ≡ counted_gone 1 self.old.tally (kept_by self.old holding)
-            (is_ok result) (kept_by self.new holding) }
+        ensures counts { (noted_of self.new).tally ≡ counted_gone 1 (noted_of self.old).tally
+            (kept_by self.old holding) (is_ok result) (kept_by self.new holding) }
         ensures gone { forgotten_of self.new ≡ forgotten_of self.old }
     {
-        let durable = self.durable;
+        let durable = self.seals.durable;
         let before = live_bytes(&self.log);
         let oldest = bytes_upto(&self.log, 1);
         let moved = self.move_all();
         let after = live_bytes(&self.log);
-        let frames = self.durable.saturating_sub(durable);
-        let tally = self.tally;
-        self.tally = tally.with_moved(moved.is_ok(), frames, before, after, oldest, 1);
+        let frames = self.seals.durable.saturating_sub(durable);
+        let tally = self.counts.tally;
+        self.counts.tally = tally.with_moved(moved.is_ok(), frames, before, after, oldest, 1);
         moved
     }
 
@@ -115,13 +115,13 @@ impl Core {
         ensures quiet { IsQuiet self.old self.new holding }
         ensures leaves { MoveLeaves (kept_by self.old holding) result (kept_by self.new holding) }
     {
-        let alloc = *self.cuts.allocator();
+        let alloc = *self.seals.cuts.allocator();
         let first = self.log.next_frame();
         let result = clean(alloc, &mut self.log);
         self.note_moved(first);
         match result {
             Ok(cleaned) => {
-                self.floor = self.durable;
+                self.seals.floor = self.seals.durable;
                 Ok(cleaned)
             }
             Err(fault) => Err(StoreFault::from(fault)),

@@ -20,14 +20,14 @@ impl Core {
     // How many pairs a page has.
     fn pairs_on(&mut self, page: u32) -> Result<u64, StoreFault>
         requires sound { IsSound self.old holding }
-        requires inside { (1 ≤ page) × (page ≤ length self.old.leaves.leaves) }
+        requires inside { (1 ≤ page) × (page ≤ length self.old.pages.leaves.leaves) }
         ensures value { IfOk result (λ count. count
-            ≡ length (slice_index_or self.old.leaves.leaves (page - 1) empty_leaf).pairs) }
+            ≡ length (slice_index_or self.old.pages.leaves.leaves (page - 1) empty_leaf).pairs) }
         ensures looks { LooksAt page self.old result self.new holding }
         ensures memory { is_evicted page self.old ≡ false
             → IfErr result (λ fault. fault ≡ StoreFault.NoMemory) }
     {
-        if let Some(leaf) = self.leaves.page(page) {
+        if let Some(leaf) = self.pages.leaves.page(page) {
             return Ok(leaf.pairs.as_slice().len() as u64);
         }
         let leaf = self.read_evicted(page)?;
@@ -46,7 +46,7 @@ impl Core {
         ensures reads { OnlyReads self.old self.new holding }
         ensures walks { Walks self.old result self.new holding }
     {
-        let pages = self.leaves.count();
+        let pages = self.pages.leaves.count();
         let mut pairs = 0;
         'pages: for before in 0..pages {
             pairs += self.pairs_on(before + 1)?;

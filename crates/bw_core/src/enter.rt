@@ -38,10 +38,12 @@ impl Core {
         requires comes { Comes lane (item.now ∷ []) self.old holding }
         requires at { IsAt page item.now self.old }
         requires frame { HasFrame self.old holding }
-        requires back { slice_get self.old.newest.items (page - 1) ≡ Some back }
-        requires blocks { blocks.now ≡ blocks_for self.old.leaves.m self.old.leaves.leaves back
-            (here_for (frame_of self.old.making) page) item.now }
-        requires fits { size_of (with_all self.old.making blocks.now) ≤ self.old.making.limit }
+        requires back { slice_get self.old.pages.newest.items (page - 1) ≡ Some back }
+        requires blocks { blocks.now
+            ≡ blocks_for self.old.pages.leaves.m self.old.pages.leaves.leaves back
+            (here_for (frame_of self.old.pages.making) page) item.now }
+        requires fits { size_of (with_all self.old.pages.making blocks.now)
+            ≤ self.old.pages.making.limit }
         ensures takes { TakesGroup lane self.old result self.new holding }
         ensures ok { OnOk result (kept_by self.new holding
             ≡ taken (kept_by self.old holding) lane (alone item.now) back) }
@@ -50,12 +52,12 @@ impl Core {
             (IsWanting (kept_by self.old holding) (item.now ∷ [])) }
     {
         let _ = item.key(); // For the proof.
-        let _ = self.leaves.count(); // For the proof.
+        let _ = self.pages.leaves.count(); // For the proof.
         let entry = self.intake.packed_alone(lane, item, page)?;
         self.intake.reserve()?;
-        self.newest.reserve(1)?;
-        let _ = apply_entry(&mut self.leaves, page, item, &entry)?;
-        file(&mut self.making, &mut self.newest, page, blocks);
+        self.pages.newest.reserve(1)?;
+        let _ = apply_entry(&mut self.pages.leaves, page, item, &entry)?;
+        file(&mut self.pages.making, &mut self.pages.newest, page, blocks);
         self.intake.enter_alone(lane, item, entry);
         Ok(())
     }
@@ -73,10 +75,10 @@ impl Core {
         requires comes { Comes lane (item.now ∷ []) self.old holding }
         requires at { IsAt page item.now self.old }
         requires frame { HasFrame self.old holding }
-        requires found { IsFound self.old.leaves.leaves (key_of item.now) found }
-        requires whole { length (result_of self.old.leaves.leaves item.now).pairs
-            ≤ self.old.leaves.m }
-        requires fits { FitsDelta self.old.making page item.now }
+        requires found { IsFound self.old.pages.leaves.leaves (key_of item.now) found }
+        requires whole { length (result_of self.old.pages.leaves.leaves item.now).pairs
+            ≤ self.old.pages.leaves.m }
+        requires fits { FitsDelta self.old.pages.making page item.now }
         ensures takes { TakesGroup lane self.old result self.new holding }
         ensures ok { OnOk result (kept_by self.new holding
             ≡ taken (kept_by self.old holding) lane (alone item.now)
@@ -86,12 +88,18 @@ impl Core {
             (IsWanting (kept_by self.old holding) (item.now ∷ [])) }
     {
         let _ = item.key(); // For the proof.
-        let _ = self.leaves.count(); // For the proof.
-        let back = self.newest[page as usize - 1];
+        let _ = self.pages.leaves.count(); // For the proof.
+        let back = self.pages.newest[page as usize - 1];
         let entry = self.intake.packed_alone(lane, item, page)?;
         self.intake.reserve()?;
-        let _ = apply_found(&mut self.leaves, page, found, item, &entry)?;
-        file_delta(&mut self.making, &mut self.newest, page, back, entry.item());
+        let _ = apply_found(&mut self.pages.leaves, page, found, item, &entry)?;
+        file_delta(
+            &mut self.pages.making,
+            &mut self.pages.newest,
+            page,
+            back,
+            entry.item(),
+        );
         self.intake.enter_alone(lane, item, entry);
         Ok(())
     }

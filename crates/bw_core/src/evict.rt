@@ -40,7 +40,7 @@ impl Core {
             (result ≡ None)
             (λ _. result ≡ Some (walk_of page (counted (kept_by self.now holding).log))) }
     {
-        if page == 0 || page > self.leaves.count() {
+        if page == 0 || page > self.pages.leaves.count() {
             return None;
         }
         Some(self.log.walk_of(page))
@@ -68,48 +68,49 @@ impl Core {
             (λ left. noted_of self.new ≡ noted_left left (noted_of self.old))
             (λ _. noted_of self.new ≡ noted_of self.old) }
     {
-        if page == 0 || page > self.leaves.count() {
+        if page == 0 || page > self.pages.leaves.count() {
             return Err(StoreFault::NoPage);
         }
-        if !self.leaves.is_here(page) {
+        if !self.pages.leaves.is_here(page) {
             return Ok(false);
         }
         if self.is_made(page) {
             return Ok(false);
         }
-        self.leaves.evict_page(page);
-        self.tally = self.tally.with_eviction();
+        self.pages.leaves.evict_page(page);
+        self.counts.tally = self.counts.tally.with_eviction();
         Ok(true)
     }
 
     // Whether the frame in the making makes a page or cuts it.
     fn is_made(&self, page: u32) -> bool
         requires sound { IsSound self.now holding }
-        requires inside { (1 ≤ page) × (page ≤ length self.now.leaves.leaves) }
-        ensures { result ≡ is_made page self.now.making.blocks }
+        requires inside { (1 ≤ page) × (page ≤ length self.now.pages.leaves.leaves) }
+        ensures { result ≡ is_made page self.now.pages.making.blocks }
     {
-        self.is_making(page) && makes(&self.making, page)
+        self.is_making(page) && makes(&self.pages.making, page)
     }
 
     /// Whether the newest block of a page stands in the frame in the making. Where it does not,
     /// that frame has no block of the page, and need not be looked through.
     pub(crate) fn is_making(&self, page: u32) -> bool
         requires sound { IsSound self.now holding }
-        requires inside { (1 ≤ page) × (page ≤ length self.now.leaves.leaves) }
-        ensures { result ≡ false → list_any (touches page) self.now.making.blocks ≡ false }
+        requires inside { (1 ≤ page) × (page ≤ length self.now.pages.leaves.leaves) }
+        ensures { result ≡ false → list_any (touches page) self.now.pages.making.blocks ≡ false }
     {
-        let _ = self.newest.as_slice().len(); // For the proof.
-        self.newest[page as usize - 1].frame == self.making.frame()
+        let _ = self.pages.newest.as_slice().len(); // For the proof.
+        self.pages.newest[page as usize - 1].frame == self.pages.making.frame()
     }
 
     /// Brings back the page that a record of this key changes, if it is evicted, and tells which it
     /// is.
     pub(crate) fn fetch(&mut self, key: &Key) -> Result<u32, StoreFault>
         requires sound { IsSound self.old holding }
-        ensures page { IfOk result (λ page. page ≡ (home key.now self.new.leaves.leaves).page) }
-        ensures here { OnOk result (IsHere key.now self.new.leaves) }
-        ensures others { OnOk result ((other : List ℕ) → IsHere other self.old.leaves
-            → IsHere other self.new.leaves) }
+        ensures page { IfOk result (λ page.
+            page ≡ (home key.now self.new.pages.leaves.leaves).page) }
+        ensures here { OnOk result (IsHere key.now self.new.pages.leaves) }
+        ensures others { OnOk result ((other : List ℕ) → IsHere other self.old.pages.leaves
+            → IsHere other self.new.pages.leaves) }
         ensures keeps { KeepsIntake self.old self.new holding }
         ensures read { HasRead (kept_by self.old holding) (kept_by self.new holding) }
         ensures leaves { ReadLeaves (HoldsPage (kept_by self.old holding).log
@@ -118,12 +119,12 @@ impl Core {
         ensures away { OnErr result (away_in self.new
             (home key.now (kept_by self.old holding).filed.leaves).page ≡ true) }
     {
-        let page = self.leaves.find(key);
-        if self.leaves.is_here(page) {
+        let page = self.pages.leaves.find(key);
+        if self.pages.leaves.is_here(page) {
             return Ok(page);
         }
         let leaf = self.read_evicted(page)?;
-        self.leaves.bring_back(page, leaf);
+        self.pages.leaves.bring_back(page, leaf);
         Ok(page)
     }
 }

@@ -64,7 +64,7 @@ impl Core {
     pub(crate) fn flush_making(&mut self, takes_last: bool) -> Result<Option<u64>, StoreFault>
         requires sound { IsSound self.old holding }
         ensures keeps { KeepsIntake self.old self.new holding }
-        ensures pages { self.new.leaves ≡ self.old.leaves }
+        ensures pages { self.new.pages.leaves ≡ self.old.pages.leaves }
         ensures answers { FlushAnswers (refusal_by takes_last (kept_by self.old holding)) result }
         ensures leaves { FlushLeaves (kept_by self.old holding) result (kept_by self.new holding) }
     {
@@ -74,7 +74,7 @@ impl Core {
         let Some(next) = self.log.next_frame() else {
             return Err(StoreFault::Spent);
         };
-        if self.making.count() == 0 {
+        if self.pages.making.count() == 0 {
             return Ok(None);
         }
         self.prepare(takes_last)?;
@@ -85,47 +85,50 @@ impl Core {
     // All growths and checks of the append.
     fn prepare(&mut self, takes_last: bool) -> Result<(), StoreFault>
         requires sound { IsSound self.old holding }
-        requires some { 1 ≤ length self.old.making.blocks }
+        requires some { 1 ≤ length self.old.pages.making.blocks }
         ensures intake { self.new.intake ≡ self.old.intake }
-        ensures pages { self.new.leaves ≡ self.old.leaves }
+        ensures pages { self.new.pages.leaves ≡ self.old.pages.leaves }
         ensures same { kept_by self.new holding ≡ kept_by self.old holding }
         ensures ready { OnOk result (IsReady (λ b. holding (b.vtable, b.value)) self.new.log
-            (length (frame_bytes (frame_of self.new.making))) takes_last) }
-        ensures room { OnOk result (vec_len self.new.cuts < vec_capacity self.new.cuts) }
-        ensures fits { length (frame_bytes (frame_of self.new.making)) ≤ self.new.making.limit }
+            (length (frame_bytes (frame_of self.new.pages.making))) takes_last) }
+        ensures room { OnOk result
+            (vec_len self.new.seals.cuts < vec_capacity self.new.seals.cuts) }
+        ensures fits { length (frame_bytes (frame_of self.new.pages.making))
+            ≤ self.new.pages.making.limit }
         ensures refused { IfErr result (IsRefused
             (refusal (kept_by self.old holding).log
-            (length (frame_bytes (frame_of self.old.making))) takes_last)) }
+            (length (frame_bytes (frame_of self.old.pages.making))) takes_last)) }
         ensures noted { noted_of self.new ≡ noted_of self.old }
     {
-        let len = self.making.len();
+        let len = self.pages.making.len();
         self.log.ready(len, takes_last)?;
-        self.cuts.reserve(1)?;
+        self.seals.cuts.reserve(1)?;
         Ok(())
     }
 
     // What is left once nothing but the device can refuse.
     fn append_making(&mut self, takes_last: bool) -> Result<(), StoreFault>
         requires sound { IsSound self.old holding }
-        requires next { (kept_by self.old holding).log.next ≡ Some self.old.making.frame }
+        requires next { (kept_by self.old holding).log.next ≡ Some self.old.pages.making.frame }
         requires works { (kept_by self.old holding).log.is_failed ≡ false }
-        requires some { 1 ≤ length self.old.making.blocks }
-        requires fits { length (frame_bytes (frame_of self.old.making)) ≤ self.old.making.limit }
+        requires some { 1 ≤ length self.old.pages.making.blocks }
+        requires fits { length (frame_bytes (frame_of self.old.pages.making))
+            ≤ self.old.pages.making.limit }
         requires ready { IsReady (λ b. holding (b.vtable, b.value)) self.old.log
-            (length (frame_bytes (frame_of self.old.making))) takes_last }
-        requires room { vec_len self.old.cuts < vec_capacity self.old.cuts }
-        requires countable { self.old.durable < u64.MAX }
+            (length (frame_bytes (frame_of self.old.pages.making))) takes_last }
+        requires room { vec_len self.old.seals.cuts < vec_capacity self.old.seals.cuts }
+        requires countable { self.old.seals.durable < u64.MAX }
         ensures keeps { KeepsIntake self.old self.new holding }
-        ensures pages { self.new.leaves ≡ self.old.leaves }
+        ensures pages { self.new.pages.leaves ≡ self.old.pages.leaves }
         ensures leaves { AppendLeaves (kept_by self.old holding) result (kept_by self.new holding) }
     {
         let end = self.intake.len();
-        self.making.seal();
-        self.cuts.push_reserved(end);
-        match append_to(&mut self.log, &self.making, takes_last) {
+        self.pages.making.seal();
+        self.seals.cuts.push_reserved(end);
+        match append_to(&mut self.log, &self.pages.making, takes_last) {
             Ok(()) => {
-                self.durable += 1;
-                begin_next(&mut self.making);
+                self.seals.durable += 1;
+                begin_next(&mut self.pages.making);
                 Ok(())
             }
             Err(fault) => Err(StoreFault::from(fault)),

@@ -42,7 +42,7 @@ impl Core {
     pub(crate) fn fetch_all(&mut self, records: &[Record]) -> Result<(), StoreFault>
         requires sound { IsSound self.old holding }
         ensures keeps { KeepsIntake self.old self.new holding }
-        ensures here { OnOk result (AreHere self.new.leaves records.now) }
+        ensures here { OnOk result (AreHere self.new.pages.leaves records.now) }
         ensures lawful { OnOk result (AllByRecursion IsOp records.now) }
         ensures leaves { FetchLeaves (away_in self.new) records.now (kept_by self.old holding)
             result (kept_by self.new holding) }
@@ -50,7 +50,7 @@ impl Core {
         'records: for at in 0..records.len() {
             self.fetch_one(&records[at])?;
         }
-        let _ = self.leaves.count(); // For the proof.
+        let _ = self.pages.leaves.count(); // For the proof.
         Ok(())
     }
 
@@ -58,9 +58,9 @@ impl Core {
     fn fetch_one(&mut self, item: &Record) -> Result<(), StoreFault>
         requires sound { IsSound self.old holding }
         ensures keeps { KeepsIntake self.old self.new holding }
-        ensures here { OnOk result (IsHere (key_of item.now) self.new.leaves) }
-        ensures others { OnOk result ((key : List ℕ) → IsHere key self.old.leaves
-            → IsHere key self.new.leaves) }
+        ensures here { OnOk result (IsHere (key_of item.now) self.new.pages.leaves) }
+        ensures others { OnOk result ((key : List ℕ) → IsHere key self.old.pages.leaves
+            → IsHere key self.new.pages.leaves) }
         ensures lawful { IsOp item.now }
         ensures read { HasRead (kept_by self.old holding) (kept_by self.new holding) }
         ensures away { OnErr result (away_in self.new
@@ -83,16 +83,17 @@ impl Core {
         requires sound { IsSound self.old holding }
         requires inside { lane < length self.old.intake.lanes.items }
         requires entries { records_of entries.now ≡ records.now }
-        requires here { AreHere self.old.leaves records.now }
+        requires here { AreHere self.old.pages.leaves records.now }
         requires lawful { AllByRecursion IsOp records.now }
         ensures keeps { KeepsIntake self.old self.new holding }
         ensures same { kept_by self.new holding ≡ kept_by self.old holding }
-        ensures pages { self.new.leaves ≡ self.old.leaves }
+        ensures pages { self.new.pages.leaves ≡ self.old.pages.leaves }
         ensures works { OnOk result ((kept_by self.old holding).log.is_failed ≡ false) }
-        ensures unsealed { OnOk result (self.new.making.is_sealed ≡ false) }
+        ensures unsealed { OnOk result (self.new.pages.making.is_sealed ≡ false) }
         ensures next { OnOk result ((kept_by self.new holding).log.next
-            ≡ Some self.new.making.frame) }
-        ensures room { OnOk result (HasPages self.old.leaves.m self.old.leaves.leaves records.now) }
+            ≡ Some self.new.pages.making.frame) }
+        ensures room { OnOk result
+            (HasPages self.old.pages.leaves.m self.old.pages.leaves.leaves records.now) }
         ensures draft { IfOk result (λ o. MatchOption o
             (Fits (kept_by self.old holding) records.now → ⊥)
             (IsDraft (kept_by self.old holding) records.now)) }
@@ -100,7 +101,7 @@ impl Core {
             (IsUnplanned (kept_by self.old holding) records.now) }
     {
         self.goes_on()?;
-        let steps = steps_in(&mut self.leaves, records, entries)?;
+        let steps = steps_in(&mut self.pages.leaves, records, entries)?;
         Ok(self.lay(lane, records, steps.as_slice())?)
     }
 
@@ -113,16 +114,16 @@ impl Core {
     ) -> Result<Option<Draft>, AllocError>
         requires sound { IsSound self.now holding }
         requires inside { lane < length self.now.intake.lanes.items }
-        requires next { (kept_by self.now holding).log.next ≡ Some self.now.making.frame }
+        requires next { (kept_by self.now holding).log.next ≡ Some self.now.pages.making.frame }
         requires lawful { AllByRecursion IsOp records.now }
-        requires room { HasPages self.now.leaves.m self.now.leaves.leaves records.now }
-        requires steps { steps.now ≡ steps_of self.now.leaves records.now }
+        requires room { HasPages self.now.pages.leaves.m self.now.pages.leaves.leaves records.now }
+        requires steps { steps.now ≡ steps_of self.now.pages.leaves records.now }
         ensures { IfOk result (λ o. MatchOption o
             (Fits (kept_by self.now holding) records.now → ⊥)
             (IsDraft (kept_by self.now holding) records.now)) }
     {
-        let mut draft = Draft::new(*self.cuts.allocator(), &self.making);
-        let _ = self.making.room(); // For the proof.
+        let mut draft = Draft::new(*self.seals.cuts.allocator(), &self.pages.making);
+        let _ = self.pages.making.room(); // For the proof.
         'records: for at in 0..records.len() {
             if !self.lay_one(lane, &mut draft, records, steps, at)? {
                 return Ok(None);
@@ -142,8 +143,8 @@ impl Core {
     ) -> Result<bool, AllocError>
         requires inside { lane < length self.now.intake.lanes.items }
         requires lawful { AllByRecursion IsOp records.now }
-        requires room { HasPages self.now.leaves.m self.now.leaves.leaves records.now }
-        requires steps { steps.now ≡ steps_of self.now.leaves records.now }
+        requires room { HasPages self.now.pages.leaves.m self.now.pages.leaves.leaves records.now }
+        requires steps { steps.now ≡ steps_of self.now.pages.leaves records.now }
         requires at { at < length records.now }
         requires stands { Stands (kept_by self.now holding) lane (take at records.now) }
         requires ahead { IsAhead (kept_by self.now holding) (take at records.now) draft.old }
@@ -156,8 +157,14 @@ impl Core {
     {
         let step = &steps[at];
         let upper = copy_of(&step.upper)?;
-        draft.add(&self.making, &self.newest, &records[at], step.page, upper)?;
-        Ok(self.making.has_room(draft.blocks.as_slice()))
+        draft.add(
+            &self.pages.making,
+            &self.pages.newest,
+            &records[at],
+            step.page,
+            upper,
+        )?;
+        Ok(self.pages.making.has_room(draft.blocks.as_slice()))
     }
 
     /// Enters a group whose draft fits the frame in the making: all growths come first.
@@ -179,13 +186,13 @@ impl Core {
         ensures refused { IfErr result (IsWanting (kept_by self.old holding) group) }
     {
         let rows = draft.rows.as_slice();
-        let _ = self.leaves.count(); // For the proof.
+        let _ = self.pages.leaves.count(); // For the proof.
         self.intake.reserve()?;
-        self.newest.reserve(group.len())?;
-        apply_entries(&mut self.leaves, group.as_slice(), entries.as_slice())?;
+        self.pages.newest.reserve(group.len())?;
+        apply_entries(&mut self.pages.leaves, group.as_slice(), entries.as_slice())?;
         file_all(
-            &mut self.making,
-            &mut self.newest,
+            &mut self.pages.making,
+            &mut self.pages.newest,
             rows,
             draft.blocks.as_slice(),
         );

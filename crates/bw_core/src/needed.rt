@@ -73,7 +73,7 @@ impl Core {
             (kept_by self.now holding).filed.leaves }
     {
         let mut needed = 0;
-        'pages: for before in 0..self.leaves.count() {
+        'pages: for before in 0..self.pages.leaves.count() {
             needed += self.needed_on(before + 1, after, last);
         }
         needed
@@ -82,13 +82,13 @@ impl Core {
     // The same of one page.
     fn needed_on(&self, page: u32, after: u64, last: u64) -> u64
         requires sound { IsSound self.now holding }
-        requires inside { (1 ≤ page) × (page ≤ length self.now.leaves.leaves) }
-        ensures value { IfSome (leaf_at page self.now.leaves.leaves) (λ leaf. result
+        requires inside { (1 ≤ page) × (page ≤ length self.now.pages.leaves.leaves) }
+        ensures value { IfSome (leaf_at page self.now.pages.leaves.leaves) (λ leaf. result
             ≡ needed_by after last (counted (kept_by self.now holding).log) leaf) }
         ensures small { result < 2 ^ 32 }
     {
         if is_between(after, last, self.log.base_of(page)) {
-            self.leaves.base_length(page)
+            self.pages.leaves.base_length(page)
         } else {
             0
         }

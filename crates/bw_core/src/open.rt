@@ -7,15 +7,18 @@
 ghost use Rattle.std.specs.Prelude.{◌≡◌, ◌≤◌, ◌+◌, ◌↔◌, [], ◌∷◌, length, map, replicate, false, None, IsTrue, IfOk, IfErr, MatchResult};
 ghost use Rattle.bw_ring.specs.Ends.{ring_of_feed, ring_of_lane};
 ghost use Rattle.bw_making.specs.Begun.{first_place, first_making};
-ghost use Rattle.bw_core.specs.Opened.{opened, one_empty, started, AreFresh, AreTaken, IsConfig, IsOpenFault};
+ghost use Rattle.bw_core.specs.Opened.{opened, one_empty, AreFresh, AreTaken, IsConfig, IsOpenFault};
 ghost use Rattle.bw_core.specs.Counting.{noted_from};
+ghost use Rattle.bw_core.specs.Reopened.{reopened};
+ghost use Rattle.bw_care.specs.Tallies.{bytes_of, up};
+ghost use Rattle.bw_care.specs.Views.{seen, IsSound as IsSoundLog};
 
 use crate::config::Config;
 use crate::fault::{OpenFault, StoreFault};
-use crate::origin::{Edge, Origin};
-use crate::store::Core;
+use crate::origin::{Origin, edge_of};
+use crate::store::{Core, Counts, Pages, Seals};
 use bw_buffer::Buffer;
-use bw_care::{Looks, Tally};
+use bw_care::{Looks, Tally, live_bytes};
 use bw_codec::Place;
 use bw_device::{Segment, are_spares};
 use bw_history::Intake;
@@ -89,7 +92,6 @@ fn parts_of(alloc: Global, config: &Config) -> Result<(Leaves, Ends), StoreFault
 }
 
 impl Core {
-    ghost use Rattle.bw_log.specs.Views.{seen_by};
     ghost use Rattle.bw_core.specs.Views.{kept_by, kept_beside, noted_of, IsSoundBeside};
 
     /// A store of one empty page over empty segments, and a feed for each writer, which may go to
@@ -126,16 +128,8 @@ impl Core {
             Ok(parts) => parts,
             Err(cause) => return Err(OpenFault { segments, cause }),
         };
-        let origin = Origin {
-            before: 0,
-            edge: Edge {
-                segment: 0,
-                length: 0,
-            },
-            bytes: 0,
-        };
         match Log::new(alloc, segments, config.m, config.f) {
-            Ok(log) => Ok(Core::begun(alloc, ends, leaves, log, origin)),
+            Ok(log) => Ok(Core::begun(alloc, ends, leaves, log, 0)),
             Err((segments, fault)) => {
                 let cause = StoreFault::from(fault);
                 Err(OpenFault { segments, cause })
@@ -143,22 +137,24 @@ impl Core {
         }
     }
 
-    // A store of these ends over a log: its history begins here.
+    // A store of these ends over a log: its history begins here, behind the frame of this number.
     pub(crate) fn begun(
         alloc: Global,
         ends: Ends,
         leaves: Leaves,
         log: Log,
-        origin: Origin,
+        before: u64,
     ) -> (Core, Vec<Feed>)
+        requires sound { IsSoundLog log holding }
         requires here { leaves.evicted ≡ [] }
         requires gone { ends.intake.history.gone ≡ 0 }
         ensures store { kept_by result.0 holding
-            ≡ record (started (map ring_of_lane ends.intake.lanes.items) ends.intake.history.items
-            leaves ends.newest.items ends.making (seen_by (λ b. holding (b.vtable, b.value)) log))
-            { before = origin.before; edge = origin.edge } }
+            ≡ record (reopened (map ring_of_lane ends.intake.lanes.items) before leaves
+            ends.newest.items ends.making (seen log holding))
+            { entries = ends.intake.history.items } }
         ensures feeds { result.1 ≡ ends.feeds }
-        ensures noted { noted_of result.0 ≡ noted_from (length leaves.leaves) origin.bytes }
+        ensures noted { noted_of result.0 ≡ noted_from (length leaves.leaves)
+            (up 0 (bytes_of (seen log holding).live)) }
     {
         let Ends {
             feeds,
@@ -166,22 +162,30 @@ impl Core {
             newest,
             making,
         } = ends;
-        let tally = Tally::from(leaves.count(), origin.bytes);
-        let start = Snapshot::of(&leaves);
+        let origin = Origin {
+            start: Snapshot::of(&leaves),
+            before,
+            edge: edge_of(&log),
+        };
+        let counts = Counts {
+            tally: Tally::from(leaves.count(), live_bytes(&log)),
+            looks: Looks::new(),
+        };
         let store = Core {
             intake,
-            before: origin.before,
-            floor: 0,
-            edge: origin.edge,
-            cuts: Vec::new(alloc),
-            durable: 0,
-            leaves,
-            newest,
-            making,
+            origin,
+            seals: Seals {
+                cuts: Vec::new(alloc),
+                durable: 0,
+                floor: 0,
+            },
+            pages: Pages {
+                leaves,
+                newest,
+                making,
+            },
             log,
-            start,
-            tally,
-            looks: Looks::new(),
+            counts,
         };
         (store, feeds)
     }

@@ -5,6 +5,8 @@ ghost use Rattle.bw_care.specs.Views.{seen, IsSound};
 ghost use Rattle.bw_core.specs.Reopened.{edge_of as newest_edge};
 
 use bw_log::Log;
+use bw_page::Leaves;
+use std::snapshot::Snapshot;
 
 /// The newest segment at `reopen`, and its length in bytes then; nothing but zeros after `open`.
 ///
@@ -15,12 +17,15 @@ pub struct Edge {
     pub length: u64,
 }
 
-// Where a store begins: behind so many frames, with this edge and so many live bytes.
-#[derive(Clone, Copy)]
+/// Where a store begins.
+#[derive(Drop)]
 pub(crate) struct Origin {
+    /// The leaves at `open` or `reopen`, which the proof alone knows.
+    pub(crate) start: Snapshot<Leaves>,
+    /// The number of the frame before the first of this store.
     pub(crate) before: u64,
+    /// Where this store's bytes begin.
     pub(crate) edge: Edge,
-    pub(crate) bytes: u64,
 }
 
 // The newest segment, and its length.

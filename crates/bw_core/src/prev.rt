@@ -22,15 +22,15 @@ impl Core {
     /// What a walk back finds on a page, in memory or evicted.
     fn look_back(&mut self, page: u32, key: &Key, reach: Reach) -> Result<Look, StoreFault>
         requires sound { IsSound self.old holding }
-        requires inside { (1 ≤ page) × (page ≤ length self.old.leaves.leaves) }
+        requires inside { (1 ≤ page) × (page ≤ length self.old.pages.leaves.leaves) }
         ensures value { IfOk result (λ look.
-            TellsOfPage reach key.now page self.old.leaves.leaves look) }
+            TellsOfPage reach key.now page self.old.pages.leaves.leaves look) }
         ensures looks { LooksAt page self.old result self.new holding }
         ensures memory { is_evicted page self.old ≡ false
             → IfErr result (λ fault. fault ≡ StoreFault.NoMemory) }
     {
-        let _ = self.leaves.count(); // For the proof.
-        if let Some(leaf) = self.leaves.page(page) {
+        let _ = self.pages.leaves.count(); // For the proof.
+        if let Some(leaf) = self.pages.leaves.page(page) {
             return Ok(found_on(leaf, key, reach));
         }
         let leaf = self.read_evicted(page)?;
@@ -46,11 +46,11 @@ impl Core {
         ensures reads { OnlyReads self.old self.new holding }
         ensures walks { Walks self.old result self.new holding }
     {
-        let mut page = self.leaves.find(key);
+        let mut page = self.pages.leaves.find(key);
         'pages: loop {
             match self.look_back(page, key, reach)? {
                 Look::Found(pair) => return Ok(Some(pair)),
-                Look::Before(low) => page = page_before(&self.leaves, &low),
+                Look::Before(low) => page = page_before(&self.pages.leaves, &low),
                 Look::End => return Ok(None),
             }
         }

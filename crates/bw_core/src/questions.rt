@@ -54,14 +54,14 @@ impl Core {
         ensures value { result.now ≡ (kept_by self.now holding).cuts }
         ensures whole { are_whole result.now (kept_by self.now holding).entries ≡ true }
     {
-        self.cuts.as_slice()
+        self.seals.cuts.as_slice()
     }
 
     /// How many of these frames were appended.
     pub fn durable(&self) -> u64
         ensures { result ≡ (kept_by self.now holding).durable }
     {
-        self.durable
+        self.seals.durable
     }
 
     /// The number of the next frame; `None` after the greatest.
@@ -77,7 +77,7 @@ impl Core {
     pub fn pages(&self) -> u32
         ensures { result ≡ length (kept_by self.now holding).filed.leaves }
     {
-        self.leaves.count()
+        self.pages.leaves.count()
     }
 
     /// How many segments are live.

@@ -47,10 +47,10 @@ impl Core {
         ensures memory { is_evicted page self.old ≡ false → IfErr result (λ fault.
             (fault ≡ StoreFault.NoPage) ⊎ (fault ≡ StoreFault.NoMemory)) }
     {
-        if page == 0 || page > self.leaves.count() {
+        if page == 0 || page > self.pages.leaves.count() {
             return Err(StoreFault::NoPage);
         }
-        if let Some(leaf) = self.leaves.page(page) {
+        if let Some(leaf) = self.pages.leaves.page(page) {
             return Ok(leaf.copy()?);
         }
         self.read_evicted(page)
@@ -72,9 +72,9 @@ impl Core {
         ensures memory { is_evicted (home key.now (leaves_now (kept_by self.old holding))).page
             self.old ≡ false → IfErr result (λ fault. fault ≡ StoreFault.NoMemory) }
     {
-        let page = self.leaves.find(key);
-        if self.leaves.is_here(page) {
-            return Ok(self.leaves.get(key));
+        let page = self.pages.leaves.find(key);
+        if self.pages.leaves.is_here(page) {
+            return Ok(self.pages.leaves.get(key));
         }
         self.value_of_evicted(page, key)
     }
@@ -83,9 +83,9 @@ impl Core {
     /// has of it. It stays evicted.
     pub(crate) fn read_evicted(&mut self, page: u32) -> Result<Leaf, StoreFault>
         requires sound { IsSound self.old holding }
-        requires inside { (1 ≤ page) × (page ≤ length self.old.leaves.leaves) }
-        requires evicted { is_evicted_page page self.old.leaves ≡ true }
-        ensures leaf { IfOk result (λ leaf. leaf_at page self.old.leaves.leaves ≡ Some leaf) }
+        requires inside { (1 ≤ page) × (page ≤ length self.old.pages.leaves.leaves) }
+        requires evicted { is_evicted_page page self.old.pages.leaves ≡ true }
+        ensures leaf { IfOk result (λ leaf. leaf_at page self.old.pages.leaves.leaves ≡ Some leaf) }
         ensures looks { LooksAt page self.old result self.new holding }
         ensures intake { self.new.intake ≡ self.old.intake }
     {
@@ -94,7 +94,7 @@ impl Core {
             Ok(below) => below,
             Err(fault) => return Err(StoreFault::from(fault)),
         };
-        self.looks.read_one();
+        self.counts.looks.read_one();
         Ok(change_all(below, overlay.as_slice())?)
     }
 
@@ -106,10 +106,10 @@ impl Core {
         key: &Key,
     ) -> Result<Option<Value>, StoreFault>
         requires sound { IsSound self.old holding }
-        requires inside { (1 ≤ page) × (page ≤ length self.old.leaves.leaves) }
-        requires evicted { is_evicted_page page self.old.leaves ≡ true }
+        requires inside { (1 ≤ page) × (page ≤ length self.old.pages.leaves.leaves) }
+        requires evicted { is_evicted_page page self.old.pages.leaves ≡ true }
         ensures value { IfOk result (λ value. value
-            ≡ value_on key.now (leaf_at page self.old.leaves.leaves)) }
+            ≡ value_on key.now (leaf_at page self.old.pages.leaves.leaves)) }
         ensures looks { LooksAt page self.old result self.new holding }
     {
         let word = self.word(page, key)?;
@@ -120,7 +120,7 @@ impl Core {
         }
         match self.log.read_value(page, key) {
             Ok(value) => {
-                self.looks.read_one();
+                self.counts.looks.read_one();
                 Ok(value)
             }
             Err(fault) => Err(StoreFault::from(fault)),
@@ -130,9 +130,9 @@ impl Core {
     // What the newest record that the frame in the making has of a page says of a key.
     fn word(&self, page: u32, key: &Key) -> Result<Word, AllocError>
         requires sound { IsSound self.now holding }
-        requires inside { (1 ≤ page) × (page ≤ length self.now.leaves.leaves) }
+        requires inside { (1 ≤ page) × (page ≤ length self.now.pages.leaves.leaves) }
         ensures { IfOk result (λ word. word
-            ≡ records_word key.now (ops_at page self.now.making.blocks)) }
+            ≡ records_word key.now (ops_at page self.now.pages.making.blocks)) }
     {
         let overlay = self.overlay(page)?;
         Ok(word_in_records(overlay.as_slice(), key))
@@ -142,13 +142,14 @@ impl Core {
     // block of the page, it is not looked through, and no memory is taken.
     fn overlay(&self, page: u32) -> Result<Vec<Packed>, AllocError>
         requires sound { IsSound self.now holding }
-        requires inside { (1 ≤ page) × (page ≤ length self.now.leaves.leaves) }
-        ensures { IfOk result (λ records. records.items ≡ ops_at page self.now.making.blocks) }
+        requires inside { (1 ≤ page) × (page ≤ length self.now.pages.leaves.leaves) }
+        ensures { IfOk result (λ records.
+            records.items ≡ ops_at page self.now.pages.making.blocks) }
     {
-        let alloc = *self.newest.allocator();
+        let alloc = *self.pages.newest.allocator();
         if !self.is_making(page) {
             return Ok(Vec::new(alloc));
         }
-        overlay_of(alloc, &self.making, page)
+        overlay_of(alloc, &self.pages.making, page)
     }
 }

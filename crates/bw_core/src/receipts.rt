@@ -34,9 +34,9 @@ impl Core {
         ensures value { result ≡ (machine_of (kept_by self.now holding)).durable }
         ensures machine { IsMachine (machine_of (kept_by self.now holding)) }
     {
-        if self.durable == 0 {
+        if self.seals.durable == 0 {
             return 0;
         }
-        self.cuts[self.durable as usize - 1] as usize
+        self.seals.cuts[self.seals.durable as usize - 1] as usize
     }
 }

@@ -19,9 +19,8 @@ use crate::config::Config;
 use crate::fault::StoreFault;
 use crate::newest::{blank_places, renew};
 use crate::open::{Ends, intake_of};
-use crate::origin::{Origin, edge_of};
 use crate::store::Core;
-use bw_care::{Recovered, live_bytes};
+use bw_care::Recovered;
 use bw_log::Log;
 use bw_making::next_buffer;
 use bw_ring::Feed;
@@ -121,36 +120,13 @@ impl Core {
         }
         let pages = recovered.leaves.count() as usize;
         match ends_of(alloc, &config, &recovered.log, pages) {
-            Ok(ends) => Ok(Core::again(alloc, ends, recovered)),
+            Ok(ends) => {
+                let Recovered {
+                    log, leaves, last, ..
+                } = recovered;
+                Ok(Core::begun(alloc, ends, leaves, log, last))
+            }
             Err(cause) => Err(ReopenFault { recovered, cause }),
         }
-    }
-
-    // A store of these ends over what was recovered.
-    fn again(alloc: Global, ends: Ends, recovered: Recovered) -> (Core, Vec<Feed>)
-        requires sound { IsSoundLog recovered.log holding }
-        requires here { recovered.leaves.evicted ≡ [] }
-        requires gone { ends.intake.history.gone ≡ 0 }
-        ensures store { kept_by result.0 holding
-            ≡ record (reopened (map ring_of_lane ends.intake.lanes.items) recovered.last
-            recovered.leaves ends.newest.items ends.making (seen recovered.log holding))
-            { entries = ends.intake.history.items } }
-        ensures feeds { result.1 ≡ ends.feeds }
-        ensures noted { noted_of result.0 ≡ noted_from (length recovered.leaves.leaves)
-            (up 0 (bytes_of (seen recovered.log holding).live)) }
-    {
-        let Recovered {
-            log,
-            leaves,
-            last,
-            ..
-        } = recovered;
-        let edge = edge_of(&log);
-        let origin = Origin {
-            before: last,
-            edge,
-            bytes: live_bytes(&log),
-        };
-        Core::begun(alloc, ends, leaves, log, origin)
     }
 }

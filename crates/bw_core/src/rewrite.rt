@@ -48,7 +48,7 @@ impl Core {
         // As the machine: all that was taken is kept, and what a stop leaves is found.
         ensures runs { RunsAs (kept_by self.old holding) result (kept_by self.new holding) }
     {
-        if !are_pages(self.leaves.count(), pages) {
+        if !are_pages(self.pages.leaves.count(), pages) {
             return Err(StoreFault::NoPage);
         }
         self.flush_making(true)?;
@@ -60,15 +60,16 @@ impl Core {
     fn rewrite_pages(&mut self, pages: &[u32]) -> Result<u64, StoreFault>
         requires sound { IsSound self.old holding }
         requires settled { IsSettled (kept_by self.old holding) }
-        requires empty { self.old.making.blocks ≡ [] }
+        requires empty { self.old.pages.making.blocks ≡ [] }
         requires works { (kept_by self.old holding).log.is_failed ≡ false }
         requires pages { AllByRecursion (IsPage (kept_by self.old holding).log) pages.now }
-        requires room { vec_len self.old.cuts + length pages.now ≤ vec_capacity self.old.cuts }
+        requires room { vec_len self.old.seals.cuts + length pages.now
+            ≤ vec_capacity self.old.seals.cuts }
         ensures quiet { IsQuiet self.old self.new holding }
         ensures leaves { RewriteMoves (kept_by self.old holding) pages.now result
             (kept_by self.new holding) }
     {
-        let alloc = *self.cuts.allocator();
+        let alloc = *self.seals.cuts.allocator();
         let first = self.log.next_frame();
         let result = rewrite(alloc, &mut self.log, pages);
         self.note_moved(first);

@@ -22,14 +22,14 @@ impl Core {
     fn pair_from(&mut self, key: &Key) -> Result<Option<(Key, Value)>, StoreFault>
         requires { IsSound self.old holding }
         ensures value { IfOk result (λ pair. pair
-            ≡ pair_above key.now (home key.now self.old.leaves.leaves).pairs) }
-        ensures looks { LooksAt (home key.now self.old.leaves.leaves).page
+            ≡ pair_above key.now (home key.now self.old.pages.leaves.leaves).pairs) }
+        ensures looks { LooksAt (home key.now self.old.pages.leaves.leaves).page
             self.old result self.new holding }
-        ensures memory { is_evicted (home key.now self.old.leaves.leaves).page
+        ensures memory { is_evicted (home key.now self.old.pages.leaves.leaves).page
             self.old ≡ false → IfErr result (λ fault. fault ≡ StoreFault.NoMemory) }
     {
-        let page = self.leaves.find(key);
-        if let Some(leaf) = self.leaves.page(page) {
+        let page = self.pages.leaves.find(key);
+        if let Some(leaf) = self.pages.leaves.page(page) {
             return Ok(pair_from(leaf, key));
         }
         let leaf = self.read_evicted(page)?;
@@ -55,7 +55,7 @@ impl Core {
             if found.is_some() {
                 return Ok(found);
             }
-            match self.leaves.low_above(&from) {
+            match self.pages.leaves.low_above(&from) {
                 Some(low) => from = low,
                 None => return Ok(None),
             }
@@ -72,14 +72,14 @@ impl Core {
     ) -> Result<(), StoreFault>
         requires { IsSound self.old holding }
         ensures value { OnOk result (found.new.items ≡ with_some most found.old.items
-            (pairs_above key.now (home key.now self.old.leaves.leaves).pairs)) }
-        ensures looks { LooksAt (home key.now self.old.leaves.leaves).page
+            (pairs_above key.now (home key.now self.old.pages.leaves.leaves).pairs)) }
+        ensures looks { LooksAt (home key.now self.old.pages.leaves.leaves).page
             self.old result self.new holding }
-        ensures memory { is_evicted (home key.now self.old.leaves.leaves).page
+        ensures memory { is_evicted (home key.now self.old.pages.leaves.leaves).page
             self.old ≡ false → IfErr result (λ fault. fault ≡ StoreFault.NoMemory) }
     {
-        let page = self.leaves.find(key);
-        if let Some(leaf) = self.leaves.page(page) {
+        let page = self.pages.leaves.find(key);
+        if let Some(leaf) = self.pages.leaves.page(page) {
             add_pairs(leaf, key, most, found)?;
             return Ok(());
         }
@@ -111,7 +111,7 @@ impl Core {
         let mut from = key.copy();
         'pages: while found.len() < most {
             self.add_pairs(&from, most, found)?;
-            match self.leaves.low_above(&from) {
+            match self.pages.leaves.low_above(&from) {
                 Some(low) => from = low,
                 None => return Ok(()),
             }

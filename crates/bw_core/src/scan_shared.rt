@@ -27,14 +27,14 @@ impl Core {
     ) -> Result<(), StoreFault>
         requires { IsSound self.old holding }
         ensures value { OnOk result (found.new.items ≡ with_some most found.old.items
-            (pairs_above key.now (home key.now self.old.leaves.leaves).pairs)) }
-        ensures looks { LooksAt (home key.now self.old.leaves.leaves).page
+            (pairs_above key.now (home key.now self.old.pages.leaves.leaves).pairs)) }
+        ensures looks { LooksAt (home key.now self.old.pages.leaves.leaves).page
             self.old result self.new holding }
-        ensures memory { is_evicted (home key.now self.old.leaves.leaves).page
+        ensures memory { is_evicted (home key.now self.old.pages.leaves.leaves).page
             self.old ≡ false → IfErr result (λ fault. fault ≡ StoreFault.NoMemory) }
     {
-        let page = self.leaves.find(key);
-        if let Some(leaf) = self.leaves.page(page) {
+        let page = self.pages.leaves.find(key);
+        if let Some(leaf) = self.pages.leaves.page(page) {
             share_pairs(leaf, key, most, found)?;
             return Ok(());
         }
@@ -65,7 +65,7 @@ impl Core {
         let mut from = key.copy();
         'pages: while found.len() < most {
             self.share_page(&from, most, found)?;
-            match self.leaves.low_above(&from) {
+            match self.pages.leaves.low_above(&from) {
                 Some(low) => from = low,
                 None => return Ok(()),
             }

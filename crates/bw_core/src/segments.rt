@@ -115,18 +115,11 @@ impl Core {
     {
         let Core {
             intake: _intake,
-            before: _,
-            floor: _,
-            edge: _,
-            cuts: _cuts,
-            durable: _,
-            leaves: _leaves,
-            newest: _newest,
-            making: _making,
+            origin: _origin,
+            seals: _seals,
+            pages: _pages,
             log,
-            start: _start,
-            tally: _,
-            looks: _,
+            counts: _counts,
         } = self;
         let (live, spares) = log.into_segments();
         (live, spares)

@@ -10,45 +10,57 @@ ghost use Rattle.bw_page.specs.Shown.{is_evicted_page};
 ghost use Rattle.bw_history.specs.History.{are_whole, cut};
 ghost use Rattle.bw_making.specs.Overlay.{is_made};
 
-use crate::origin::Edge;
+use crate::origin::Origin;
 use bw_buffer::Buffer;
 use bw_care::{Looks, Tally};
 use bw_codec::Place;
 use bw_history::Intake;
 use bw_log::Log;
 use bw_page::Leaves;
-use std::snapshot::Snapshot;
+
+/// What was sealed, and what of it is durable.
+#[derive(Drop)]
+pub(crate) struct Seals {
+    /// The history's length at each seal.
+    pub(crate) cuts: Vec<u64>,
+    /// How many of the sealed frames were appended.
+    pub(crate) durable: u64,
+    /// How many cuts were durable when a segment was last given up.
+    pub(crate) floor: u64,
+}
+
+/// The pages, and the records that no frame of the log has yet.
+#[derive(Drop)]
+pub(crate) struct Pages {
+    pub(crate) leaves: Leaves,
+    /// The last block of each page, from page 1 on.
+    pub(crate) newest: Vec<Place>,
+    /// The frame in the making.
+    pub(crate) making: Buffer,
+    // A page that is evicted is in the log, but for records of the frame in the making.
+    ghost logged: { (p : ℕ) → is_evicted_page p leaves ≡ true → is_made p making.blocks ≡ false },
+}
+
+/// What is counted.
+#[derive(Drop)]
+pub(crate) struct Counts {
+    pub(crate) tally: Tally,
+    pub(crate) looks: Looks,
+}
 
 /// Pages that writers change and a log keeps, for one thread: nobody else reads them.
 #[derive(Drop)]
 pub struct Core {
     /// The lanes, and what was taken from them.
     pub(crate) intake: Intake,
-    /// The number of the frame before the first of this store.
-    pub(crate) before: u64,
-    /// How many cuts were durable when a segment was last given up.
-    pub(crate) floor: u64,
-    /// Where this store's bytes begin.
-    pub(crate) edge: Edge,
-    /// The history's length at each seal, and how many of the sealed frames were appended.
-    pub(crate) cuts: Vec<u64>,
-    pub(crate) durable: u64,
-    pub(crate) leaves: Leaves,
-    /// The last block of each page, from page 1 on.
-    pub(crate) newest: Vec<Place>,
-    /// The frame in the making.
-    pub(crate) making: Buffer,
+    pub(crate) origin: Origin,
+    pub(crate) seals: Seals,
+    pub(crate) pages: Pages,
     pub(crate) log: Log,
-    /// The leaves at `open` or `reopen`, which the proof alone knows.
-    pub(crate) start: Snapshot<Leaves>,
-    /// What is counted.
-    pub(crate) tally: Tally,
-    pub(crate) looks: Looks,
+    pub(crate) counts: Counts,
     // No cut stands inside a group.
-    ghost whole: { are_whole cuts.items intake.history.items ≡ true },
-    // A page that is evicted is in the log, but for records of the frame in the making.
-    ghost logged: { (p : ℕ) → is_evicted_page p leaves ≡ true → is_made p making.blocks ≡ false },
+    ghost whole: { are_whole seals.cuts.items intake.history.items ≡ true },
     // What was forgotten is durable.
-    ghost forgotten: { intake.history.gone ≤ cut cuts.items durable },
-    ghost began: { tally.pages ≡ length start.value.leaves },
+    ghost forgotten: { intake.history.gone ≤ cut seals.cuts.items seals.durable },
+    ghost began: { counts.tally.pages ≡ length origin.start.value.leaves },
 }

@@ -139,8 +139,8 @@ impl Core {
         ensures leaves { GroupLeaves lane (away_in self.new) (item.now ∷ [])
             (kept_by self.old holding) result (kept_by self.new holding) }
     {
-        let found = self.leaves.place_on(page, item.key().as_slice());
-        if self.leaves.is_cut_by(page, found, item) {
+        let found = self.pages.leaves.place_on(page, item.key().as_slice());
+        if self.pages.leaves.is_cut_by(page, found, item) {
             return self.take_cut(lane, item, page);
         }
         self.take_delta(lane, item, page, found)
@@ -158,16 +158,16 @@ impl Core {
     ) -> Result<(), StoreFault>
         requires comes { Comes lane (item.now ∷ []) self.old holding }
         requires at { IsAt page item.now self.old }
-        requires found { IsFound self.old.leaves.leaves (key_of item.now) found }
-        requires whole { length (result_of self.old.leaves.leaves item.now).pairs
-            ≤ self.old.leaves.m }
+        requires found { IsFound self.old.pages.leaves.leaves (key_of item.now) found }
+        requires whole { length (result_of self.old.pages.leaves.leaves item.now).pairs
+            ≤ self.old.pages.leaves.m }
         ensures takes { TakesGroup lane self.old result self.new holding }
         ensures leaves { GroupLeaves lane (away_in self.new) (item.now ∷ [])
             (kept_by self.old holding) result (kept_by self.new holding) }
     {
         let _ = item.key(); // For the proof.
         self.goes_on()?;
-        if self.making.has_room_for(page, item) {
+        if self.pages.making.has_room_for(page, item) {
             return self.enter_delta(lane, item, page, found);
         }
         self.flush_making(false)?;
@@ -184,7 +184,7 @@ impl Core {
             (kept_by self.old holding) result (kept_by self.new holding) }
     {
         let plan = self.plan(page, item)?;
-        if self.making.has_room(plan.blocks.as_slice()) {
+        if self.pages.making.has_room(plan.blocks.as_slice()) {
             return self.enter(lane, item, plan.page, plan.back, plan.blocks.as_slice());
         }
         self.flush_making(false)?;
@@ -220,7 +220,7 @@ impl Core {
         requires comes { Comes lane group self.old holding }
         requires packed { IsPacked lane group entries.items self.old }
         requires works { (kept_by self.old holding).log.is_failed ≡ false }
-        requires room { HasPages self.old.leaves.m self.old.leaves.leaves group }
+        requires room { HasPages self.old.pages.leaves.m self.old.pages.leaves.leaves group }
         requires full { Fits (kept_by self.old holding) group → ⊥ }
         ensures takes { TakesGroup lane self.old result self.new holding }
         ensures leaves { GroupLeaves lane (away_in self.new) group
@@ -278,10 +278,17 @@ impl Core {
     {
         self.goes_on()?;
         let _ = item.key(); // For the proof.
-        let _ = self.making.room(); // For the proof.
-        let here = place_for(&self.making, page);
-        let alloc = *self.cuts.allocator();
-        let plan = planned_for(alloc, &self.leaves, &self.newest, here, page, item)?;
+        let _ = self.pages.making.room(); // For the proof.
+        let here = place_for(&self.pages.making, page);
+        let alloc = *self.seals.cuts.allocator();
+        let plan = planned_for(
+            alloc,
+            &self.pages.leaves,
+            &self.pages.newest,
+            here,
+            page,
+            item,
+        )?;
         Ok(plan)
     }
 }

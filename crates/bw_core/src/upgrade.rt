@@ -19,7 +19,7 @@ use bw_care::{Upgraded, bytes_upto, live_bytes, old_segments, upgrade};
 impl Core {
     ghost use Rattle.bw_core.specs.Moving.{MayMove};
     ghost use Rattle.bw_core.specs.Going.{IsQuiet};
-    ghost use Rattle.bw_core.specs.Views.{forgotten_of, kept_by, IsSound};
+    ghost use Rattle.bw_core.specs.Views.{forgotten_of, kept_by, noted_of, IsSound};
 
     /// Gives up all live segments of format 1: what waits is flushed, then each page that was last
     /// set in one of them is written again in format 2, and their boxes are dropped, oldest first.
@@ -49,8 +49,8 @@ impl Core {
         ensures follows { Continues (kept_by self.old holding) (kept_by self.new holding) }
         // Nothing is forgotten, and what is counted is what the upgrade did.
         ensures gone { forgotten_of self.new ≡ forgotten_of self.old }
-        ensures counts { CountsUpgraded (kept_by self.old holding) self.old.tally result
-            (kept_by self.new holding) self.new.tally }
+        ensures counts { CountsUpgraded (kept_by self.old holding) (noted_of self.old).tally result
+            (kept_by self.new holding) (noted_of self.new).tally }
         ensures boxes { HasBoxesBut (old_segments (kept_by self.old holding).log)
             (kept_by self.old holding) result (kept_by self.new holding) }
 
@@ -78,21 +78,21 @@ impl Core {
         requires some { 1 ≤ old_segments (kept_by self.old holding).log }
         ensures sound { IsSound self.new holding }
         ensures leaves { UpgradeMoves (kept_by self.old holding) result (kept_by self.new holding) }
-        ensures counts { self.new.tally
-            ≡ counted_gone (old_segments (kept_by self.old holding).log) self.old.tally
+        ensures counts { (noted_of self.new).tally
+            ≡ counted_gone (old_segments (kept_by self.old holding).log) (noted_of self.old).tally
             (kept_by self.old holding) (is_ok result) (kept_by self.new holding) }
         ensures none_left { IfOk result (λ _. old_segments (kept_by self.new holding).log ≡ 0) }
         ensures gone { forgotten_of self.new ≡ forgotten_of self.old }
     {
-        let durable = self.durable;
+        let durable = self.seals.durable;
         let before = live_bytes(&self.log);
         let segments = self.old_segments();
         let oldest = bytes_upto(&self.log, segments);
         let moved = self.upgrade_pages();
         let after = live_bytes(&self.log);
-        let frames = self.durable.saturating_sub(durable);
-        let (tally, count) = (self.tally, u64::from(segments));
-        self.tally = tally.with_moved(moved.is_ok(), frames, before, after, oldest, count);
+        let frames = self.seals.durable.saturating_sub(durable);
+        let (tally, count) = (self.counts.tally, u64::from(segments));
+        self.counts.tally = tally.with_moved(moved.is_ok(), frames, before, after, oldest, count);
         moved
     }
 
@@ -104,13 +104,13 @@ impl Core {
         ensures leaves { UpgradeMoves (kept_by self.old holding) result (kept_by self.new holding) }
         ensures none_left { IfOk result (λ _. old_segments (kept_by self.new holding).log ≡ 0) }
     {
-        let alloc = *self.cuts.allocator();
+        let alloc = *self.seals.cuts.allocator();
         let first = self.log.next_frame();
         let result = upgrade(alloc, &mut self.log);
         self.note_moved(first);
         match result {
             Ok(upgraded) => {
-                self.floor = self.durable;
+                self.seals.floor = self.seals.durable;
                 Ok(upgraded)
             }
             Err(fault) => Err(StoreFault::from(fault)),

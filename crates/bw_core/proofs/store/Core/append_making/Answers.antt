@@ -13,30 +13,25 @@ use Rattle.bw_core.proofs.store.Core.append_making.Goals as goal
 pub append_to-requires-clause-follows : goal.append_to-requires-clause-follows
 append_to-requires-clause-follows g c = may_follow_at c.requires.sound c.requires.next c.requires.some c.requires.fits c.seal.new.self c.seal.ensures
 
-pub invariant_of-self : goal.invariant_of-self
-invariant_of-self g c = record {
-  whole = ap (λ (cs : List ℕ). are_whole cs c.args.self.now.intake.history.items) c.push_reserved.ensures.items
-      ∙ whole_cut c.args.self.now.cuts.items c.args.self.now.intake.history.items _ c.args.self.now.whole c.args.self.now.intake.grouped
-      c.len-end.ensures;
-  logged = λ p evicted. ap (λ (bs : List Block). is_made p bs) c.begin_next.ensures.empty;
-  forgotten = gone_flushed (kept_by c.args.self.now (λ z. (goal.Segment-dyn g z).holding z.1)) _ _ _ _ c.requires.sound
-      (all_appended (kept_by c.args.self.now (λ z. (goal.Segment-dyn g z).holding z.1)) c.requires.sound c.requires.works)
-      c.push_reserved.ensures.items c.len-end.ensures refl c.args.self.now.forgotten;
-  began = c.args.self.now.began;
-}
+pub invariant_of-self-in-Ok : goal.invariant_of-self-in-Ok
+invariant_of-self-in-Ok g c =
+    let was = c.args.self.now in
+    let s = kept_by was (λ z. (goal.Segment-dyn g z).holding z.1) in
+    let whole = ap (λ (cs : List ℕ). are_whole cs was.intake.history.items) c.push_reserved.ensures.items
+    ∙ whole_cut was.seals.cuts.items was.intake.history.items _ was.whole was.intake.grouped c.len-end.ensures in
+    let forgotten = gone_flushed s _ _ _ _ c.requires.sound (all_appended s c.requires.sound c.requires.works)
+    c.push_reserved.ensures.items c.len-end.ensures refl was.forgotten in
+    ((λ p evicted. ap (λ (bs : List Block). is_made p bs) c.begin_next.ensures.empty, tt), (whole, (forgotten, (was.began, tt))))
 
 pub invariant_of-self-in-Err-1 : goal.invariant_of-self-in-Err-1
 invariant_of-self-in-Err-1 g c =
-    let s = kept_by c.args.self.now (λ z. (goal.Segment-dyn g z).holding z.1) in
+    let was = c.args.self.now in
+    let s = kept_by was (λ z. (goal.Segment-dyn g z).holding z.1) in
     let all = all_appended s c.requires.sound c.requires.works in
-    record {
-      whole = ap (λ (cs : List ℕ). are_whole cs c.args.self.now.intake.history.items) c.push_reserved.ensures.items
-          ∙ whole_cut c.args.self.now.cuts.items c.args.self.now.intake.history.items _ c.args.self.now.whole c.args.self.now.intake.grouped
-          c.len-end.ensures;
-      logged = λ p evicted. ap (λ (b : Filling). is_made p b.blocks) c.seal.ensures ∙ c.args.self.now.logged p evicted;
-      forgotten = gone_stopped s _ _ _ (omega arith) c.push_reserved.ensures.items c.args.self.now.forgotten;
-      began = c.args.self.now.began;
-    }
+    let whole = ap (λ (cs : List ℕ). are_whole cs was.intake.history.items) c.push_reserved.ensures.items
+    ∙ whole_cut was.seals.cuts.items was.intake.history.items _ was.whole was.intake.grouped c.len-end.ensures in
+    let forgotten = gone_stopped s _ _ _ (omega arith) c.push_reserved.ensures.items was.forgotten in
+    record { whole = whole; forgotten = forgotten; began = was.began }
 
 pub returns-in-Ok-clause-keeps : goal.returns-in-Ok-clause-keeps
 returns-in-Ok-clause-keeps g c = record {

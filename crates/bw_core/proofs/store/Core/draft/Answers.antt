@@ -17,5 +17,5 @@ returns-in_err-steps-clause-refused g c =
     let s = kept_by c.args.self.now (λ z. (goal.Segment-dyn g z).holding z.1) in
     let p = err_from_is_err_and c.from_residual-in_err-steps.result c.from_residual-in_err-steps.ensures.1 in
     rw (p.1, p.2) (wanting_unplanned s c.args.records.now _ c.in_ok-goes_on.ensures.works
-    (wanting_of s c.args.self.now.leaves c.args.records.now c.in_err-steps.field-0.0 refl refl
+    (wanting_of s c.args.self.now.pages.leaves c.args.records.now c.in_err-steps.field-0.0 refl refl
     (λ e. c.in_err-steps.ensures.only_spent (ap (λ (x : ApplyError). Err x) e))))

@@ -27,23 +27,29 @@ apply_entry-requires-clause-here g c = c.requires.at.here
 pub apply_entry-requires-clause-page : goal.apply_entry-requires-clause-page
 apply_entry-requires-clause-page g c = c.requires.at.directed
 
-pub invariant_of-self-2 : goal.invariant_of-self-2
-invariant_of-self-2 g c =
+pub invariant_of-self-4 : goal.invariant_of-self-4
+invariant_of-self-4 g c =
     let was = c.args.self.now in
-    let f = was.leaves in
-    let here = here_for (frame_of was.making) c.args.page in
-    let made : c.file.new.making.blocks ≡ added was.making.blocks (blocks_for f.m f.leaves c.args.back here c.args.item.now) =
-    ap (λ (b : Filling). b.blocks) c.file.ensures.making ∙ ap (added was.making.blocks) c.requires.blocks in
-    record {
-      whole = whole_entered was.cuts.items was.intake.history.items c.enter_alone.new.self.history.items c.args.lane (c.args.item.now ∷ [])
-          c.requires.comes.sound.ordered was.whole
-          (c.enter_alone.ensures.grows ∙ ap (λ (es : List Entry). es ++ entries_of c.args.lane (marked (c.args.item.now ∷ []))) c.reserve.ensures.history);
-      logged = λ q evicted.
+    let f = was.pages.leaves in
+    let here = here_for (frame_of was.pages.making) c.args.page in
+    let made : c.file.new.making.blocks ≡ added was.pages.making.blocks (blocks_for f.m f.leaves c.args.back here c.args.item.now) =
+    ap (λ (b : Filling). b.blocks) c.file.ensures.making ∙ ap (added was.pages.making.blocks) c.requires.blocks in (
+      λ q evicted.
           ap (is_made q) made
-          ∙ evicted_entered f.m f.leaves c.args.back here c.args.item.now was.making.blocks f.evicted q
+          ∙ evicted_entered f.m f.leaves c.args.back here c.args.item.now was.pages.making.blocks f.evicted q
           (subst (λ (ps : List ℕ). is_among q ps ≡ true) c.apply_entry.ensures.evicted evicted) c.requires.at.here
           (c.count.ensures.beyond (length f.leaves + 1) (omega arith))
-          (was.logged q (subst (λ (ps : List ℕ). is_among q ps ≡ true) c.apply_entry.ensures.evicted evicted));
+          (was.pages.logged q (subst (λ (ps : List ℕ). is_among q ps ≡ true) c.apply_entry.ensures.evicted evicted)),
+      tt,
+    )
+
+pub invariant_of-self-5 : goal.invariant_of-self-5
+invariant_of-self-5 g c =
+    let was = c.args.self.now in
+    record {
+      whole = whole_entered was.seals.cuts.items was.intake.history.items c.enter_alone.new.self.history.items c.args.lane (c.args.item.now ∷ [])
+          c.requires.comes.sound.ordered was.whole
+          (c.enter_alone.ensures.grows ∙ ap (λ (es : List Entry). es ++ entries_of c.args.lane (marked (c.args.item.now ∷ []))) c.reserve.ensures.history);
       began = was.began;
       forgotten = (let entered = c.enter_alone.ensures.gone in let reserved = c.reserve.ensures.gone in let known = was.forgotten in omega arith);
     }
@@ -67,7 +73,7 @@ file-requires-clause-page g c =
 pub returns-clause-takes : goal.returns-clause-takes
 returns-clause-takes g c =
     let e = enters_at c.args.page c.requires.comes.sound c.requires.frame.next c.key.ensures.lawful c.requires.at.directed c.requires.back c.requires.blocks c.requires.fits in
-    let not : IsSpent c.args.self.now.leaves c.args.item.now → ⊥ = λ p. let x = c.in_ok-apply_entry.ensures.spent p in cc in
+    let not : IsSpent c.args.self.now.pages.leaves c.args.item.now → ⊥ = λ p. let x = c.in_ok-apply_entry.ensures.spent p in cc in
     record {
       sound =
           subst kept.IsSound
@@ -87,6 +93,6 @@ returns-clause-takes g c =
 pub returns-in_err-apply_entry-clause-refused : goal.returns-in_err-apply_entry-clause-refused
 returns-in_err-apply_entry-clause-refused g c =
     let p = err_from_is_err_and c.from_residual-in_err-apply_entry.result c.from_residual-in_err-apply_entry.ensures.1 in
-    rw (p.1, p.2) (one_wanting_of (kept_by c.args.self.now (λ z. (goal.Segment-dyn g z).holding z.1)) c.args.self.now.leaves c.args.item.now
+    rw (p.1, p.2) (one_wanting_of (kept_by c.args.self.now (λ z. (goal.Segment-dyn g z).holding z.1)) c.args.self.now.pages.leaves c.args.item.now
     c.in_err-apply_entry.field-0.0 refl refl
     (λ e. c.in_err-apply_entry.ensures.only_spent (ap (λ (x : ApplyError). Err x) e)))

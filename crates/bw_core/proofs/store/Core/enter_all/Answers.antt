@@ -21,7 +21,7 @@ pub returns-in_err-apply_entries-clause-refused : goal.returns-in_err-apply_entr
 returns-in_err-apply_entries-clause-refused g c =
     let s = kept_by c.args.self.now (λ z. (goal.Segment-dyn g z).holding z.1) in
     let p = err_from_is_err_and c.from_residual-in_err-apply_entries.result c.from_residual-in_err-apply_entries.ensures.1 in
-    rw (p.1, p.2) (wanting_of s c.args.self.now.leaves c.args.group c.in_err-apply_entries.field-0.0 refl refl
+    rw (p.1, p.2) (wanting_of s c.args.self.now.pages.leaves c.args.group c.in_err-apply_entries.field-0.0 refl refl
     (λ e. rw (sym c.as_slice.ensures.value) (c.in_err-apply_entries.ensures.only_spent (ap (λ (x : ApplyError). Err x) e))))
 
 pub file_all-requires-clause-some : goal.file_all-requires-clause-some
@@ -43,20 +43,27 @@ file_all-requires-clause-room g c =
     let room = c.in_ok-reserve-2.ensures.ok in
     omega arith
 
-pub invariant_of-self-2 : goal.invariant_of-self-2
-invariant_of-self-2 g c =
+pub invariant_of-self-4 : goal.invariant_of-self-4
+invariant_of-self-4 g c =
     let was = c.args.self.now in
     let s = kept_by was (λ z. (goal.Segment-dyn g z).holding z.1) in
     let after = c.in_ok-apply_entries.ensures.ok in
-    let evicted = ap (λ (x : Shown). x.evicted) after in
-    record {
-      whole = whole_entered was.cuts.items was.intake.history.items c.enter.new.self.history.items c.args.lane c.args.group c.requires.comes.sound.ordered was.whole
-          (c.enter.ensures.grows ∙ ap (λ (es : List Entry). es ++ entered c.args.lane (marked c.args.group)) c.reserve.ensures.history);
-      logged = λ q there.
-          evicted_now s c.args.group c.args.draft.now c.requires.comes.sound c.requires.packed.lawful c.requires.draft was.leaves.evicted q _ _ c.requires.packed.here
+    let evicted = ap (λ (x : Shown). x.evicted) after in (
+      λ q there.
+          evicted_now s c.args.group c.args.draft.now c.requires.comes.sound c.requires.packed.lawful c.requires.draft was.pages.leaves.evicted q _ _ c.requires.packed.here
           c.count.ensures.beyond
-          (subst (λ (ps : List ℕ). is_among q ps ≡ true) evicted there) (was.logged q (subst (λ (ps : List ℕ). is_among q ps ≡ true) evicted there))
-          c.file_all.ensures.making c.as_slice-3.ensures.value;
+          (subst (λ (ps : List ℕ). is_among q ps ≡ true) evicted there) (was.pages.logged q (subst (λ (ps : List ℕ). is_among q ps ≡ true) evicted there))
+          c.file_all.ensures.making c.as_slice-3.ensures.value,
+      tt,
+    )
+
+pub invariant_of-self-5 : goal.invariant_of-self-5
+invariant_of-self-5 g c =
+    let was = c.args.self.now in
+    record {
+      whole = whole_entered was.seals.cuts.items was.intake.history.items c.enter.new.self.history.items c.args.lane c.args.group c.requires.comes.sound.ordered
+          was.whole
+          (c.enter.ensures.grows ∙ ap (λ (es : List Entry). es ++ entered c.args.lane (marked c.args.group)) c.reserve.ensures.history);
       began = was.began;
       forgotten = (let entered = c.enter.ensures.gone in let reserved = c.reserve.ensures.gone in let known = was.forgotten in omega arith);
     }
@@ -65,14 +72,14 @@ pub returns-clause-takes : goal.returns-clause-takes
 returns-clause-takes g c =
     let was = c.args.self.now in
     let s = kept_by was (λ z. (goal.Segment-dyn g z).holding z.1) in
-    let leaves = ap (pages was.leaves.m was.leaves.leaves) c.as_slice.ensures.value in
+    let leaves = ap (pages was.pages.leaves.m was.pages.leaves.leaves) c.as_slice.ensures.value in
     record {
       sound =
           subst kept.IsSound
           (sym (entered_all s c.args.group c.args.draft.now c.requires.comes.sound c.requires.packed.lawful c.requires.draft c.args.lane _ _ c.enter.new.self.history.items _
           (filed_of c.apply_entries.new.leaves) _ _ _ _ _
           c.enter.ensures.rings (ap (λ v. map ring_of_lane v.items) c.reserve.ensures.lanes) c.enter.ensures.grows c.reserve.ensures.history
-          (ap filed_of c.in_ok-apply_entries.ensures.ok ∙ ap (λ (ls : List Leaf). filed_with was.leaves.m ls) leaves)
+          (ap filed_of c.in_ok-apply_entries.ensures.ok ∙ ap (λ (ls : List Leaf). filed_with was.pages.leaves.m ls) leaves)
           c.file_all.ensures.newest c.reserve-2.ensures.items c.as_slice-rows.ensures.value c.file_all.ensures.making c.as_slice-3.ensures.value))
           (all_sound s c.args.group c.args.draft.now c.requires.comes.sound c.requires.packed.lawful c.requires.draft c.args.lane c.requires.frame.next
           (lane_inside _ _ c.requires.comes.inside));
@@ -87,9 +94,9 @@ pub returns-clause-ok : goal.returns-clause-ok
 returns-clause-ok g c =
     let was = c.args.self.now in
     let s = kept_by was (λ z. (goal.Segment-dyn g z).holding z.1) in
-    let leaves = ap (pages was.leaves.m was.leaves.leaves) c.as_slice.ensures.value in
+    let leaves = ap (pages was.pages.leaves.m was.pages.leaves.leaves) c.as_slice.ensures.value in
     entered_all s c.args.group c.args.draft.now c.requires.comes.sound c.requires.packed.lawful c.requires.draft c.args.lane _ _ c.enter.new.self.history.items _
     (filed_of c.apply_entries.new.leaves) _ _ _ _ _
     c.enter.ensures.rings (ap (λ v. map ring_of_lane v.items) c.reserve.ensures.lanes) c.enter.ensures.grows c.reserve.ensures.history
-    (ap filed_of c.in_ok-apply_entries.ensures.ok ∙ ap (λ (ls : List Leaf). filed_with was.leaves.m ls) leaves)
+    (ap filed_of c.in_ok-apply_entries.ensures.ok ∙ ap (λ (ls : List Leaf). filed_with was.pages.leaves.m ls) leaves)
     c.file_all.ensures.newest c.reserve-2.ensures.items c.as_slice-rows.ensures.value c.file_all.ensures.making c.as_slice-3.ensures.value

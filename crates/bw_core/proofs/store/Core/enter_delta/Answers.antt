@@ -38,7 +38,7 @@ file_delta-requires-clause-lawful g c =
     let w = page_within (kept_by c.args.self.now (λ z. (goal.Segment-dyn g z).holding z.1)) c.requires.comes.sound c.args.item.now c.args.page c.requires.at.directed in
     let count = c.requires.comes.sound.grown.count in
     let back = c.index-back.result.now in
-    let last = got c.args.self.now.newest.items (c.args.page - 1) back (omega arith) c.index-back.ensures in
+    let last = got c.args.self.now.pages.newest.items (c.args.page - 1) back (omega arith) c.index-back.ensures in
     let e = enters_whole c.args.page c.requires.comes.sound c.requires.frame.next c.key.ensures.lawful c.requires.at.directed last c.requires.whole c.requires.fits in
     let same = c.item.ensures ∙ ap (λ (e : Entry). e.item) c.in_ok-entry.ensures in
     subst (λ (r : Record). IsBlock 32 (Delta c.args.page back (r ∷ []))) (sym same)
@@ -50,27 +50,33 @@ file_delta-requires-clause-page g c =
     let count = c.requires.comes.sound.grown.count in
     (omega arith, omega arith)
 
-pub invariant_of-self-2 : goal.invariant_of-self-2
-invariant_of-self-2 g c =
+pub invariant_of-self-3 : goal.invariant_of-self-3
+invariant_of-self-3 g c =
     let was = c.args.self.now in
-    let f = was.leaves in
+    let f = was.pages.leaves in
     let back = c.index-back.result.now in
     let same = c.item.ensures ∙ ap (λ (e : Entry). e.item) c.in_ok-entry.ensures in
-    let filed = c.file_delta.ensures.making ∙ ap (λ (r : Record). with_all c.args.self.now.making (Delta c.args.page back (r ∷ []) ∷ [])) same in
-    let here = here_for (frame_of was.making) c.args.page in
-    let made : c.file_delta.new.making.blocks ≡ added was.making.blocks (blocks_for f.m f.leaves back here c.args.item.now) =
+    let filed = c.file_delta.ensures.making ∙ ap (λ (r : Record). with_all c.args.self.now.pages.making (Delta c.args.page back (r ∷ []) ∷ [])) same in
+    let here = here_for (frame_of was.pages.making) c.args.page in
+    let made : c.file_delta.new.making.blocks ≡ added was.pages.making.blocks (blocks_for f.m f.leaves back here c.args.item.now) =
     ap (λ (b : Filling). b.blocks) filed
-    ∙ ap (added was.making.blocks) (delta_blocks f.m f.leaves back here c.args.item.now c.args.page c.requires.at.directed c.requires.whole) in
-    record {
-      whole = whole_entered was.cuts.items was.intake.history.items c.enter_alone.new.self.history.items c.args.lane (c.args.item.now ∷ [])
-          c.requires.comes.sound.ordered was.whole
-          (c.enter_alone.ensures.grows ∙ ap (λ (es : List Entry). es ++ entries_of c.args.lane (marked (c.args.item.now ∷ []))) c.reserve.ensures.history);
-      logged = λ q evicted.
+    ∙ ap (added was.pages.making.blocks) (delta_blocks f.m f.leaves back here c.args.item.now c.args.page c.requires.at.directed c.requires.whole) in (
+      λ q evicted.
           ap (is_made q) made
-          ∙ evicted_entered f.m f.leaves back here c.args.item.now was.making.blocks f.evicted q
+          ∙ evicted_entered f.m f.leaves back here c.args.item.now was.pages.making.blocks f.evicted q
           (subst (λ (ps : List ℕ). is_among q ps ≡ true) c.apply_found.ensures.evicted evicted) c.requires.at.here
           (c.count.ensures.beyond (length f.leaves + 1) (omega arith))
-          (was.logged q (subst (λ (ps : List ℕ). is_among q ps ≡ true) c.apply_found.ensures.evicted evicted));
+          (was.pages.logged q (subst (λ (ps : List ℕ). is_among q ps ≡ true) c.apply_found.ensures.evicted evicted)),
+      tt,
+    )
+
+pub invariant_of-self-4 : goal.invariant_of-self-4
+invariant_of-self-4 g c =
+    let was = c.args.self.now in
+    record {
+      whole = whole_entered was.seals.cuts.items was.intake.history.items c.enter_alone.new.self.history.items c.args.lane (c.args.item.now ∷ [])
+          c.requires.comes.sound.ordered was.whole
+          (c.enter_alone.ensures.grows ∙ ap (λ (es : List Entry). es ++ entries_of c.args.lane (marked (c.args.item.now ∷ []))) c.reserve.ensures.history);
       began = was.began;
       forgotten = (let entered = c.enter_alone.ensures.gone in let reserved = c.reserve.ensures.gone in let known = was.forgotten in omega arith);
     }
@@ -81,10 +87,10 @@ returns-clause-takes g c =
     let count = c.requires.comes.sound.grown.count in
     let back = c.index-back.result.now in
     let same = c.item.ensures ∙ ap (λ (e : Entry). e.item) c.in_ok-entry.ensures in
-    let filed = c.file_delta.ensures.making ∙ ap (λ (r : Record). with_all c.args.self.now.making (Delta c.args.page back (r ∷ []) ∷ [])) same in
-    let last = got c.args.self.now.newest.items (c.args.page - 1) back (omega arith) c.index-back.ensures in
+    let filed = c.file_delta.ensures.making ∙ ap (λ (r : Record). with_all c.args.self.now.pages.making (Delta c.args.page back (r ∷ []) ∷ [])) same in
+    let last = got c.args.self.now.pages.newest.items (c.args.page - 1) back (omega arith) c.index-back.ensures in
     let e = enters_whole c.args.page c.requires.comes.sound c.requires.frame.next c.key.ensures.lawful c.requires.at.directed last c.requires.whole c.requires.fits in
-    let not : IsSpent c.args.self.now.leaves c.args.item.now → ⊥ = λ p. let x = c.in_ok-apply_found.ensures.spent p in cc in
+    let not : IsSpent c.args.self.now.pages.leaves c.args.item.now → ⊥ = λ p. let x = c.in_ok-apply_found.ensures.spent p in cc in
     record {
       sound =
           subst kept.IsSound
@@ -107,10 +113,10 @@ returns-clause-ok g c =
     let count = c.requires.comes.sound.grown.count in
     let back = c.index-back.result.now in
     let same = c.item.ensures ∙ ap (λ (e : Entry). e.item) c.in_ok-entry.ensures in
-    let filed = c.file_delta.ensures.making ∙ ap (λ (r : Record). with_all c.args.self.now.making (Delta c.args.page back (r ∷ []) ∷ [])) same in
-    let last = got c.args.self.now.newest.items (c.args.page - 1) back (omega arith) c.index-back.ensures in
+    let filed = c.file_delta.ensures.making ∙ ap (λ (r : Record). with_all c.args.self.now.pages.making (Delta c.args.page back (r ∷ []) ∷ [])) same in
+    let last = got c.args.self.now.pages.newest.items (c.args.page - 1) back (omega arith) c.index-back.ensures in
     let e = enters_whole c.args.page c.requires.comes.sound c.requires.frame.next c.key.ensures.lawful c.requires.at.directed last c.requires.whole c.requires.fits in
-    let not : IsSpent c.args.self.now.leaves c.args.item.now → ⊥ = λ p. let x = c.in_ok-apply_found.ensures.spent p in cc in
+    let not : IsSpent c.args.self.now.pages.leaves c.args.item.now → ⊥ = λ p. let x = c.in_ok-apply_found.ensures.spent p in cc in
     let s = kept_by c.args.self.now (λ z. (goal.Segment-dyn g z).holding z.1) in
     entered (alone c.args.item.now) e not c.args.lane c.args.page c.enter_alone.new.self.history.items (filed_of c.apply_found.new.leaves)
     c.file_delta.new.newest.items c.file_delta.new.making c.requires.at.directed

@@ -18,8 +18,8 @@ records-preserved g c =
       intake = c.fetch_one.ensures.keeps.intake ∙ i.intake;
       noted = c.fetch_one.ensures.keeps.noted ∙ i.noted;
       same = c.in_ok-fetch_one.ensures.leaves ∙ i.same;
-      here = all_more (λ r. IsHere (key_of r) c.fetch_one.new.self.leaves) c.args.records.now c.records.at _ c.records-test.true c.index-records-at.is
-          (all_here c.records.self.leaves c.fetch_one.new.self.leaves _ c.in_ok-fetch_one.ensures.others i.here) c.in_ok-fetch_one.ensures.here;
+      here = all_more (λ r. IsHere (key_of r) c.fetch_one.new.self.pages.leaves) c.args.records.now c.records.at _ c.records-test.true c.index-records-at.is
+          (all_here c.records.self.pages.leaves c.fetch_one.new.self.pages.leaves _ c.in_ok-fetch_one.ensures.others i.here) c.in_ok-fetch_one.ensures.here;
       ops = all_more IsOp c.args.records.now c.records.at _ c.records-test.true c.index-records-at.is i.ops c.fetch_one.ensures.lawful;
     }
 
@@ -35,7 +35,7 @@ returns-clause-lawful g c = all_taken IsOp c.args.records.now c.records.at (let 
 
 pub returns-clause-here : goal.returns-clause-here
 returns-clause-here g c =
-    let f = c.records.self.leaves in
+    let f = c.records.self.pages.leaves in
     let top = c.count.ensures.limit in
     together f c.args.records.now (omega arith) c.count.ensures.lawful c.count.ensures.beyond
     (all_taken IsOp c.args.records.now c.records.at (let end = c.records-test.false in omega arith) c.records.invariant.ops)

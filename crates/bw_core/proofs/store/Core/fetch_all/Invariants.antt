@@ -11,7 +11,7 @@ invariant-records g l = record {
   sound : IsSound l.self (λ z. (goal.Segment-dyn g z).holding z.1);
   intake : l.self.intake ≡ l.initial.self.intake;
   same : kept_by l.self (λ z. (goal.Segment-dyn g z).holding z.1) ≡ kept_by l.initial.self (λ z. (goal.Segment-dyn g z).holding z.1);
-  here : AllByRecursion (λ r. IsHere (key_of r) l.self.leaves) (take l.at l.records);
+  here : AllByRecursion (λ r. IsHere (key_of r) l.self.pages.leaves) (take l.at l.records);
   ops : AllByRecursion IsOp (take l.at l.records);
   noted : noted_of l.self ≡ noted_of l.initial.self;
 }

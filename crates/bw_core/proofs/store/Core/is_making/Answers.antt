@@ -10,4 +10,4 @@ returns g c =
     let count = c.requires.sound.grown.count in
     let inside = c.requires.inside in
     stands_elsewhere s c.requires.sound c.args.page c.index.result.now c.frame.result inside.0
-    (got c.args.self.now.newest.items _ c.index.result.now (omega arith) c.index.ensures) c.frame.ensures.value
+    (got c.args.self.now.pages.newest.items _ c.index.result.now (omega arith) c.index.ensures) c.frame.ensures.value

@@ -19,7 +19,7 @@ read_evicted-requires-clause-evicted g c =
     let low = c.if-page-eq0.false in
     let high = c.if-page-count.false in
     let count = c.count.ensures.value in
-    none_evicted c.args.self.now.leaves c.args.page _ (sym c.page.ensures) (ap option_copied c.in_default.is) (omega arith) (omega arith)
+    none_evicted c.args.self.now.pages.leaves c.args.page _ (sym c.page.ensures) (ap option_copied c.in_default.is) (omega arith) (omega arith)
 
 pub returns-clause-no_page : goal.returns-clause-no_page
 returns-clause-no_page g c =
@@ -34,7 +34,7 @@ returns-clause-memory g c = λ here. (
     let low = c.if-page-eq0.false in
     let high = c.if-page-count.false in
     let count = c.count.ensures.value in
-    was_evicted _ (none_evicted c.args.self.now.leaves c.args.page _ (sym c.page.ensures) (ap option_copied c.in_default.is) (omega arith) (omega arith)) here)
+    was_evicted _ (none_evicted c.args.self.now.pages.leaves c.args.page _ (sym c.page.ensures) (ap option_copied c.in_default.is) (omega arith) (omega arith)) here)
 
 pub returns-clause-reads : goal.returns-clause-reads
 returns-clause-reads g c = reads_once _ _ _ _ _ c.requires c.read_evicted.ensures.looks

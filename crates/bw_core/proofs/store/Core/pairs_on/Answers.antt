@@ -9,9 +9,9 @@ pub returns-in_err-leaf-clause-memory : goal.returns-in_err-leaf-clause-memory
 returns-in_err-leaf-clause-memory g c = λ here. (
     let low = c.requires.inside.0 in
     let high = c.requires.inside.1 in
-    was_evicted _ (none_evicted c.args.self.now.leaves c.args.page _ (sym c.page.ensures) (ap option_copied c.in_default.is) (omega arith) (omega arith)) here)
+    was_evicted _ (none_evicted c.args.self.now.pages.leaves c.args.page _ (sym c.page.ensures) (ap option_copied c.in_default.is) (omega arith) (omega arith)) here)
 
 pub returns-clause-value : goal.returns-clause-value
 returns-clause-value g c =
     ap (λ (ps : Pairs). length ps) c.as_slice-2.ensures
-    ∙ pairs_at c.args.page c.args.self.now.leaves.leaves c.in_ok-leaf.leaf c.requires.inside.0 c.in_ok-leaf.ensures.leaf
+    ∙ pairs_at c.args.page c.args.self.now.pages.leaves.leaves c.in_ok-leaf.leaf c.requires.inside.0 c.in_ok-leaf.ensures.leaf

@@ -12,14 +12,14 @@ returns-in-Err-clause-looks g c = record {
   pages = search rules;
   read = search rules;
   leaves = rw c.from.ensures
-      (evicted_refused _ c.requires.sound c.args.page c.requires.inside.0 c.requires.inside.1 (c.args.self.now.logged c.args.page c.requires.evicted)
+      (evicted_refused _ c.requires.sound c.args.page c.requires.inside.0 c.requires.inside.1 (c.args.self.now.pages.logged c.args.page c.requires.evicted)
       Leaf _ _ c.in-Err.fault c.in-Err.ensures.stops (λ e. c.in-Err.ensures.no_page.0 (ap Err e)));
   noted = search rules;
 }
 
 pub returns-clause-leaf : goal.returns-clause-leaf
 returns-clause-leaf g c =
-    evicted_page _ c.requires.sound c.args.page c.requires.inside.0 c.requires.inside.1 (c.args.self.now.logged c.args.page c.requires.evicted)
+    evicted_page _ c.requires.sound c.args.page c.requires.inside.0 c.requires.inside.1 (c.args.self.now.pages.logged c.args.page c.requires.evicted)
     c.in-Ok.below c.in-Ok.ensures.page
     ∙ ap (λ (rs : List Record). Some (all_changed rs c.in-Ok.below)) (sym (c.as_slice.ensures.value ∙ c.in_ok-overlay.ensures))
     ∙ ap Some (sym c.in_ok-change_all.ensures)

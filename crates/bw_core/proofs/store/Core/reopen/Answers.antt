@@ -20,7 +20,7 @@ returns-in-Ok-clause-sound g c =
     let count = c.count-pages.ensures.value in
     let e = c.in-Ok.ensures in
     subst kept.IsSound
-    (sym (c.again.ensures.store ∙ ap (λ (es : List Entry). record (reopened (map ring_of_lane c.in-Ok.ends.intake.lanes.items) c.args.recovered.last
+    (sym (c.begun.ensures.store ∙ ap (λ (es : List Entry). record (reopened (map ring_of_lane c.in-Ok.ends.intake.lanes.items) c.args.recovered.last
     c.args.recovered.leaves c.in-Ok.ends.newest.items c.in-Ok.ends.making log) { entries = es }) e.history))
     (reopened_sound log c.args.recovered.leaves c.args.recovered.last found (map ring_of_lane c.in-Ok.ends.intake.lanes.items)
     c.in-Ok.ends.newest.items c.in-Ok.ends.making (e.count ∙ count) (λ p from to. e.each p from (omega arith)) (e.limit ∙ c.limit-2.ensures)

@@ -11,4 +11,4 @@ invariant-pages g l = record {
 }
 
 abbrev pub decreases-pages : goal.decreases-pages
-decreases-pages g l = ahead l.from l.self.leaves.leaves
+decreases-pages g l = ahead l.from l.self.pages.leaves.leaves

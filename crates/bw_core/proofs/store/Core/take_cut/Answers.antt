@@ -8,7 +8,7 @@ pub returns-then-has_room-clause-leaves : goal.returns-then-has_room-clause-leav
 returns-then-has_room-clause-leaves g c =
     entered_or_not _ _ _ _ _ (c.args.item.now ∷ []) _ (omega arith, omega arith) c.in_ok-plan.ensures.works (inl refl)
     (plan_fits _ c.args.item.now c.in_ok-plan.plan c.in_ok-plan.ensures.plan
-    (some_room c.args.self.now.making _ _ c.has_room.ensures c.if-has_room.true c.as_slice.ensures)) c.in_ok-plan.ensures.works
+    (some_room c.args.self.now.pages.making _ _ c.has_room.ensures c.if-has_room.true c.as_slice.ensures)) c.in_ok-plan.ensures.works
     (one_entered _ _ c.args.lane c.args.item.now c.in_ok-plan.plan _ c.in_ok-plan.ensures.plan c.enter.ensures.ok) c.enter.ensures.unchanged c.enter.ensures.refused
 
 pub returns-in_err-flush_making-clause-leaves : goal.returns-in_err-flush_making-clause-leaves
@@ -16,7 +16,7 @@ returns-in_err-flush_making-clause-leaves g c =
     let p = err_from_is_err_and c.from_residual-in_err-flush_making.result c.from_residual-in_err-flush_making.ensures.1 in
     rw (p.1, p.2) (flush_refuses _ (c.args.item.now ∷ []) _ _ c.in_err-flush_making.field-0.0
     (plan_full _ c.args.item.now c.in_ok-plan.plan c.in_ok-plan.ensures.plan
-    (no_room c.args.self.now.making _ _ c.has_room.ensures c.if-has_room.false c.as_slice.ensures))
+    (no_room c.args.self.now.pages.making _ _ c.has_room.ensures c.if-has_room.false c.as_slice.ensures))
     c.in_err-flush_making.ensures.answers c.in_err-flush_making.ensures.leaves)
 
 pub returns-in_err-plan-2-clause-leaves : goal.returns-in_err-plan-2-clause-leaves
@@ -24,7 +24,7 @@ returns-in_err-plan-2-clause-leaves g c =
     let p = err_from_is_err_and c.from_residual-in_err-plan-2.result c.from_residual-in_err-plan-2.ensures.1 in
     rw (p.1, p.2) (unplanned_after _ (c.args.item.now ∷ []) _ _ c.in_err-plan-2.field-0.0 c.in_ok-plan.ensures.works
     (flushed_or_not (c.args.item.now ∷ []) _ _ _ (plan_full _ c.args.item.now c.in_ok-plan.plan c.in_ok-plan.ensures.plan
-    (no_room c.args.self.now.making _ _ c.has_room.ensures c.if-has_room.false c.as_slice.ensures))
+    (no_room c.args.self.now.pages.making _ _ c.has_room.ensures c.if-has_room.false c.as_slice.ensures))
     c.in_ok-flush_making.ensures.answers c.in_ok-flush_making.ensures.leaves)
     (worked false _ _ _ c.in_ok-flush_making.ensures.answers c.in_ok-flush_making.ensures.leaves) c.in_err-plan-2.ensures.refused)
 
@@ -32,7 +32,7 @@ pub returns-clause-leaves : goal.returns-clause-leaves
 returns-clause-leaves g c =
     entered_or_not _ _ _ _ _ (c.args.item.now ∷ []) _ (omega arith, omega arith) c.in_ok-plan.ensures.works
     (flushed_or_not (c.args.item.now ∷ []) _ _ _ (plan_full _ c.args.item.now c.in_ok-plan.plan c.in_ok-plan.ensures.plan
-    (no_room c.args.self.now.making _ _ c.has_room.ensures c.if-has_room.false c.as_slice.ensures))
+    (no_room c.args.self.now.pages.making _ _ c.has_room.ensures c.if-has_room.false c.as_slice.ensures))
     c.in_ok-flush_making.ensures.answers c.in_ok-flush_making.ensures.leaves)
     (plan_fits _ c.args.item.now c.in_ok-plan-2.plan c.in_ok-plan-2.ensures.plan
     (fits_empty _ _ c.flush_making.ensures.keeps.sound (flushed_empty _ _ _ c.in_ok-flush_making.ensures.leaves) c.in_ok-plan-2.ensures.short))

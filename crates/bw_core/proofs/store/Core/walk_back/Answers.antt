@@ -31,16 +31,16 @@ returns-in-Found-clause-reads g c = reads_behind _ _ _ _ _ _ c.pages.invariant.s
 
 pub pages-smaller : goal.pages-smaller
 pages-smaller g c =
-    let tells = told_as c.args.reach c.args.key.now c.pages.page c.pages.self.leaves c.pages.self.leaves _ _ refl c.in-Before.is c.in_ok-pair.ensures.value in
+    let tells = told_as c.args.reach c.args.key.now c.pages.page c.pages.self.pages.leaves c.pages.self.pages.leaves _ _ refl c.in-Before.is c.in_ok-pair.ensures.value in
     let before = subst (λ (f : Shown). IsPageBefore f.leaves c.in-Before.low c.page_before-page.result) c.look_back.ensures.looks.pages c.page_before-page.ensures.before in
-    let fewer = fewer_back c.args.reach c.args.key.now c.in-Before.low c.pages.page c.page_before-page.result c.pages.self.leaves.leaves tells before in
+    let fewer = fewer_back c.args.reach c.args.key.now c.in-Before.low c.pages.page c.page_before-page.result c.pages.self.pages.leaves.leaves tells before in
     let same = ap (λ (f : Shown). behind_leaf (leaf_at c.page_before-page.result f.leaves) f.leaves) c.look_back.ensures.looks.pages in
     omega (arith, fewer, same)
 
 pub pages-preserved : goal.pages-preserved
 pages-preserved g c =
     let s = kept_by c.args.self.now (λ z. (goal.Segment-dyn g z).holding z.1) in
-    let pages : c.look_back.new.self.leaves ≡ c.args.self.now.leaves = c.look_back.ensures.looks.pages ∙ c.pages.invariant.stays.pages in
+    let pages : c.look_back.new.self.pages.leaves ≡ c.args.self.now.pages.leaves = c.look_back.ensures.looks.pages ∙ c.pages.invariant.stays.pages in
     let tells = told_as c.args.reach c.args.key.now c.pages.page _ _ _ _ c.pages.invariant.stays.pages c.in-Before.is c.in_ok-pair.ensures.value in
     let before = subst (λ (f : Shown). IsPageBefore f.leaves c.in-Before.low c.page_before-page.result) pages c.page_before-page.ensures.before in
     record {
