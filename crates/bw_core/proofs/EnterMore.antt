@@ -27,7 +27,7 @@ use Rattle.bw_making.specs.declared.draft.Row.{Row}
 use Rattle.bw_making.specs.declared.draft.Draft.{Draft}
 use Rattle.bw_making.specs.Adding.{Drawn, back_in, blocks_in, blocks_all, drawn_by, here_for, result_of}
 use Rattle.bw_core.specs.Drafting.{IsDraft, drawn_behind}
-use Rattle.bw_making.specs.Drafting.{AreIn, rows_all, set_row}
+use Rattle.bw_making.specs.Drafting.{AreIn, set_row}
 use Rattle.bw_core.specs.Fitting.{Fits, drawn_of, group_blocks}
 use Rattle.bw_history.specs.History.{entered}
 use Rattle.bw_core.specs.Kept.{Kept, Filed, IsSound}

@@ -1,27 +1,26 @@
 -- A page that the frame in the making neither makes nor cuts is in the log, and the records of that frame lead from there to it.
 
-use Rattle.std.proofs.Common.{Ok, ◌≡◌, ℕ, zero, suc, ◌+◌, ◌-◌, ◌<◌, ◌≤◌, inl, inr, Bool, true, false, Option, Some, None, Result, Err, List, [], ◌∷◌, ◌++◌}
-use Rattle.std.proofs.Common.{length, refl, sym, ap, ◌∙◌, subst, arith, append-nil, if◌then◌else◌}
-use Rattle.std.specs.Prelude.{◌==◌, ◌||◌, ◌&&◌, nat_le, nat_lt, not, is_some, is_none, IsTrue, IsErrOf, IfOk}
+use Rattle.std.proofs.Common.{Ok, ◌≡◌, ℕ, zero, suc, ◌+◌, ◌-◌, ◌<◌, ◌≤◌, inl, inr, Bool, true, false, Option, Some, None, Result, Err, List, [], ◌∷◌}
+use Rattle.std.proofs.Common.{length, refl, sym, ap, ◌∙◌, subst, arith, if◌then◌else◌}
+use Rattle.std.specs.Prelude.{◌==◌, ◌||◌, ◌&&◌, nat_le, not, is_some, IsTrue, IsErrOf, IfOk}
 use Rattle.std.specs.List.{AllByRecursion as All, fold, list_any, slice_get}
 use Rattle.std.proofs.lemmas.Bool.{ne_eqb, eq-eqb, eqb-true, leb-true, leb-false}
 use Rattle.std.proofs.lemmas.Grind.{fold-append}
 use Rattle.std.proofs.lemmas.List.Folds.{list_any-append}
 use Rattle.bw_record.specs.Keys.{ascends}
-use Rattle.bw_record.specs.Lawful.{IsOp}
-use Rattle.bw_codec.specs.Grammar.{IsBase, IsBlock}
+use Rattle.bw_codec.specs.Grammar.{IsBase}
 use Rattle.bw_record.specs.Record.{key_of}
 use Rattle.bw_codec.specs.Touch.{touches}
 use Rattle.bw_record.specs.declared.record.Record.{Record}
 use Rattle.bw_record.specs.declared.leaf.Leaf.{Leaf}
 use Rattle.bw_codec.specs.declared.block.Place.{Place}
 use Rattle.bw_codec.specs.declared.block.Block.{Block}
-use Rattle.bw_codec.specs.declared.block.Block.TheVariants.{Delta, Base, Split}
+use Rattle.bw_codec.specs.declared.block.Block.TheVariants.{Delta, Split}
 use Rattle.bw_codec.specs.declared.block.Frame.{Frame}
 use Rattle.std.specs.FinMap as finite
 use Rattle.std.specs.FinMap.Entries.{find}
 use Rattle.bw_leaf.specs.Changed.{Bytes, Map, order, all_changed}
-use Rattle.bw_page.specs.Leaves.{home, plain, leaf_at, applied, directed_at, upper_of, AreLeaves}
+use Rattle.bw_page.specs.Leaves.{home, plain, leaf_at, directed_at, upper_of}
 use Rattle.bw_page.specs.Seats.{is_among}
 use Rattle.bw_page.specs.Shown.{Shown, is_evicted_page, leaf_here}
 use Rattle.bw_leaf.specs.Forwards.{after, content, blocks_of}
@@ -52,8 +51,7 @@ use Rattle.bw_leaf.specs.declared.words.Word.{Word}
 use Rattle.bw_leaf.proofs.Wording.{records_tell}
 use Rattle.bw_log.proofs.Valued.{page_rises}
 use Rattle.bw_log.proofs.Walked.{page_set}
-use Rattle.bw_making.proofs.Joins.{none_touches, added_made}
-use Rattle.bw_core.proofs.Stepping.{length-applied}
+use Rattle.bw_making.proofs.Joins.{added_made}
 use Rattle.bw_making.proofs.OverlaySteps.{over_overlay, never_made}
 use Rattle.bw_making.proofs.Placing.{placed_push}
 

@@ -1,6 +1,6 @@
 -- What was forgotten stays durable.
 
-use Rattle.std.proofs.Common.{◌≡◌, ℕ, zero, suc, ◌+◌, ◌≤◌, List, [], ◌∷◌, ◌++◌, length, sym, ap, ◌∙◌, arith, replicate, append-nil}
+use Rattle.std.proofs.Common.{◌≡◌, ℕ, zero, suc, ◌+◌, ◌≤◌, List, [], ◌∷◌, ◌++◌, length, ap, ◌∙◌, arith, replicate, append-nil}
 use Rattle.bw_history.specs.History.{cut}
 use Rattle.bw_core.specs.Kept.{Kept, IsSound}
 use Rattle.bw_core.proofs.FrameMore.{cut_old, cut_new}

@@ -36,7 +36,6 @@ use Rattle.bw_core.proofs.FramesBehind.{IsNumbered, following_fits, counted_lawf
 use Rattle.bw_core.proofs.Edging.{begun_on, appended_more, stopped_more}
 use Rattle.bw_core.proofs.CutMore.{same_leaves, old_shares}
 use Rattle.bw_core.proofs.Telling.{tells_none}
-use Rattle.bw_core.proofs.RecordMore.{cut_within}
 
 -- ---- an empty frame behind others
 

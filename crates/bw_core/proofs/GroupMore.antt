@@ -1,9 +1,9 @@
 -- A group is entered whole: what it leaves in the places, the blocks and the history.
 
-use Rattle.std.proofs.Common.{◌≡◌, ℕ, suc, ◌+◌, ◌-◌, ◌*◌, ◌<◌, ◌≤◌, Bool, true, false, Option, Some, None, List, [], ◌∷◌, ◌++◌}
-use Rattle.std.proofs.Common.{length, map, set, take, refl, sym, ap, ◌∙◌, subst, arith, if◌then◌else◌, append-nil, append_assoc}
-use Rattle.std.specs.Prelude.{nat_le, nat_lt, is_some, IfSome}
-use Rattle.std.specs.List.{AllByRecursion as All, fold, slice_index_or}
+use Rattle.std.proofs.Common.{◌≡◌, ℕ, suc, ◌+◌, ◌-◌, ◌*◌, ◌<◌, ◌≤◌, true, false, Option, Some, None, List, [], ◌∷◌, ◌++◌}
+use Rattle.std.proofs.Common.{length, set, take, refl, sym, ap, ◌∙◌, subst, arith, if◌then◌else◌, append-nil, append_assoc}
+use Rattle.std.specs.Prelude.{nat_le, is_some}
+use Rattle.std.specs.List.{AllByRecursion as All, fold}
 use Rattle.std.proofs.lemmas.Grind.{fold-append}
 use Rattle.bw_record.specs.Lawful.{IsOp}
 use Rattle.bw_record.specs.Record.{key_of}
@@ -11,7 +11,6 @@ use Rattle.bw_record.specs.declared.record.Record.{Record}
 use Rattle.bw_record.specs.declared.leaf.Leaf.{Leaf}
 use Rattle.bw_codec.specs.declared.block.Place.{Place}
 use Rattle.bw_codec.specs.declared.block.Block.{Block}
-use Rattle.bw_codec.specs.declared.block.Block.TheVariants.{Delta, Split}
 use Rattle.bw_page.specs.Batch.{AreHere, SomeIsSpent}
 use Rattle.bw_page.specs.Leaves.{applied, directed_at, pages, upper_of, HasPages, AreLeaves}
 use Rattle.bw_page.specs.Seats.{is_among}
@@ -20,12 +19,11 @@ use Rattle.bw_page.proofs.Indexed.{home_within}
 use Rattle.bw_page.proofs.Law.{applied-lawful}
 use Rattle.bw_buffer.specs.Filling.{frame_of, with_all, size_of}
 use Rattle.bw_buffer.specs.Counting.{grown}
-use Rattle.bw_buffer.specs.Joining.{joined, added, open_records}
+use Rattle.bw_buffer.specs.Joining.{joined, open_records}
 use Rattle.bw_log.proofs.Adding.{following_is}
 use Rattle.bw_ring.specs.Marks.{Marked}
 use Rattle.bw_history.specs.declared.entry.Entry.{Entry}
-use Rattle.bw_making.specs.declared.draft.Row.{Row}
-use Rattle.bw_making.specs.Adding.{Drawn, back_in, blocks_in, blocks_all, blocks_for, drawn_by, here_for, last_for, nowhere, result_of, upper_if}
+use Rattle.bw_making.specs.Adding.{Drawn, back_in, blocks_in, blocks_all, drawn_by, here_for, last_for, nowhere, result_of, upper_if}
 use Rattle.bw_core.specs.Drafting.{drawn_behind}
 use Rattle.bw_making.specs.Drafting.{AreIn, count_by, row_by, row_for, rows_all, set_row}
 use Rattle.bw_core.specs.Fitting.{Fits, back_for, drawn_of, group_blocks, here_at}
@@ -35,7 +33,7 @@ use Rattle.bw_making.specs.Overlay.{is_made}
 use Rattle.bw_core.specs.Taken.{alone, taken, taken_all}
 use Rattle.bw_core.specs.Taking.{HasAllPages}
 use Rattle.bw_core.proofs.EvictedPages.{evicted_entered}
-use Rattle.bw_core.proofs.Drafted.{some_at, none_at}
+use Rattle.bw_core.proofs.Drafted.{some_at}
 use Rattle.bw_core.proofs.Drafts.{items, made_all, part_shorter}
 use Rattle.bw_log.specs.Contents as logs
 use Rattle.bw_core.proofs.Growing.{blocks_lawful}

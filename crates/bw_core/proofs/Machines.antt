@@ -1,14 +1,11 @@
 -- A store makes the steps of the machine, and recovery finds what it may leave.
 
-use Rattle.std.proofs.Common.{◌≡◌, ◌⊎◌, ℕ, zero, suc, ◌+◌, ◌-◌, ◌≤◌, ◌<◌, inl, inr, Bool, true, false, Option, Some, None, Result, Ok, Err, List, [], ◌∷◌, ◌++◌}
+use Rattle.std.proofs.Common.{◌≡◌, ◌⊎◌, ℕ, zero, suc, ◌+◌, ◌≤◌, ◌<◌, inl, inr, Bool, true, false, Option, Some, None, Result, Ok, Err, List, [], ◌∷◌, ◌++◌}
 use Rattle.std.specs.Prelude.{◌&&◌}
 use Rattle.std.proofs.Common.{length, take, replicate, refl, sym, ap, ◌∙◌, subst, arith, append-nil, append_assoc, length-append}
 use Rattle.std.proofs.lemmas.List.{length-replicate}
 use Rattle.std.specs.Prelude.{slice_index_or, MatchResult}
-use Rattle.bw_device.specs.Holding.{Holding}
-use Rattle.bw_codec.specs.declared.block.Place.{Place}
 use Rattle.bw_record.specs.declared.record.Record.{Record}
-use Rattle.bw_buffer.specs.Filling.{Filling}
 use Rattle.bw_log.specs.Contents as logs
 use Rattle.bw_page.specs.Leaves.{pages}
 use Rattle.bw_ring.specs.Marks.{Marked, marked}

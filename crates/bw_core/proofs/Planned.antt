@@ -39,7 +39,7 @@ use Rattle.bw_core.specs.Kept.{Kept, IsSound}
 use Rattle.bw_making.proofs.Joins.{added_shorter}
 use Rattle.bw_core.proofs.Growing.{Takes, blocks_lawful}
 use Rattle.bw_core.proofs.FramesBehind.{following_fits}
-use Rattle.bw_making.specs.Adding.{here_for, blocks_for, nowhere, result_of, planned}
+use Rattle.bw_making.specs.Adding.{here_for, blocks_for, nowhere, result_of}
 use Rattle.bw_page.proofs.Law as law
 
 -- ---- lengths

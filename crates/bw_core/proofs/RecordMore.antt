@@ -19,7 +19,6 @@ use Rattle.bw_buffer.specs.Joining.{added}
 use Rattle.bw_ring.specs.Marks.{Marked}
 use Rattle.bw_log.specs.Contents as logs
 use Rattle.bw_history.specs.declared.entry.Entry.{Entry}
-use mathlib.Core.List.{IsPrefix}
 use Rattle.bw_history.specs.Entries.{records}
 use Rattle.bw_history.specs.History.{cut, upto, share}
 use Rattle.bw_making.specs.Share.{TellsFirst}

@@ -1,6 +1,6 @@
 -- What a store counts beside what it keeps.
 
-use Rattle.std.specs.Prelude.{ℕ, zero, suc, ◌+◌, ◌-◌, ◌^◌, ◌≡◌, ◌⊎◌, Bool, true, false, if◌then◌else◌, min, take, Result, Ok, Err, List, [], ◌∷◌, length}
+use Rattle.std.specs.Prelude.{ℕ, ◌-◌, ◌≡◌, ◌⊎◌, Bool, true, false, if◌then◌else◌, take, Result, Ok, Err, length}
 use Rattle.bw_care.specs.Tallies.{up, bytes_of, counted_from, counted_out, counted_by}
 use Rattle.bw_care.specs.Upgrading.{old_segments}
 use Rattle.bw_care.specs.declared.cleaner.Cleaned.{Cleaned}

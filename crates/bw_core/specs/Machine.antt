@@ -1,6 +1,6 @@
 -- A store as the machine that it is, and what recovery finds of it.
 
-use Rattle.std.specs.Prelude.{ℕ, ◌≡◌, ◌⊎◌, MatchResult, Result, List, length}
+use Rattle.std.specs.Prelude.{◌≡◌, ◌⊎◌, MatchResult, Result, List, length}
 use Rattle.bw_device.specs.Holding.{Holding}
 use Rattle.bw_page.specs.Leaves.{pages}
 use Rattle.bw_log.specs.Contents.{boxes}

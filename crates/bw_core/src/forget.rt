@@ -4,7 +4,7 @@
 //! entries leave memory and stay in the clauses: what is left is the part that no frame has yet, or
 //! that readers have still to be shown. Receipts go by lengths, and lose nothing.
 
-ghost use Rattle.std.specs.Prelude.{◌≡◌, ◌≤◌, ◌+◌, length, max, min};
+ghost use Rattle.std.specs.Prelude.{◌≡◌, ◌+◌, max, min};
 ghost use Rattle.bw_core.specs.Following.{Follows, HasBoxes};
 ghost use Rattle.bw_history.specs.History.{cut};
 

@@ -5,7 +5,7 @@
 //! recovered log is taken apart: a refusal hands it back whole, and whoever was refused memory may
 //! try again.
 
-ghost use Rattle.std.specs.Prelude.{◌≡◌, ◌≤◌, ◌<◌, ◌+◌, ◌-◌, ◌^◌, [], None, ℕ, map, length, false, slice_get, IfOk, IfErr, IfSome, MatchResult, OnOk};
+ghost use Rattle.std.specs.Prelude.{◌≡◌, ◌≤◌, ◌<◌, ◌-◌, ◌^◌, [], None, ℕ, map, length, false, slice_get, IfOk, IfErr, IfSome, MatchResult};
 ghost use Rattle.bw_log.specs.Contents.{counted};
 ghost use Rattle.bw_log.specs.Places.{place_of};
 ghost use Rattle.bw_ring.specs.Ends.{ring_of_feed, ring_of_lane};

@@ -1,4 +1,4 @@
-use Rattle.std.proofs.Common.{refl, ap, length, ◌∙◌, arith}
+use Rattle.std.proofs.Common.{refl, ◌∙◌, arith}
 use Rattle.std.proofs.lemmas.Result.{err_from_is_err_and}
 use Rattle.bw_core.proofs.FollowMore.{refused_within, still_within}
 use Rattle.bw_history.proofs.Laned.{all_dry, dry_further}

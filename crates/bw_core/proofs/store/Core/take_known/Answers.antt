@@ -1,4 +1,4 @@
-use Rattle.std.proofs.Common.{ap, ◌∙◌, arith, length}
+use Rattle.std.proofs.Common.{◌∙◌, arith}
 use Rattle.std.proofs.lemmas.Result.{err_from_is_err_and}
 use Rattle.bw_core.proofs.FollowMore.{some_then, some_refused}
 use Rattle.bw_core.proofs.LaneByLane.{took_none, took_on}
