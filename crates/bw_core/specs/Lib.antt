@@ -27,5 +27,6 @@ pub mod Rewriting
 pub mod Counting
 pub mod Needed
 -- What private functions say.
+pub mod Sparing
 pub mod Drafting
 pub mod Moving

@@ -19,6 +19,7 @@ ghost use Rattle.bw_core.specs.Machine.{RunsAs};
 ghost use Rattle.bw_core.specs.Settled.{IsSettled};
 
 use crate::fault::StoreFault;
+use crate::flush::Spares;
 use crate::store::Core;
 use bw_care::{Cleaned, bytes_upto, clean, live_bytes};
 
@@ -81,7 +82,7 @@ impl Core {
         ensures refused { IfErr result (λ fault. IsUnready (kept_by self.old holding) fault
             (kept_by self.new holding)) }
     {
-        self.flush_making(true)?;
+        self.flush_making(Spares::All)?;
         let pages = self.log.pages() as usize;
         self.reserve_cuts(pages)?;
         Ok(())

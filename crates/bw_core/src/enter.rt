@@ -6,7 +6,7 @@
 //! unused, and the page, which may be refused all the same, changes before the others. What comes
 //! behind it cannot be refused, and its types say so: it answers nothing.
 
-ghost use Rattle.std.specs.Prelude.{◌≡◌, ◌≤◌, ◌<◌, ◌-◌, ◌∷◌, [], Some, length, slice_get, OnOk, OnErr, IfErr};
+ghost use Rattle.std.specs.Prelude.{◌≡◌, ◌≤◌, ◌-◌, ◌∷◌, [], Some, length, slice_get, OnOk, OnErr, IfErr};
 ghost use Rattle.bw_record.specs.Record.{key_of};
 ghost use Rattle.bw_page.specs.Aim.{IsFound};
 ghost use Rattle.bw_page.specs.Leaves.{result_of};

@@ -20,6 +20,7 @@ ghost use Rattle.bw_core.specs.Faults.{FlushLeaves, AppendLeaves, IsRefused, Flu
 ghost use Rattle.bw_core.specs.Kept.{EachCutStands};
 ghost use Rattle.bw_core.specs.Machine.{machine_of, MayBeStopped};
 ghost use Rattle.bw_core.specs.Settled.{IsSettled};
+ghost use Rattle.bw_core.specs.Sparing.{takes_last};
 ghost use Rattle.bw_history.specs.Machine.{Stops, keeps};
 
 use crate::fault::StoreFault;
@@ -27,6 +28,26 @@ use crate::store::Core;
 use bw_buffer::Buffer;
 use bw_log::{Log, LogFault};
 use bw_making::begin_next;
+
+/// Which spares a flush may take, where it has to begin a segment.
+#[derive(Clone, Copy)]
+pub(crate) enum Spares {
+    /// Each but the last, which is kept for a cleaning.
+    ButLast,
+    /// The last too: what comes behind this flush may give a segment back.
+    All,
+}
+
+impl Spares {
+    fn takes_last(self) -> bool
+        ensures { result ≡ takes_last self }
+    {
+        match self {
+            Spares::ButLast => false,
+            Spares::All => true,
+        }
+    }
+}
 
 impl Core {
     ghost use Rattle.bw_core.specs.Going.{GoesOn, KeepsIntake};
@@ -57,15 +78,16 @@ impl Core {
             (machine_of (kept_by self.new holding))) }
         ensures may_leave { MayBeStopped (kept_by self.new holding) }
     {
-        self.flush_making(false)
+        self.flush_making(Spares::ButLast)
     }
 
-    // The same, without what follows from it; it may take the last spare, or may not.
-    pub(crate) fn flush_making(&mut self, takes_last: bool) -> Result<Option<u64>, StoreFault>
+    // The same, without what follows from it, by which spares it may take.
+    pub(crate) fn flush_making(&mut self, spares: Spares) -> Result<Option<u64>, StoreFault>
         requires sound { IsSound self.old holding }
         ensures keeps { KeepsIntake self.old self.new holding }
         ensures pages { self.new.pages.leaves ≡ self.old.pages.leaves }
-        ensures answers { FlushAnswers (refusal_by takes_last (kept_by self.old holding)) result }
+        ensures answers { FlushAnswers
+            (refusal_by (takes_last spares) (kept_by self.old holding)) result }
         ensures leaves { FlushLeaves (kept_by self.old holding) result (kept_by self.new holding) }
     {
         if self.log.is_failed() {
@@ -77,37 +99,37 @@ impl Core {
         if self.pages.making.count() == 0 {
             return Ok(None);
         }
-        self.prepare(takes_last)?;
-        self.append_making(takes_last)?;
+        self.prepare(spares)?;
+        self.append_making(spares)?;
         Ok(Some(next))
     }
 
     // All growths and checks of the append.
-    fn prepare(&mut self, takes_last: bool) -> Result<(), StoreFault>
+    fn prepare(&mut self, spares: Spares) -> Result<(), StoreFault>
         requires sound { IsSound self.old holding }
         requires some { 1 ≤ length self.old.pages.making.blocks }
         ensures intake { self.new.intake ≡ self.old.intake }
         ensures pages { self.new.pages.leaves ≡ self.old.pages.leaves }
         ensures same { kept_by self.new holding ≡ kept_by self.old holding }
         ensures ready { OnOk result (IsReady (λ b. holding (b.vtable, b.value)) self.new.log
-            (length (frame_bytes (frame_of self.new.pages.making))) takes_last) }
+            (length (frame_bytes (frame_of self.new.pages.making))) (takes_last spares)) }
         ensures room { OnOk result
             (vec_len self.new.seals.cuts < vec_capacity self.new.seals.cuts) }
         ensures fits { length (frame_bytes (frame_of self.new.pages.making))
             ≤ self.new.pages.making.limit }
         ensures refused { IfErr result (IsRefused
             (refusal (kept_by self.old holding).log
-            (length (frame_bytes (frame_of self.old.pages.making))) takes_last)) }
+            (length (frame_bytes (frame_of self.old.pages.making))) (takes_last spares))) }
         ensures noted { noted_of self.new ≡ noted_of self.old }
     {
         let len = self.pages.making.len();
-        self.log.ready(len, takes_last)?;
+        self.log.ready(len, spares.takes_last())?;
         self.seals.cuts.reserve(1)?;
         Ok(())
     }
 
     // What is left once nothing but the device can refuse.
-    fn append_making(&mut self, takes_last: bool) -> Result<(), StoreFault>
+    fn append_making(&mut self, spares: Spares) -> Result<(), StoreFault>
         requires sound { IsSound self.old holding }
         requires next { (kept_by self.old holding).log.next ≡ Some self.old.pages.making.frame }
         requires works { (kept_by self.old holding).log.is_failed ≡ false }
@@ -115,7 +137,7 @@ impl Core {
         requires fits { length (frame_bytes (frame_of self.old.pages.making))
             ≤ self.old.pages.making.limit }
         requires ready { IsReady (λ b. holding (b.vtable, b.value)) self.old.log
-            (length (frame_bytes (frame_of self.old.pages.making))) takes_last }
+            (length (frame_bytes (frame_of self.old.pages.making))) (takes_last spares) }
         requires room { vec_len self.old.seals.cuts < vec_capacity self.old.seals.cuts }
         requires countable { self.old.seals.durable < u64.MAX }
         ensures keeps { KeepsIntake self.old self.new holding }
@@ -125,7 +147,7 @@ impl Core {
         let end = self.intake.len();
         self.pages.making.seal();
         self.seals.cuts.push_reserved(end);
-        match append_to(&mut self.log, &self.pages.making, takes_last) {
+        match append_to(&mut self.log, &self.pages.making, spares) {
             Ok(()) => {
                 self.seals.durable += 1;
                 begin_next(&mut self.pages.making);
@@ -138,19 +160,18 @@ impl Core {
 
 // Appends a sealed buffer's frame, as `Log::append_care` where the last spare may be taken, or
 // else as `Log::append`.
-fn append_to(log: &mut Log, buffer: &Buffer, takes_last: bool) -> Result<(), LogFault>
+fn append_to(log: &mut Log, buffer: &Buffer, spares: Spares) -> Result<(), LogFault>
     requires sound { IsSoundLog log.old holding }
     requires sealed { buffer.now.is_sealed ≡ true }
     requires limit { buffer.now.limit ≡ (seen log.old holding).f }
     requires follows { MayFollow (seen log.old holding) (frame_of buffer.now) }
-    ensures leaves { AfterAppend (seen log.old holding) (frame_of buffer.now) takes_last result
-        (seen log.new holding) }
+    ensures leaves { AfterAppend (seen log.old holding) (frame_of buffer.now) (takes_last spares)
+        result (seen log.new holding) }
     ensures prepared { IsReady (λ b. holding (b.vtable, b.value)) log.old
-        (length (frame_bytes (frame_of buffer.now))) takes_last → IsOkOrDevice result }
+        (length (frame_bytes (frame_of buffer.now))) (takes_last spares) → IsOkOrDevice result }
 {
-    if takes_last {
-        log.append_care(buffer)
-    } else {
-        log.append(buffer)
+    match spares {
+        Spares::ButLast => log.append(buffer),
+        Spares::All => log.append_care(buffer),
     }
 }

@@ -4,7 +4,7 @@
 //! any page is refused. It is not appended here. A store that was opened and stopped holds nothing,
 //! and whoever opens the same segments again begins anew.
 
-ghost use Rattle.std.specs.Prelude.{◌≡◌, ◌+◌, ◌↔◌, [], ◌∷◌, length, map, IsTrue, IfOk, IfErr, MatchResult};
+ghost use Rattle.std.specs.Prelude.{◌≡◌, ◌↔◌, [], ◌∷◌, length, map, IsTrue, IfOk, IfErr, MatchResult};
 ghost use Rattle.bw_ring.specs.Ends.{ring_of_feed, ring_of_lane};
 ghost use Rattle.bw_making.specs.Begun.{first_place, first_making};
 ghost use Rattle.bw_core.specs.Opened.{opened, one_empty, AreFresh, AreTaken, IsConfig, IsOpenFault};

@@ -122,7 +122,10 @@ impl Core {
         match ends_of(alloc, &config, &recovered.log, pages) {
             Ok(ends) => {
                 let Recovered {
-                    log, leaves, last, ..
+                    log,
+                    leaves,
+                    last,
+                    ..
                 } = recovered;
                 Ok(Core::begun(alloc, ends, leaves, log, last))
             }

@@ -4,7 +4,7 @@
 //! it comes back. A store that flushes often and evicts the pages that it changes would read more
 //! and more. Nothing is given up here: what was written before goes with its segment.
 
-ghost use Rattle.std.specs.Prelude.{◌≡◌, ◌≤◌, ◌+◌, ◌↔◌, [], true, false, length, vec_len, IsErrOf};
+ghost use Rattle.std.specs.Prelude.{◌≡◌, ◌≤◌, ◌+◌, ◌↔◌, [], false, length, vec_len, IsErrOf};
 ghost use Rattle.std.specs.List.{AllByRecursion};
 ghost use Rattle.std.specs.Vec.{vec_capacity};
 ghost use Rattle.bw_log.specs.Reads.{IsPage};
@@ -13,6 +13,7 @@ ghost use Rattle.bw_core.specs.Rewriting.{are_pages, RewriteLeaves, RewriteMoves
 ghost use Rattle.bw_core.specs.Settled.{IsSettled};
 
 use crate::fault::StoreFault;
+use crate::flush::Spares;
 use crate::store::Core;
 use bw_care::rewrite;
 
@@ -51,7 +52,7 @@ impl Core {
         if !are_pages(self.pages.leaves.count(), pages) {
             return Err(StoreFault::NoPage);
         }
-        self.flush_making(true)?;
+        self.flush_making(Spares::All)?;
         self.reserve_cuts(pages.len())?;
         self.rewrite_pages(pages)
     }

@@ -15,6 +15,7 @@ ghost use Rattle.bw_core.specs.Machine.{machine_of};
 ghost use Rattle.bw_core.specs.Settling.{SettleRefuses};
 
 use crate::fault::StoreFault;
+use crate::flush::Spares;
 use crate::store::Core;
 use bw_ring::Feed;
 
@@ -53,7 +54,7 @@ impl Core {
     {
         self.look_beside(feeds);
         self.take_known()?;
-        self.flush_making(false)?;
+        self.flush_making(Spares::ButLast)?;
         Ok(self.intake.len())
     }
 

@@ -12,20 +12,20 @@
 //! `plan`. Several records are planned one behind the other (`groups.rt`) before the first of them
 //! changes a page.
 
-ghost use Rattle.std.specs.Prelude.{◌≡◌, ◌≤◌, ◌<◌, ◌-◌, ◌∷◌, [], Some, None, false, length, IsTrue, IfOk, IfErr, OnOk, MatchResult};
+ghost use Rattle.std.specs.Prelude.{◌≡◌, ◌≤◌, ◌<◌, ◌∷◌, [], false, length, IsTrue, IfOk, IfErr, OnOk, MatchResult};
 ghost use Rattle.std.specs.List.{AllByRecursion};
 ghost use Rattle.std.specs.Option.{IsSomeAnd};
 ghost use Rattle.bw_codec.specs.Grammar.{body_bytes, IsBlock};
 ghost use Rattle.bw_record.specs.Record.{key_of};
 ghost use Rattle.bw_page.specs.Aim.{IsFound};
 ghost use Rattle.bw_page.specs.Leaves.{result_of, HasPages};
-ghost use Rattle.bw_history.specs.Entries.{records};
 ghost use Rattle.bw_core.specs.Fitting.{Fits};
 ghost use Rattle.bw_history.specs.Lanes.{IsWaiting, Dries};
 ghost use Rattle.bw_making.specs.Planning.{listed};
 ghost use Rattle.bw_core.specs.Taking.{TakeLeaves, WaitingLeaves, GroupLeaves, IsPlan, IsStopped, IsUnplanned};
 
 use crate::fault::StoreFault;
+use crate::flush::Spares;
 use crate::store::Core;
 use bw_codec::Record;
 use bw_history::PackedEntry;
@@ -170,7 +170,7 @@ impl Core {
         if self.pages.making.has_room_for(page, item) {
             return self.enter_delta(lane, item, page, found);
         }
-        self.flush_making(false)?;
+        self.flush_making(Spares::ButLast)?;
         self.goes_on()?;
         self.enter_delta(lane, item, page, found)
     }
@@ -187,7 +187,7 @@ impl Core {
         if self.pages.making.has_room(plan.blocks.as_slice()) {
             return self.enter(lane, item, plan.page, plan.back, plan.blocks.as_slice());
         }
-        self.flush_making(false)?;
+        self.flush_making(Spares::ButLast)?;
         let plan = self.plan(page, item)?;
         self.enter(lane, item, plan.page, plan.back, plan.blocks.as_slice())
     }
@@ -227,7 +227,7 @@ impl Core {
             (kept_by self.old holding) result (kept_by self.new holding) }
     {
         let _ = group.len(); // For the proof.
-        self.flush_making(false)?;
+        self.flush_making(Spares::ButLast)?;
         match self.draft(lane, group.as_slice(), entries.as_slice())? {
             Some(draft) => self.enter_all(lane, group, entries, &draft),
             None => unreachable!(),
