@@ -1,9 +1,9 @@
 //! The store itself.
 //!
-//! Its invariants stand with its fields. No cut stands inside a group: a stop could else leave a
-//! part of one. A page that is evicted is one that the frame in the making neither makes nor
-//! splits: it could not be read. What was forgotten of the history is durable: a flush would have
-//! to publish what nobody has any more.
+//! Its fields stand in a struct for each matter, and its invariants with the fields. No cut stands
+//! inside a group of records: a stop could else leave a part of one. A page that is evicted is one
+//! that the frame in the making neither makes nor splits: it could not be read. What was forgotten
+//! of the history is durable: a flush would have to publish what nobody has any more.
 
 ghost use Rattle.std.specs.Prelude.{ℕ, ◌≡◌, ◌≤◌, true, false, length};
 ghost use Rattle.bw_page.specs.Shown.{is_evicted_page};
