@@ -4,13 +4,15 @@ and that they tell nothing of it where standard error is none.
 
     terminal.py [PROGRAM]
 
-An input that comes slowly makes an import as long as is wanted; a store of more than 32 MiB makes what goes over all of it long. Of each
-mode the line on the terminal is written over, is gone at the end, and names the work."""
+An input that comes slowly makes an import as long as is wanted; a store of more than 32 MiB makes what goes over all of it long, where the
+program is held back: it is stopped most of the time until it has told something, so that a fast machine does not end the work within a
+second. Of each mode the line on the terminal is written over, is gone at the end, and names the work."""
 
 import os
 import pty
 import re
 import shutil
+import signal
 import subprocess
 import sys
 import tempfile
@@ -48,7 +50,16 @@ def read_all(end, into):
         into.append(more)
 
 
-def on_terminal(words, shown=False, feed=None, source=subprocess.DEVNULL, start=(PROGRAM,), wanted=0):
+def hold_back(child, told):
+    """Lets a program run a sixth of the time, until it has told something or has ended."""
+    while not told and child.poll() is None:
+        child.send_signal(signal.SIGSTOP)
+        time.sleep(0.1)
+        child.send_signal(signal.SIGCONT)
+        time.sleep(0.02)
+
+
+def on_terminal(words, shown=False, feed=None, source=subprocess.DEVNULL, start=(PROGRAM,), wanted=0, held=False):
     """Runs the program, or another, with standard error on a terminal, and standard output too where it is shown; what it printed to a pipe,
     and what the terminal got."""
     ours, theirs = pty.openpty()
@@ -57,6 +68,8 @@ def on_terminal(words, shown=False, feed=None, source=subprocess.DEVNULL, start=
     child = subprocess.Popen([*start, *words], stdin=subprocess.PIPE if feed else source, stdout=theirs if shown else subprocess.PIPE, stderr=theirs)
     os.close(theirs)
     reader.start()
+    if held:
+        threading.Thread(target=hold_back, args=(child, told)).start()
     if feed:
         feed(child.stdin)
         child.stdin.close()
@@ -123,7 +136,7 @@ def load(folder):
         pairs.writelines(pair_line(number * 7919 % LARGE) for number in range(LARGE))
     store = os.path.join(folder, "store")
     with open(file, "rb") as source:
-        printed, told = on_terminal(["import", "--dir", store], source=source)
+        printed, told = on_terminal(["import", "--dir", store], source=source, held=True)
     over, standing = lines_of(told)
     added = ["folder %s: a segment was added, %d in all" % (store, 5 + number) for number in range(len(standing.splitlines()))]
     ask(printed == b"imported %d\n" % LARGE and standing.splitlines() == added, "a large import printed", printed, standing)
@@ -133,7 +146,7 @@ def load(folder):
 
 def check_mode(words, works, shown=False):
     """A mode over the store: each line that is written over is of one of these works, and none is left; what it printed."""
-    printed, told = on_terminal(words, shown)
+    printed, told = on_terminal(words, shown, held=True)
     over, standing = lines_of(told)
     wanted = re.compile(r"(%s): (%s|\d+ (pairs|pages)).*" % ("|".join(works), BYTES))
     ask(over and all(wanted.fullmatch(it) for it in over), words[0], "told", over)
