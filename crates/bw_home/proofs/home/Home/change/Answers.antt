@@ -17,7 +17,7 @@ returns-in-Ok-clause-changed g c =
     let put = put_changes _ _ _ _ _ c.args.group start one c.in_default.ensures.added c.take_all.ensures.feeds.accepted in
     record {
       put = put;
-      now = now_put c.take_all.new.self.store.start.value.leaves _ _ (same_count _ _ rings one) c.in-Ok.ensures.exactly c.in-Ok.ensures.writers ∙ put;
+      now = now_put c.take_all.new.self.store.origin.start.value.leaves _ _ (same_count _ _ rings one) c.in-Ok.ensures.exactly c.in-Ok.ensures.writers ∙ put;
     }
 
 pub returns-in-Ok-clause-follows : goal.returns-in-Ok-clause-follows

@@ -12,5 +12,5 @@ returns-in-Ok-clause-kept g c =
     let is = c.if-len-ne1.false in
     let one : length c.args.self.now.feeds.items ≡ 1 = omega arith in
     let put = same_map _ _ _ _ c.settle.ensures.sequel.follows.continues.start c.settle.ensures.feeds.accepted in
-    let now = now_put c.settle.new.self.store.start.value.leaves _ _ (same_count _ _ c.settle.ensures.feeds.ends one) c.in-Ok.ensures.goal.exactly c.in-Ok.ensures.goal.writers ∙ put in
-    record { has = record { put = put; now = now }; kept = plain_all c.settle.new.self.store.start.value.leaves _ _ c.in-Ok.ensures.goal.last_cut.1 ∙ now }
+    let now = now_put c.settle.new.self.store.origin.start.value.leaves _ _ (same_count _ _ c.settle.ensures.feeds.ends one) c.in-Ok.ensures.goal.exactly c.in-Ok.ensures.goal.writers ∙ put in
+    record { has = record { put = put; now = now }; kept = plain_all c.settle.new.self.store.origin.start.value.leaves _ _ c.in-Ok.ensures.goal.last_cut.1 ∙ now }
