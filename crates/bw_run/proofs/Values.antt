@@ -2,7 +2,7 @@
 use Rattle.std.proofs.Common.{◌≡◌, ℕ, ◌^◌, ◌<◌, List, [], ◌∷◌, ◌++◌, refl, ◌∙◌, w64}
 use seplogic.Ra.Ura.{Ura}
 use mir.Syntax.{Ty, Sym, ty_int, ty_ptr, ty_struct, tcons, tnil}
-use mir.Val.{Val, vint, vstruct, vcons, vnil, of_list}
+use mir.Val.{Val, vint, vunit, vstruct, vcons, vnil, of_list}
 use base.Logic.{ent, emp}
 use base.Fml.{Fml}
 use types.Logic.{Logic, sem}
@@ -11,17 +11,36 @@ use denote.Builtin.{usize}
 use denote.RawPtr.{Ptr, RawPtr, ptr_val}
 use denote.Shadow.{shadow, makes_shadow}
 use denote.Struct.Struct.{Struct, as_fields}
-use Rattle.std_alloc.proofs.RcSteps.{Good, Ptr-Good, word}
+use Rattle.std_alloc.proofs.RcSteps.{Good, Ptr-Good}
+use Rattle.std_heap.proofs.Global.TheLaws as laws
+use Rattle.std_heap.proofs.Handle.{heap_val, heap_Tells}
+use Rattle.std_heap.specs.contracts.Global as heap
 
 -- a struct by its fields alone: what it owns does not read its name
 abbrev pub plainly : List RattleType → RattleType
 plainly Rs = Struct (record { name = []; args = []; types = []; fields = Rs })
 
-abbrev pub word_own : Ptr → List Val → Fml
-word_own p = (plainly (RawPtr ∷ [])).own_val (p, tt)
+-- a pointer and a `Global`, which has one value
+abbrev pub word : Ptr → Val
+word p = vstruct (vcons (ptr_val p) (vcons heap_val vnil))
 
-pub word_told : (p : Ptr) (vs : List Val) → shadow (word_own p vs) → vs ≡ word p ∷ []
-word_told p vs s = s.1.0 ∙ (λ i. vstruct (of_list (s.1.1.0 i ++ [])) ∷ [])
+abbrev pub word_own : Ptr → heap.the_row.Denot → List Val → Fml
+word_own p h = (plainly (RawPtr ∷ heap.the_row ∷ [])).own_val (p, (h, tt))
+
+pub word_told : (p : Ptr) (h : heap.the_row.Denot) (vs : List Val) → shadow (word_own p h vs) → vs ≡ word p ∷ []
+word_told p h vs s = s.1.0 ∙ (λ i. vstruct (of_list (s.1.1.0 i ++ (heap_Tells h s.0.1.0 s.1.1.1.0 i ++ []))) ∷ [])
+
+pub heap_made : {M : Type 1} {𝓤 : Ura M} (𝓛 : Logic 𝓤) (h : heap.the_row.Denot) → ent 𝓤 (emp 𝓤) (sem 𝓛 (heap.the_row.own_val h (heap_val ∷ [])))
+heap_made 𝓛 h = makes_shadow 𝓛 (heap.the_row.own_val h (heap_val ∷ [])) (λ _. (tt, ((λ _. (tt, (tt, tt))), tt))) ((vstruct (vcons vunit vnil) ∷ [], tt), (refl, (((vunit ∷ [], tt), (refl, (refl, tt))), tt)))
+
+pub word_made : {M : Type 1} {𝓤 : Ura M} (𝓛 : Logic 𝓤) (p : Ptr) (h : heap.the_row.Denot) → ent 𝓤 (emp 𝓤) (sem 𝓛 (word_own p h (word p ∷ [])))
+word_made 𝓛 p h = makes_shadow 𝓛 (word_own p h (word p ∷ [])) (λ _. (tt, (tt, ((λ _. (tt, ((λ _. (tt, (tt, tt))), tt))), tt)))) ((ptr_val p ∷ [], (heap_val ∷ [], tt)), (refl, (refl, (((vstruct (vcons vunit vnil) ∷ [], tt), (refl, (((vunit ∷ [], tt), (refl, (refl, tt))), tt))), tt))))
+
+abbrev pub word_ty : Sym → Ty
+word_ty ν = ty_struct ν (tcons ty_ptr (tcons laws.mir tnil))
+
+pub word-Good : (ν : Sym) (p : Ptr) → Good (word_ty ν) (word p)
+word-Good ν p = as_fields (ty_ptr ∷ laws.mir ∷ []) (ptr_val p ∷ heap_val ∷ []) (Ptr-Good p, ((tt, ((tt, tt), tt)), tt))
 
 -- a pointer and a length
 abbrev pub two_val : Ptr → ℕ → Val

@@ -4,6 +4,5 @@
 
 mod room;
 mod run;
-mod shared;
 
 pub use run::Run;

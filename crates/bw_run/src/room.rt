@@ -4,7 +4,7 @@ ghost use denote.RawPtr.{◌+ₚ◌};
 ghost use Rattle.core.specs.Mem.Slots.{slots_ptr, slots_len, slots_items, IsFull};
 ghost use Rattle.bw_run.specs.Ownership.{room_owns, front_owns};
 
-use crate::shared::Shared;
+use crate::run::Run;
 use core::slots::Slots;
 use std::alloc::{AllocError, Allocator, Global};
 use std::marker::Model;
@@ -69,7 +69,7 @@ impl Room {
 }
 
 impl Front {
-    pub(crate) fn close(self, slots: Slots<u8>) -> Shared
+    pub(crate) fn close(self, slots: Slots<u8>, alloc: Global) -> Run
         requires small { self.len < 2 ^ 16 }
         requires places { (slots_ptr slots ≡ self.ptr +ₚ 10) × (slots_len slots ≡ self.len) }
         requires full { IsFull slots }
@@ -81,6 +81,6 @@ impl Front {
             (*ptr).count = 1;
             (*ptr).len = len as u16;
         }
-        Shared { ptr }
+        Run { ptr, alloc }
     }
 }

@@ -26,25 +26,25 @@ use Rattle.core.specs.declared.option.Option.TheVariants.{None, Some}
 use Rattle.core.specs.Sync.RawAtomic.{word}
 use Rattle.std.proofs.raw_atomic.Calls.{fm, seq_cst, found, finds, subs}
 use Rattle.std.proofs.raw_atomic.Walks.{proved}
-use Rattle.std_alloc.proofs.RcSteps.{some_Good, word as pointer, word-Good, Some-of, none_of, is_so}
+use Rattle.std_alloc.proofs.RcSteps.{some_Good, Some-of, none_of, is_so}
 use Rattle.std_alloc.proofs.VecSteps.Shapes.{after}
 use Rattle.bw_run.specs.Ownership.{contents, room_owns}
 use Rattle.bw_run.specs.contracts.room.Room as room
-use Rattle.bw_run.specs.contracts.shared.Shared.{the_row as R}
-use Rattle.bw_run.specs.contracts.shared.Shared.release as F
+use Rattle.bw_run.specs.contracts.run.Run.{the_row as R}
+use Rattle.bw_run.specs.contracts.run.Run.release as F
 use Rattle.bw_run.proofs.Blocks.{emptied}
 use Rattle.bw_run.proofs.Counts.{one_less, last_after}
 use Rattle.bw_run.proofs.Handles.{name}
-use Rattle.bw_run.proofs.Values.{word_told, two_val, two_own, two_made, two_ty, two-Good}
-use Rattle.bw_run.proofs.shared.Shared.release.Statement.{statement}
-use Rattle.bw_run.proofs.shared.Shared.release.Code as code
+use Rattle.bw_run.proofs.Values.{word as pointer, word-Good, word_told, two_val, two_own, two_made, two_ty, two-Good}
+use Rattle.bw_run.proofs.run.Run.release.Statement.{statement}
+use Rattle.bw_run.proofs.run.Run.release.Code as code
 
 pub release_spec : {M : Type 1} → statement M
 release_spec 𝓤 𝓛 𝓜 𝓡 wired =
     let H = 𝓛.H in let 𝓣 = tables 𝓤 H 𝓜 𝓡 𝓡.env in let c = F.clauses 𝓛 𝓜.mem 𝓡.returns in let fn = code.function in let Out : RattleType = Opt.the_row room.the_row in
     let hs : Stays F.ended.signature.params F.ended.kept = (stay_dropped (plain (λ _. R)) F.ended.kept.0, tt) in
     proved 𝓛 F.ended hs c 𝓜 𝓡 (Goes-dropped 𝓛 0 (plain (λ _. R)) F.ended.kept.0 (λ κs x f. refl), tt) F.Key.name fn (code.unfolded 𝓤 H 𝓜 𝓡 wired)
-    (λ κs. ((λ x. pointer x.ptr ∷ []), tt)) (λ κs. ((λ x vs so. word_told x.ptr vs so.0), tt)) (λ κs qs bounds a gh are.
+    (λ κs. ((λ x. pointer x.ptr ∷ []), tt)) (λ κs. ((λ x vs so. word_told x.ptr x.alloc vs so.0), tt)) (λ κs qs bounds a gh are.
     let p : Ptr = a.0.ptr in let xs : List ℕ = a.0.bytes in let n : ℕ = length xs in let cb : ℕ = block_of p in let at : ℕ = count_of p in let co : ℕ = at + 0 in
     let y : (walk_of 𝓛 F.ended hs c).Ghost = ((κs, qs, bounds, a, (pointer p ∷ [], tt)), gh) in let Post : Val → SProp 𝓤 = (walk_of 𝓛 F.ended hs c).post y in
     let out : (r : Out.Denot) (v : Val) → IfSome r (λ room. room.len < 2 ^ 16) → Sq 𝓛 (‵ (Out.own_val r (v ∷ [])) ∷ []) (prop (Post v)) = λ r v g.
