@@ -4,15 +4,15 @@ ghost use Rattle.std.specs.Prelude.{◌≡◌, ◌≤◌, length, IfOk};
 ghost use Rattle.bw_record.specs.Keys.{ascends};
 
 use crate::key::{Key, Value, is_before};
+use bw_run::Run;
 use std::alloc::{AllocError, Global};
 use std::marker::Model;
-use std::sync::Arc;
 
 /// A key and its value, as pages hold them: their bytes are one run of memory, which pairs share.
 #[derive(Drop)]
 pub struct Pair {
     /// The key's length, the key's bytes, and the value's.
-    run: Arc<Vec<u8>, Global>,
+    run: Run,
 }
 
 impl Model for Pair {
@@ -21,9 +21,9 @@ impl Model for Pair {
 
     ghost Value = { List ℕ × List ℕ };
 
-    ghost view = { λ p. paired p.run.value.items };
+    ghost view = { λ p. paired p.run.bytes };
 
-    ghost invariant = { λ p. IsPaired p.run.value.items };
+    ghost invariant = { λ p. IsPaired p.run.bytes };
 }
 
 impl Pair {
@@ -42,11 +42,7 @@ impl Pair {
         requires value { length value.now ≤ 512 }
         ensures { IfOk result (λ pair. pair ≡ (key.now, value.now)) }
     {
-        let mut bytes = Vec::with_capacity(alloc, 1 + key.len() + value.len())?;
-        bytes.push(key.len() as u8)?;
-        bytes.extend_from_slice(key)?;
-        bytes.extend_from_slice(value)?;
-        let run = Arc::new(alloc, bytes)?;
+        let run = Run::of_parts(alloc, key.len() as u8, key, value)?;
         Ok(Pair { run })
     }
 
@@ -97,7 +93,7 @@ impl Pair {
     pub fn copy(&self) -> Result<Pair, AllocError>
         ensures { IfOk result (λ pair. pair ≡ self.now) }
     {
-        let run = Arc::try_clone(&self.run)?;
+        let run = self.run.share()?;
         Ok(Pair { run })
     }
 }
