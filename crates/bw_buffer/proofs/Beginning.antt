@@ -36,7 +36,7 @@ begun a b =
     record {
       rows = subst (λ (rs : List Row). AreRows 0 rs (parts_of a) []) (sym b.rows) tt;
       within = subst (λ (qs : List Piece). All (λ q. q.block < length a.rows.items) qs) (sym b.pieces) tt;
-      cut = ap pieces_length b.pieces ∙ sym none_bytes;
+      parted = ap pieces_length b.pieces ∙ sym none_bytes;
       size = b.size;
       lawful = tt;
       told = b.told;

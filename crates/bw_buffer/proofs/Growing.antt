@@ -139,7 +139,7 @@ pushed a b block xs row q x =
     let count : length a.rows.items ≡ length bs = rows_count 0 a.rows.items (parts_of a) bs h.rows in
     let now : parts_of b ≡ parts_of a ++ (q.block, xs) ∷ [] =
     ap (λ (qs : List Piece). parts qs b.arena.items) x.pieces ∙ ap (λ (l : List ℕ). parts (a.pieces.items ++ q ∷ []) l) x.arena
-    ∙ parts_more a.pieces.items a.arena.items q xs h.cut x.piece.1 in
+    ∙ parts_more a.pieces.items a.arena.items q xs h.parted x.piece.1 in
     let none : bytes_at q.block (parts_of a) ≡ [] = none_at q.block (length a.rows.items) a.pieces.items a.arena.items
     (let e = x.piece.0 in omega arith) h.within in
     let rows : AreRows 0 (a.rows.items ++ row ∷ []) (parts_of a ++ (q.block, xs) ∷ []) (bs ++ block ∷ []) =
@@ -168,7 +168,7 @@ pushed a b block xs row q x =
           (all-append (λ y. y.block < length b.rows.items) a.pieces.items (q ∷ [])
           (all-into (λ y. y.block < length a.rows.items) (λ y. y.block < length b.rows.items) a.pieces.items (λ y lt. omega arith) h.within)
           ((let e = x.piece.0 in omega arith), tt));
-      cut = ap pieces_length x.pieces ∙ length_more a.pieces.items q ∙ (let e = x.piece.1 in let c = h.cut in omega arith);
+      parted = ap pieces_length x.pieces ∙ length_more a.pieces.items q ∙ (let e = x.piece.1 in let c = h.parted in omega arith);
       size = (let s = h.size in omega arith);
       lawful = all-append (IsBlock 32) bs (block ∷ []) h.lawful (x.lawful, tt);
       told = λ p. x.told p ∙ ap (λ (n : ℕ). open_after p n block (index_at a.deltas p)) count ∙ ap (open_after p (length bs) block) (h.told p)
@@ -233,7 +233,7 @@ lengthened a b page at back ops xs row q x =
     let more = s.before ++ Delta page s.back (s.was ++ ops) ∷ s.behind in
     let now : parts_of b ≡ parts_of a ++ (at, xs) ∷ [] =
     ap (λ (qs : List Piece). parts qs b.arena.items) x.pieces ∙ ap (λ (l : List ℕ). parts (a.pieces.items ++ q ∷ []) l) x.arena
-    ∙ parts_more a.pieces.items a.arena.items q xs h.cut x.piece.1
+    ∙ parts_more a.pieces.items a.arena.items q xs h.parted x.piece.1
     ∙ ap (λ (n : ℕ). parts_of a ++ (n, xs) ∷ []) x.piece.0 in
     let rows : AreRows 0 (set a.rows.items at (longer row (length ops) (length xs))) (parts_of a ++ (at, xs) ∷ []) more =
     subst (λ (n : ℕ). AreRows 0 (set a.rows.items at (longer row (length ops) (length xs))) (parts_of a ++ (n, xs) ∷ []) more) (omega arith)
@@ -279,7 +279,7 @@ lengthened a b page at back ops xs row q x =
           (all-append (λ y. y.block < length b.rows.items) a.pieces.items (q ∷ [])
           (all-into (λ y. y.block < length a.rows.items) (λ y. y.block < length b.rows.items) a.pieces.items (λ y lt. omega arith) h.within)
           ((let e = x.piece.0 in let w = get_within a.rows.items at row x.stands in omega arith), tt));
-      cut = ap pieces_length x.pieces ∙ length_more a.pieces.items q ∙ (let e = x.piece.1 in let c = h.cut in omega arith);
+      parted = ap pieces_length x.pieces ∙ length_more a.pieces.items q ∙ (let e = x.piece.1 in let c = h.parted in omega arith);
       size = (let z = h.size in omega arith);
       lawful = all-middle (IsBlock 32) s.before (Delta page s.back (s.was ++ ops)) s.behind parts_lawful.1
           (record {

@@ -226,7 +226,7 @@ step_at : (head : List ℕ) (rows : List Row) (qs : List Piece) (arena : List �
     → All (λ p. p.block < length rows) qs → pieces_length qs ≡ length arena → j < length qs → q ≡ get_or qs j q
     → Stepped head rows qs arena j q (drop (pieces_length (take j qs)) arena) (head ++ filled 0 rows (take j (parts qs arena)))
     (ends 20 0 rows (take j (parts qs arena)))
-step_at head rows qs arena j q twenty measured within cut lt is =
+step_at head rows qs arena j q twenty measured within parted lt is =
     let whole = parts qs arena in
     let done = take j whole in
     let from = pieces_length (take j qs) in
@@ -263,12 +263,12 @@ pub piece_step : (head : List ℕ) (rows : List Row) (qs : List Piece) (arena : 
     → AreMeasured 0 rows (parts qs arena) → All (λ p. p.block < length rows) qs → pieces_length qs ≡ length arena → j < length qs → q ≡ get_or qs j q
     → rest ≡ drop (pieces_length (take j qs)) arena → bytes ≡ head ++ filled 0 rows (take j (parts qs arena)) → spots ≡ ends 20 0 rows (take j (parts qs arena))
     → Stepped head rows qs arena j q rest bytes spots
-piece_step head rows qs arena j q rest bytes spots twenty measured within cut lt is left told ended =
+piece_step head rows qs arena j q rest bytes spots twenty measured within parted lt is left told ended =
     subst (λ (l : List ℕ). Stepped head rows qs arena j q rest bytes l) (sym ended)
     (subst (λ (l : List ℕ). Stepped head rows qs arena j q rest l (ends 20 0 rows (take j (parts qs arena)))) (sym told)
     (subst (λ (l : List ℕ). Stepped head rows qs arena j q l (head ++ filled 0 rows (take j (parts qs arena)))
     (ends 20 0 rows (take j (parts qs arena)))) (sym left)
-    (step_at head rows qs arena j q twenty measured within cut lt is)))
+    (step_at head rows qs arena j q twenty measured within parted lt is)))
 
 -- all pieces are written once the last one is
 pub all_written : (rows : List Row) (qs : List Piece) (arena : List ℕ) (j : ℕ) → length qs ≤ j → AreMeasured 0 rows (parts qs arena)

@@ -24,9 +24,9 @@ use Rattle.bw_buffer.specs.declared.rows.Piece.{Piece}
 
 pub parts_more : (qs : List Piece) (bytes : List ℕ) (q : Piece) (xs : List ℕ) → pieces_length qs ≡ length bytes → q.len ≡ length xs
     → parts (qs ++ q ∷ []) (bytes ++ xs) ≡ parts qs bytes ++ (q.block, xs) ∷ []
-parts_more [] [] q xs cut len = ap (λ (l : List ℕ). (q.block, l) ∷ []) (take_all q.len xs (omega arith))
-parts_more [] (b ∷ bs) q xs cut len = absurd (omega arith)
-parts_more (p ∷ ps) bytes q xs cut len =
+parts_more [] [] q xs parted len = ap (λ (l : List ℕ). (q.block, l) ∷ []) (take_all q.len xs (omega arith))
+parts_more [] (b ∷ bs) q xs parted len = absurd (omega arith)
+parts_more (p ∷ ps) bytes q xs parted len =
     let rest : pieces_length ps ≡ length (drop p.len bytes) = (let e = Rattle.std.proofs.Common.length-drop p.len bytes in omega arith) in
     ap (λ (l : List ℕ). (p.block, l) ∷ parts (ps ++ q ∷ []) (drop p.len (bytes ++ xs))) (take-append-le p.len bytes xs (omega arith))
     ∙ ap (λ (l : List ℕ). (p.block, take p.len bytes) ∷ parts (ps ++ q ∷ []) l) (drop-append-le p.len bytes xs (omega arith))

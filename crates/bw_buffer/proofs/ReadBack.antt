@@ -36,7 +36,7 @@ front_short (Splits page upper) back ops = omega arith
 -- the next piece stands at the front of what is left
 pub piece_inside : (qs : List Piece) (arena rest : List ℕ) (j : ℕ) (q : Piece) → pieces_length qs ≡ length arena → j < length qs → q ≡ get_or qs j q
     → rest ≡ drop (pieces_length (take j qs)) arena → q.len ≤ length rest
-piece_inside qs arena rest j q cut lt is left =
+piece_inside qs arena rest j q parted lt is left =
     let gone = pieces_take qs j q lt is in
     let upto = pieces_within qs (j + 1) in
     omega (arith, ap (λ (l : List ℕ). length l) left, length-drop (pieces_length (take j qs)) arena)
@@ -50,13 +50,13 @@ pub piece_next : (front : List ℕ) (i : ℕ) (qs : List Piece) (arena rest : Li
     → q ≡ get_or qs j q → rest ≡ drop (pieces_length (take j qs)) arena → piece ≡ take q.len rest
     → old ≡ front ++ bytes_at i (take j (parts qs arena)) → new ≡ old ++ (if q.block == i then piece else [])
     → new ≡ front ++ bytes_at i (take (j + 1) (parts qs arena))
-piece_next front i qs arena rest j q old new piece lt is left cut was more =
+piece_next front i qs arena rest j q old new piece lt is left parted was more =
     let done = bytes_at i (take j (parts qs arena)) in
     let part = take q.len (drop (pieces_length (take j qs)) arena) in
     let its = if q.block == i then part else [] in
     more
     ∙ ap (λ (l : List ℕ). l ++ (if q.block == i then piece else [])) was
-    ∙ ap (λ (l : List ℕ). (front ++ done) ++ (if q.block == i then l else [])) (cut ∙ ap (take q.len) left)
+    ∙ ap (λ (l : List ℕ). (front ++ done) ++ (if q.block == i then l else [])) (parted ∙ ap (take q.len) left)
     ∙ append_assoc front done its
     ∙ ap (λ (l : List ℕ). front ++ (done ++ l)) (sym (append-nil its))
     ∙ ap (λ (l : List ℕ). front ++ l) (sym (flat_map-append (λ (x : ℕ × List ℕ). if x.0 == i then x.1 else []) (take j (parts qs arena)) ((q.block, part) ∷ [])))

@@ -45,7 +45,7 @@ pub laid_out : (a : Inside) (spots bytes : Vec ℕ Global) → IsLaid a → vec_
 laid_out a spots bytes h spots_room bytes_room is = record {
   rows = h.rows;
   within = h.within;
-  cut = h.cut;
+  parted = h.parted;
   size = h.size;
   lawful = h.lawful;
   told = h.told;

@@ -38,7 +38,7 @@ filling_of a = record { frame = a.frame; limit = a.limit; blocks = blocks_of a; 
 pub record Holds (a : Inside) (blocks : List Block) : Type 0 where
   pub rows : AreRows 0 a.rows.items (parts_of a) blocks
   pub within : AllByRecursion (λ q. q.block < length a.rows.items) a.pieces.items
-  pub cut : pieces_length a.pieces.items ≡ length a.arena.items
+  pub parted : pieces_length a.pieces.items ≡ length a.arena.items
   pub size : a.size ≡ 20 + length (body_bytes blocks)
   pub lawful : AllByRecursion (IsBlock 32) blocks
   -- the map tells the last block of each page, where that is a Delta

@@ -6,7 +6,7 @@ use Rattle.bw_codec.specs.declared.block.Block.TheVariants.{Delta, Base, Split}
 use Rattle.bw_buffer.specs.declared.mark.Mark.{Mark}
 use Rattle.bw_buffer.specs.declared.mark.Mark.TheVariants.{Changes, Sets, Splits}
 
--- a Delta changes a page, a Base sets one, and a Split cuts one and sets another
+-- a Delta changes a page, a Base sets one, and a Split splits one and sets another
 abbrev pub mark_of : Block → Mark
 mark_of (Delta page back ops) = Changes page
 mark_of (Base leaf) = Sets leaf.page

@@ -18,7 +18,7 @@ use Rattle.bw_buffer.specs.declared.rows.Piece.{Piece}
 abbrev pub Parts : Type 0
 Parts = List (ℕ × List ℕ)
 
--- an arena cut into its pieces
+-- an arena parted into its pieces
 abbrev pub parts : List Piece → List ℕ → Parts
 parts [] bytes = []
 parts (q ∷ qs) bytes = (q.block, take q.len bytes) ∷ parts qs (drop q.len bytes)

@@ -28,7 +28,7 @@ pub(crate) fn spelled(
     arena: &[u8],
 ) -> Result<Vec<u8>, AllocError>
     requires few { IsFewBy row.now.mark row.now.ops }
-    requires cut { pieces_length pieces.now ≡ length arena.now }
+    requires parted { pieces_length pieces.now ≡ length arena.now }
     ensures { IfOk result (λ bytes. bytes.items
         ≡ front_of row.now ++ bytes_at block (parts pieces.now arena.now)) }
 {

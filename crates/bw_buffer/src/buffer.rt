@@ -663,7 +663,7 @@ fn whole_row(mark: Mark, len: u32) -> Row
     }
 }
 
-// No Delta joins the blocks of the pages that a block sets or cuts.
+// No Delta joins the blocks of the pages that a block sets or splits.
 fn close(index: &mut Index, mark: Mark)
     ensures value { (q : ℕ) → index_at index.new q
         ≡ (if is_closed_by q mark then None else index_at index.old q) }

@@ -108,7 +108,7 @@ pub(crate) fn lay_out(
 )
     requires measured { AreMeasured 0 rows.now (parts pieces.now arena.now) }
     requires within { AllByRecursion (λ q. q.block < length rows.now) pieces.now }
-    requires cut { pieces_length pieces.now ≡ length arena.now }
+    requires parted { pieces_length pieces.now ≡ length arena.now }
     requires size { size ≡ 20 + length (laid 0 rows.now (parts pieces.now arena.now)) }
     requires short { size ≤ 262144 }
     requires few { length rows.now < 2 ^ 32 }

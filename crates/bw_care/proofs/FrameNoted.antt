@@ -172,7 +172,7 @@ some_spelled (Split page back upper) = omega arith
 page_by : (m : ℕ) (b : Block) → IsBlock m b → 1 ≤ (outline_of latest b).page
 page_by m (Delta page back ops) law = law.changes.0
 page_by m (Base leaf) law = law.page.0
-page_by m (Split page back upper) law = law.cuts.0
+page_by m (Split page back upper) law = law.splits.0
 
 pub page_told : {c : Contents} {bytes : List ℕ} {line : FrameAt} {end at count : ℕ} {n : Noting c bytes line end at count} {o : Outline} → Step n o → 1 ≤ o.page
 page_told {c} {bytes} {line} {end} {at} {count} {n} {o} s =

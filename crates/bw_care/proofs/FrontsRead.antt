@@ -312,6 +312,6 @@ pub ends_parts : (k : Header) (bytes : List ℕ) (at : ℕ) (frames : List Frame
     → Ends k bytes at frames → drop 24 bytes ≡ flat_map (frame_bytes_in k.version) frames ++ rest_of k bytes
 ends_parts k bytes at frames lines r e = r.parts ∙ ap (λ (b : List ℕ). flat_map (frame_bytes_in k.version) frames ++ b) (sym e.rest)
 
-pub ends_cut : (k : Header) (bytes : List ℕ) (at : ℕ) (frames : List Frame) → Ends k bytes at frames → IsFront k.version k.m k.f (drop at bytes) Tail
+pub ends_torn : (k : Header) (bytes : List ℕ) (at : ℕ) (frames : List Frame) → Ends k bytes at frames → IsFront k.version k.m k.f (drop at bytes) Tail
     → IsTailIn k.version k.f (rest_of k bytes)
-ends_cut k bytes at frames e there = subst (IsTailIn k.version k.f) (sym e.rest) there
+ends_torn k bytes at frames e there = subst (IsTailIn k.version k.f) (sym e.rest) there

@@ -61,7 +61,7 @@ pub live_is : (bytes : List ℕ) (h : Header) (b : Behind) → IsHeading bytes (
 live_is bytes h b there is = record {
   lawful = there.0;
   each = is.laws;
-  tail = is.cut;
+  tail = is.torn;
   parts = there.2 ∙ ap (λ (r : List ℕ). header_bytes h ++ r)
       (sym (ap (λ (r : List ℕ). drop 24 r) there.2 ∙ drop_at (header_bytes h) there.1 24 (length-header h)) ∙ is.parts);
 }

@@ -268,7 +268,7 @@ like_at l n r like number = like ∙ ap (header_in l) number
 
 one_live : (l : Limits) (n : ℕ) (h : Holding) (r : Found) → IsScan h.bytes (Live r.header r.behind) → r.header.number ≡ n → IsLike l r → IsLive l n h.bytes
 one_live l n h r is number like = record {
-  cut = rest_of r.header h.bytes;
+  torn = rest_of r.header h.bytes;
   whole = subst (λ (k : Header). IsWhole h.bytes k (segment_frames h.bytes) (rest_of r.header h.bytes)) (like_at l n r like number)
       (subst (λ (fs : List Frame). IsWhole h.bytes r.header fs (rest_of r.header h.bytes)) (sym (frames_here h r is))
       (live_is h.bytes r.header r.behind is.3 is.2));

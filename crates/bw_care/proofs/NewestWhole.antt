@@ -35,7 +35,7 @@ one_clean l n h r is number like e =
     let at = like_at l n r like number in
     let new : version_at l.old_to n ≡ 2 = sym (ap (λ (k : Header). k.version) at) ∙ eqb-true r.header.version 2 two.0 in
     let header : r.header ≡ header_with n l.m l.f = at ∙ one_by l n (nat_le n l.old_to) refl new in
-    subst (λ (cut : List ℕ). IsWhole h.bytes (header_with n l.m l.f) (segment_frames h.bytes) cut) none
+    subst (λ (torn : List ℕ). IsWhole h.bytes (header_with n l.m l.f) (segment_frames h.bytes) torn) none
     (subst (λ (k : Header). IsWhole h.bytes k (segment_frames h.bytes) (rest_of r.header h.bytes)) header
     (subst (λ (fs : List Frame). IsWhole h.bytes r.header fs (rest_of r.header h.bytes)) (sym (frames_here h r is))
     (live_is h.bytes r.header r.behind is.3 is.2)))

@@ -35,7 +35,7 @@ head_of z n = log.header_in z n
 
 pub live_heading : (z : Limits) (n : ℕ) (bytes : List ℕ) → IsLive z n bytes → heading_of bytes ≡ heading.Whole (head_of z n)
 live_heading z n bytes live = ap heading_of live.whole.parts ∙ header_again (head_of z n)
-    (flat_map (frame_bytes_in (head_of z n).version) (segment_frames bytes) ++ live.cut) live.whole.lawful
+    (flat_map (frame_bytes_in (head_of z n).version) (segment_frames bytes) ++ live.torn) live.whole.lawful
 
 pub live_header : (z : Limits) (n : ℕ) (bytes : List ℕ) → IsLive z n bytes → header_in bytes ≡ head_of z n
 live_header z n bytes live = sym (header_is bytes (head_of z n) (live_heading z n bytes live))
@@ -48,24 +48,24 @@ limit_small : (h : Header) → IsHeader h → h.f < 2 ^ 32
 limit_small h law = greatest_by (h.version == 1) h.f law.f.1
 
 -- what follows its last whole frame is its tail
-live_rest : (z : Limits) (n : ℕ) (bytes : List ℕ) (live : IsLive z n bytes) → rest_of (head_of z n) bytes ≡ live.cut
+live_rest : (z : Limits) (n : ℕ) (bytes : List ℕ) (live : IsLive z n bytes) → rest_of (head_of z n) bytes ≡ live.torn
 unfolding rest_of
 live_rest z n bytes live =
     let h = head_of z n in
     let fs = segment_frames bytes in
-    let rest = flat_map (frame_bytes_in h.version) fs ++ live.cut in
+    let rest = flat_map (frame_bytes_in h.version) fs ++ live.torn in
     let ms = live.whole.lawful.m in
     let left : drop 24 bytes ≡ rest = ap (λ (b : List ℕ). drop 24 b) live.whole.parts ∙ drop_at (header_bytes h) rest 24 (length-header h) in
     let size = ap (λ (b : List ℕ). length b) live.whole.parts in
     let few : length fs ≤ length bytes =
-    omega (arith, size, frames_few h.version fs, length-append (header_bytes h) rest, length-append (flat_map (frame_bytes_in h.version) fs) live.cut) in
+    omega (arith, size, frames_few h.version fs, length-append (header_bytes h) rest, length-append (flat_map (frame_bytes_in h.version) fs) live.torn) in
     ap (λ (b : List ℕ). (frames_at (length bytes) h.version h.m h.f b).1) left
-    ∙ ap (λ (r : List Frame × List ℕ). r.1) (frames_read h.version (length bytes) h.m h.f fs live.cut (omega arith) (limit_small h live.whole.lawful)
+    ∙ ap (λ (r : List Frame × List ℕ). r.1) (frames_read h.version (length bytes) h.m h.f fs live.torn (omega arith) (limit_small h live.whole.lawful)
     live.whole.each live.whole.tail few)
 
 pub live_long : (z : Limits) (n : ℕ) (bytes : List ℕ) → IsLive z n bytes → 24 ≤ length bytes
 live_long z n bytes live =
-    header_long bytes (head_of z n) (live.whole.lawful, flat_map (frame_bytes_in (head_of z n).version) (segment_frames bytes) ++ live.cut, live.whole.parts)
+    header_long bytes (head_of z n) (live.whole.lawful, flat_map (frame_bytes_in (head_of z n).version) (segment_frames bytes) ++ live.torn, live.whole.parts)
 
 pub live_ends : (z : Limits) (n : ℕ) (bytes : List ℕ) → IsLive z n bytes → EndsInTail (head_of z n) bytes
 live_ends z n bytes live =
@@ -73,7 +73,7 @@ live_ends z n bytes live =
     let ms = live.whole.lawful.m in
     let front : front_at h.version h.m h.f (rest_of h bytes) ≡ Some Tail =
     ap (front_at h.version h.m h.f) (live_rest z n bytes live)
-    ∙ is_front h.version h.m h.f live.cut Tail (omega arith) (limit_small h live.whole.lawful) live.whole.tail in
+    ∙ is_front h.version h.m h.f live.torn Tail (omega arith) (limit_small h live.whole.lawful) live.whole.tail in
     ap (fault_by (length bytes - length (rest_of h bytes))) front
 
 -- its bytes have no fault

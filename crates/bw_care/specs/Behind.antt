@@ -24,4 +24,4 @@ pub record IsBehind (head : Header) (bytes : List ℕ) (b : Behind) : Type 0 whe
   pub lawful : EndsInTail head bytes
   pub laws : AllByRecursion (IsFrameIn head.version head.m head.f) (frames_behind head bytes)
   pub parts : drop 24 bytes ≡ flat_map (frame_bytes_in head.version) (frames_behind head bytes) ++ rest_of head bytes
-  pub cut : IsTailIn head.version head.f (rest_of head bytes)
+  pub torn : IsTailIn head.version head.f (rest_of head bytes)

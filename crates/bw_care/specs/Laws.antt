@@ -72,11 +72,11 @@ SortedBoxesEmpty =
     (l : Limits) (number : ℕ) (live loose : List Holding) → AreSorted l number live loose → frames_held live ≡ []
     → recovery (live ++ loose) ≡ Err Empty
 
--- ---- cuts
+-- ---- shortened segments
 
--- the newest segment is cut at a length
-abbrev pub cut_newest : ℕ → List Holding → List Holding
-cut_newest n live = with_last (λ h. record h { bytes = take n h.bytes }) live
+-- the newest segment is shortened to a length
+abbrev pub shorten_newest : ℕ → List Holding → List Holding
+shorten_newest n live = with_last (λ h. record h { bytes = take n h.bytes }) live
 
 -- ---- a log's own boxes
 
@@ -103,11 +103,11 @@ FoundAs m hs frames =
     ((leaves : List Leaf) → Stand m frames leaves → IsFound hs frames leaves)
     × (frames ≡ [] → (recovery hs ≡ Err Empty) × (frames_in hs ≡ []))
 
--- the boxes of a sound log that has not failed, with its newest segment cut at any length, at 0 only where a spare may have its room
-abbrev pub OwnCutsFound : Type 0
-OwnCutsFound =
+-- the boxes of a sound log that has not failed, with its newest segment shortened to any length, at 0 only where a spare may have its room
+abbrev pub OwnShortenedFound : Type 0
+OwnShortenedFound =
     (c : Contents) (n : ℕ) → IsSound c → c.is_failed ≡ false → (n ≡ 0 → IfSome (last_of c.live) (IsRoomy c.f))
-    → FoundAs c.m (cut_newest n c.live ++ c.spares) (frames_held (cut_newest n c.live))
+    → FoundAs c.m (shorten_newest n c.live ++ c.spares) (frames_held (shorten_newest n c.live))
 
 -- the boxes of a sound log that has failed, with whatever the failed append left
 abbrev pub OwnStopFound : Type 0

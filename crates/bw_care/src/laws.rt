@@ -1,6 +1,6 @@
 //! Laws over the definitions alone.
 
-ghost use Rattle.bw_care.specs.Laws.{FoundStand, StandingUnfaulted, OwnBoxesFound, WholeBoxesFound, SortedBoxesFound, SortedBoxesEmpty, OwnCutsFound, OwnStopFound};
+ghost use Rattle.bw_care.specs.Laws.{FoundStand, StandingUnfaulted, OwnBoxesFound, WholeBoxesFound, SortedBoxesFound, SortedBoxesEmpty, OwnShortenedFound, OwnStopFound};
 
 /// Where no page of some frames is at fault, the frames stand for the leaves that are found.
 pub fn found_leaves_stand()
@@ -36,10 +36,10 @@ pub fn sorted_boxes_may_be_empty()
     ensures { SortedBoxesEmpty }
 {}
 
-/// A log that has not failed may be cut at any length of its newest segment: recovery of its boxes
+/// A log that has not failed may have its newest segment shortened to any length: recovery of its boxes
 /// finds the leaves for which the whole frames left stand, or tells that there is none.
-pub fn cut_boxes_are_found()
-    ensures { OwnCutsFound }
+pub fn shortened_boxes_are_found()
+    ensures { OwnShortenedFound }
 {}
 
 /// A log that has failed can be taken up again, whatever its failed append left: recovery of its

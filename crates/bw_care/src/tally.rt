@@ -20,7 +20,7 @@ pub struct Counters {
     pub cleaner_frames: u64,
     /// By how many bytes the live segments grew while the cleaner was at work.
     pub cleaner_bytes: u64,
-    /// Pages made by cutting another in two.
+    /// Pages made by splitting another in two.
     pub splits: u64,
     /// Pages dropped from memory by `evict`.
     pub evictions: u64,

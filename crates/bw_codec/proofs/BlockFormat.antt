@@ -396,7 +396,7 @@ split_takes v m bytes x rest fits read =
     (record {
       parts = ap (λ (r : List ℕ). 3 ∷ r) parts;
       lawful = record {
-        cuts = page.lawful;
+        splits = page.lawful;
         links = back.lawful;
         makes = upper.lawful.makes;
         low = upper.lawful.low;
@@ -411,7 +411,7 @@ split_again : (v : ℕ) → (m page : ℕ) (back : Place) (upper : Leaf) (rest :
 unfolding split_at
 split_again v m page back upper rest small law =
     rw (
-      again_on (number_bytes 4) IsPage page_at page_format page (place_bytes back ++ upper_bytes_in v upper) rest law.cuts,
+      again_on (number_bytes 4) IsPage page_at page_format page (place_bytes back ++ upper_bytes_in v upper) rest law.splits,
       again_on place_bytes IsPlace place_at place_format back (upper_bytes_in v upper) rest law.links,
       (upper_again v) m upper rest small (record { makes = law.makes; low = law.low; count = law.count; page = law.new.0 }),
       ne_eqb upper.page page law.new.1,

@@ -1,4 +1,4 @@
--- What stands at the front of bytes: a whole frame, a frame cut off, or neither.
+-- What stands at the front of bytes: a whole frame, a frame that is torn, or neither.
 
 use Rattle.std.proofs.Common.{◌≡◌, ℕ, zero, suc, ◌+◌, ◌-◌, ◌^◌, ◌<◌, ◌≤◌, ◌==◌, ◌&&◌, inl, inr, true, false, if◌then◌else◌, Option, Some, None, List, [], ◌∷◌}
 use Rattle.std.proofs.Common.{◌++◌, length, take, drop, nat_lt, nat_le, refl, sym, ap, subst, ◌∙◌, append_assoc, append-nil, arith, length-append, length-take}
@@ -39,10 +39,10 @@ agrees_begins (w ∷ ws) (b ∷ bs) long same =
     ap (λ (x : ℕ). x ∷ bs) first ∙ ap (λ (r : List ℕ). w ∷ r) others
 
 -- a beginning of what begins with a word agrees with it
-pub agrees_cut : (word rest : List ℕ) (n : ℕ) → agrees (take n (word ++ rest)) word ≡ true
-agrees_cut [] rest n = refl
-agrees_cut (w ∷ ws) rest zero = refl
-agrees_cut (w ∷ ws) rest (suc n) = and_from (w == w) (agrees (take n (ws ++ rest)) ws) (eq-eqb w w refl) (agrees_cut ws rest n)
+pub agrees_shortened : (word rest : List ℕ) (n : ℕ) → agrees (take n (word ++ rest)) word ≡ true
+agrees_shortened [] rest n = refl
+agrees_shortened (w ∷ ws) rest zero = refl
+agrees_shortened (w ∷ ws) rest (suc n) = and_from (w == w) (agrees (take n (ws ++ rest)) ws) (eq-eqb w w refl) (agrees_shortened ws rest n)
 
 pub agrees_whole : (word rest : List ℕ) → agrees (word ++ rest) word ≡ true
 agrees_whole [] rest = refl
@@ -198,7 +198,7 @@ front_is v m f bytes read small fits e =
           (λ t. nat_lt (length h.0.1) h.0.0.body ≡ t
           → (if t then Some Tail else (many_at (block_at v m) h.0.0.blocks (take h.0.0.body h.0.1) >>= λ blocks. if length blocks.1 == 0 then Some
           (Whole (record { number = h.0.0.number; blocks = blocks.0 }) (h.0.0.body + 20)) else None)) ≡ Some read → IsFront v m f bytes read) [
-            | true ↦ λ cut tail. subst (IsFront v m f bytes) (found tail) (inr (h.0.0, h.0.1, head.lawful, ltb-true (length h.0.1) h.0.0.body cut, head.parts))
+            | true ↦ λ torn tail. subst (IsFront v m f bytes) (found tail) (inr (h.0.0, h.0.1, head.lawful, ltb-true (length h.0.1) h.0.0.body torn, head.parts))
             | false ↦ λ there whole. (
                 let b = bind_some (many_at (block_at v m) h.0.0.blocks (take h.0.0.body h.0.1))
                 (λ blocks. if length blocks.1 == 0 then Some (Whole (record { number = h.0.0.number; blocks = blocks.0 }) (h.0.0.body + 20)) else
@@ -212,11 +212,11 @@ front_is v m f bytes read small fits e =
 tail_read : (v : ℕ) → (m f : ℕ) (h : Head) (rest : List ℕ) → f < 2 ^ 32 → LawfulHead f h → length rest < h.body
     → front_at v m f (spelled_head v h ++ rest) ≡ Some Tail
 unfolding front_at
-tail_read v m f h rest limit law cut =
+tail_read v m f h rest limit law torn =
     let fits = law.fits in
     let long : nat_lt (length (spelled_head v h ++ rest)) 20 ≡ false =
     le-ltb (length (spelled_head v h ++ rest)) 20 (omega (arith, length-head v h.number h.body h.blocks, length-append (spelled_head v h) rest)) in
-    rw (long, head_again v f h rest (omega arith) law, lt-ltb (length rest) h.body cut) refl
+    rw (long, head_again v f h rest (omega arith) law, lt-ltb (length rest) h.body torn) refl
 
 frame_read : (v : ℕ) → (m f : ℕ) (frame : Frame) (rest : List ℕ) → m < 2 ^ 16 → f < 2 ^ 32 → IsFrameIn v m f frame
     → front_at v m f (frame_bytes_in v frame ++ rest) ≡ Some (Whole frame (length (body_bytes_in v frame.blocks) + 20))
@@ -257,7 +257,7 @@ is_front v m f bytes (Whole frame used) small limit front =
     ) in
     ap (front_at v m f) front.2 ∙ frame_read v m f frame front.1 small limit front.0 ∙ ap (λ (n : ℕ). Some (Whole frame n)) size
 is_front v m f bytes Tail small limit (inl short) = short_read v m f bytes short.0 short.1
-is_front v m f bytes Tail small limit (inr cut) = ap (front_at v m f) cut.4 ∙ tail_read v m f cut.0 cut.1 limit cut.2 cut.3
+is_front v m f bytes Tail small limit (inr torn) = ap (front_at v m f) torn.4 ∙ tail_read v m f torn.0 torn.1 limit torn.2 torn.3
 
 -- ---- laws
 
@@ -276,7 +276,7 @@ take_over xs ys n h = ap (λ (k : ℕ). take k (xs ++ ys)) (omega arith) ∙ tak
 agrees_word : (v : ℕ) → (a : Frame) (n : ℕ) → agrees (take n (frame_bytes_in v a)) (frame_word v) ≡ true
 agrees_word v a n =
     let body = body_bytes_in v a.blocks in
-    agrees_cut (frame_word v) ((number_bytes 8 a.number ++ (number_bytes 4 (length body) ++ number_bytes 4 (length a.blocks))) ++ body) n
+    agrees_shortened (frame_word v) ((number_bytes 8 a.number ++ (number_bytes 4 (length body) ++ number_bytes 4 (length a.blocks))) ++ body) n
 
 pub beginnings_are_tails : BeginningsAreTails
 beginnings_are_tails v m f a n law short =
@@ -286,10 +286,10 @@ beginnings_are_tails v m f a n law short =
     elim (cases_lt n 20) [
       | inl inside ↦ inl (omega (arith, length-take n (frame_bytes_in v a)), agrees_word v a n)
       | inr beyond ↦ (
-          let cut : length (take (n - 20) body) < length body = omega (arith, length-take (n - 20) body, length-append (spelled_head v h) body) in
+          let fewer : length (take (n - 20) body) < length body = omega (arith, length-take (n - 20) body, length-append (spelled_head v h) body) in
           let same : take n (frame_bytes_in v a) ≡ spelled_head v h ++ take (n - 20) body =
           take_over (spelled_head v h) body n (omega arith) ∙ ap (λ (k : ℕ). spelled_head v h ++ take (n - k) body) head in
-          inr (h, take (n - 20) body, law.head, cut, same))
+          inr (h, take (n - 20) body, law.head, fewer, same))
     ]
 
 -- ---- what a reader's answer tells

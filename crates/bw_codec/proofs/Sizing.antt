@@ -54,9 +54,9 @@ largest_blocks = record {
       (let l = length-one (Delta page back (op ∷ [])) in let a = block_lengths.delta page back (op ∷ []) h in omega arith);
   split = λ page back upper h few.
       (let l = length-one (Split page back upper) in let a = block_lengths.split 32 page back upper h in omega arith);
-  both = λ page back op cut link upper h k.
-      (let l = length-two (Delta page back (op ∷ [])) (Split cut link upper) in let a = block_lengths.delta page back (op ∷ []) h in
-      let b = block_lengths.split 32 cut link upper k in let few = k.makes.count in omega arith);
+  both = λ page back op parent link upper h k.
+      (let l = length-two (Delta page back (op ∷ [])) (Split parent link upper) in let a = block_lengths.delta page back (op ∷ []) h in
+      let b = block_lengths.split 32 parent link upper k in let few = k.makes.count in omega arith);
 }
 
 -- the frame limit of a segment that may be written
@@ -69,7 +69,7 @@ largest_fit = record {
       let m = law.m in let f = fitting h law is in omega arith);
   delta = λ h page back op law is k. (let l = length-one (Delta page back (op ∷ [])) in let a = block_lengths.delta page back (op ∷ []) k in
       let f = fitting h law is in omega arith);
-  both = λ h page back op cut link upper law is d k.
-      (let l = length-two (Delta page back (op ∷ [])) (Split cut link upper) in let a = block_lengths.delta page back (op ∷ []) d in
-      let b = block_lengths.split h.m cut link upper k in let few = k.makes.count in let m = law.m in let f = fitting h law is in omega arith);
+  both = λ h page back op parent link upper law is d k.
+      (let l = length-two (Delta page back (op ∷ [])) (Split parent link upper) in let a = block_lengths.delta page back (op ∷ []) d in
+      let b = block_lengths.split h.m parent link upper k in let few = k.makes.count in let m = law.m in let f = fitting h law is in omega arith);
 }

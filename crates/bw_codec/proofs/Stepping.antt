@@ -163,7 +163,7 @@ split_over : (v : ℕ) → (m page : ℕ) (back : Place) (upper : Leaf) (rest : 
 unfolding split_after
 split_over v m page back upper rest small law =
     rw (
-      again_on (number_bytes 4) IsPage page_at page_format page (place_bytes back ++ upper_bytes_in v upper) rest law.cuts,
+      again_on (number_bytes 4) IsPage page_at page_format page (place_bytes back ++ upper_bytes_in v upper) rest law.splits,
       again_on place_bytes IsPlace place_at place_format back (upper_bytes_in v upper) rest law.links,
       (upper_over v) m upper rest small law.makes,
     ) refl

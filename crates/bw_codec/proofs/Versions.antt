@@ -36,7 +36,7 @@ old_may_be_written m (Delta page back ops) law =
     record { changes = law.changes; links = law.links; count = law.count; each = all_newer (IsOpIn 1) (IsOpIn latest) op_newer ops law.each }
 old_may_be_written m (Base leaf) law = base_newer m leaf law
 old_may_be_written m (Split page back upper) law =
-    record { cuts = law.cuts; links = law.links; makes = base_newer m upper law.makes; low = law.low; count = law.count; new = law.new }
+    record { splits = law.splits; links = law.links; makes = base_newer m upper law.makes; low = law.low; count = law.count; new = law.new }
 
 -- the fourth byte tells them apart
 pub no_frame_of_both : NoFrameOfBoth

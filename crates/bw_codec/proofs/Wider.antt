@@ -16,7 +16,7 @@ pub block_wider : (m n : ℕ) (block : Block) → m ≤ n → IsBlock m block �
 block_wider m n (Delta page back ops) more law = law
 block_wider m n (Base leaf) more law = base_wider m n leaf more law
 block_wider m n (Split page back upper) more law =
-    record { cuts = law.cuts; links = law.links; makes = base_wider m n upper more law.makes; low = law.low; count = law.count; new = law.new }
+    record { splits = law.splits; links = law.links; makes = base_wider m n upper more law.makes; low = law.low; count = law.count; new = law.new }
 
 -- so are all blocks of a frame
 pub blocks_wider : (m n : ℕ) (blocks : List Block) → m ≤ n → AllByRecursion (IsBlock m) blocks → AllByRecursion (IsBlock n) blocks

@@ -129,7 +129,7 @@ first_key [] = []
 first_key (p ∷ ps) = p.0
 
 pub record IsSplitIn (v m page : ℕ) (back : Place) (upper : Leaf) : Type 0 where
-  pub cuts : IsPage page
+  pub splits : IsPage page
   pub links : IsPlace back
   pub makes : IsBaseIn v m upper
   pub low : upper.low ≡ first_key upper.pairs
@@ -178,13 +178,13 @@ IsBlock m block = IsBlockIn latest m block
 abbrev pub IsFrame : ℕ → ℕ → Frame → Type 0
 IsFrame m f frame = IsFrameIn latest m f frame
 
--- ---- what was cut off
+-- ---- what was torn off
 
 -- bytes agree with a word as far as both go
 abbrev pub agrees : List ℕ → List ℕ → Bool
 agrees bytes word = list_all (λ p. p.0 == p.1) (zip word bytes)
 
--- bytes at which a frame was cut off: in its head, or in its body
+-- bytes at which a frame was torn off: in its head, or in its body
 abbrev pub IsTailIn : ℕ → ℕ → List ℕ → Type 0
 IsTailIn v f bytes =
     ((length bytes < 20) × IsTrue (agrees bytes (frame_word v)))
@@ -195,7 +195,7 @@ IsTailIn v f bytes =
 abbrev pub AgreesIn : ℕ → List ℕ → Type 0
 AgreesIn v bytes = IsTrue (agrees bytes (segment_word v))
 
--- bytes at which a header was cut off, of either format
+-- bytes at which a header was torn off, of either format
 abbrev pub IsPart : List ℕ → Type 0
 IsPart bytes = (1 ≤ length bytes) × (length bytes < 24) × (AgreesIn 1 bytes ⊎ AgreesIn 2 bytes)
 
@@ -229,8 +229,8 @@ IsHeading bytes heading.Bad =
 -- ---- a segment
 
 -- a header, frames and a tail
-pub record IsWhole (bytes : List ℕ) (header : Header) (frames : List Frame) (cut : List ℕ) : Type 0 where
+pub record IsWhole (bytes : List ℕ) (header : Header) (frames : List Frame) (torn : List ℕ) : Type 0 where
   pub lawful : IsHeader header
   pub each : AllByRecursion (IsFrameIn header.version header.m header.f) frames
-  pub tail : IsTailIn header.version header.f cut
-  pub parts : bytes ≡ header_bytes header ++ (flat_map (frame_bytes_in header.version) frames ++ cut)
+  pub tail : IsTailIn header.version header.f torn
+  pub parts : bytes ≡ header_bytes header ++ (flat_map (frame_bytes_in header.version) frames ++ torn)

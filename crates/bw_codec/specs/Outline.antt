@@ -7,7 +7,7 @@ use Rattle.bw_codec.specs.declared.block.Block.{Block}
 use Rattle.bw_codec.specs.declared.block.Block.TheVariants.{Delta, Base, Split}
 use Rattle.bw_codec.specs.declared.outline.Outline.{Outline}
 
--- how many bytes a block has in a format, the page that it changes, sets or cuts, and the page that it makes
+-- how many bytes a block has in a format, the page that it changes, sets or splits, and the page that it makes
 abbrev pub outline_of : ℕ → Block → Outline
 outline_of v (Delta page back ops) = record { len = length (block_bytes_in v (Delta page back ops)); page = page; made = None }
 outline_of v (Base leaf) = record { len = length (block_bytes_in v (Base leaf)); page = leaf.page; made = None }

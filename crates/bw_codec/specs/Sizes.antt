@@ -36,15 +36,15 @@ pub record LargestBlocks : Type 0 where
   pub split : (page : ℕ) (back : Place) (upper : Leaf) → IsSplit 32 page back upper → length upper.pairs ≤ 17
       → AreShort 11083 (Split page back upper ∷ [])
   -- the blocks of one record, however many pairs go
-  pub both : (page : ℕ) (back : Place) (op : Record) (cut : ℕ) (link : Place) (upper : Leaf)
-      → IsDelta page back (op ∷ []) → IsSplit 32 cut link upper
-      → AreShort 21500 (Delta page back (op ∷ []) ∷ Split cut link upper ∷ [])
+  pub both : (page : ℕ) (back : Place) (op : Record) (parent : ℕ) (link : Place) (upper : Leaf)
+      → IsDelta page back (op ∷ []) → IsSplit 32 parent link upper
+      → AreShort 21500 (Delta page back (op ∷ []) ∷ Split parent link upper ∷ [])
 
 -- so a page, and the blocks of one record, fit an empty frame of each segment
 pub record LargestFit : Type 0 where
   pub base : (h : Header) (leaf : Leaf) → IsHeader h → h.version ≡ latest → IsBase h.m leaf → FitEmptyFrame h.f (Base leaf ∷ [])
   pub delta : (h : Header) (page : ℕ) (back : Place) (op : Record) → IsHeader h → h.version ≡ latest → IsDelta page back (op ∷ [])
       → FitEmptyFrame h.f (Delta page back (op ∷ []) ∷ [])
-  pub both : (h : Header) (page : ℕ) (back : Place) (op : Record) (cut : ℕ) (link : Place) (upper : Leaf)
-      → IsHeader h → h.version ≡ latest → IsDelta page back (op ∷ []) → IsSplit h.m cut link upper
-      → FitEmptyFrame h.f (Delta page back (op ∷ []) ∷ Split cut link upper ∷ [])
+  pub both : (h : Header) (page : ℕ) (back : Place) (op : Record) (parent : ℕ) (link : Place) (upper : Leaf)
+      → IsHeader h → h.version ≡ latest → IsDelta page back (op ∷ []) → IsSplit h.m parent link upper
+      → FitEmptyFrame h.f (Delta page back (op ∷ []) ∷ Split parent link upper ∷ [])

@@ -17,7 +17,7 @@ touches p (Delta page back ops) = page == p
 touches p (Base leaf) = leaf.page == p
 touches p (Split page back upper) = (page == p) || (upper.page == p)
 
--- where the block before this one stands, if this one changes or cuts the page
+-- where the block before this one stands, if this one changes or splits the page
 abbrev pub back_of : ℕ → Block → Option Place
 back_of p (Delta page back ops) = if page == p then Some back else None
 back_of p (Base leaf) = None

@@ -56,7 +56,7 @@ impl Block {
         }
     }
 
-    /// Where the block of a page before this one stands, if this one changes or cuts that page. A
+    /// Where the block of a page before this one stands, if this one changes or splits that page. A
     /// block that sets the page has none.
     pub fn back(&self, page: u32) -> Option<Place>
         ensures { result ≡ back_of page self.now }
@@ -172,7 +172,7 @@ impl Header {
 pub enum HeaderRead {
     /// A header, in the first 24 bytes.
     Whole(Header),
-    /// 1 to 23 bytes at which a header was cut off.
+    /// 1 to 23 bytes at which a header was torn off.
     Part,
     /// Neither; also no bytes at all.
     Bad,
@@ -183,6 +183,6 @@ pub enum HeaderRead {
 pub enum FrameRead {
     /// A frame, in so many bytes.
     Whole(Frame, usize),
-    /// Bytes at which a frame was cut off; also no bytes at all.
+    /// Bytes at which a frame was torn off; also no bytes at all.
     Tail,
 }

@@ -25,7 +25,7 @@ use bw_record::is_before;
 pub enum FrameSeen {
     /// A frame of this number, in so many bytes.
     Whole(u64, usize),
-    /// Bytes at which a frame was cut off; also no bytes at all.
+    /// Bytes at which a frame was torn off; also no bytes at all.
     Tail,
 }
 

@@ -241,7 +241,7 @@ fn read_within(
 }
 
 /// What stands at the front of the bytes behind a header or a frame: a whole frame of a segment
-/// with this header, in the format that it names, or bytes at which one was cut off. `BadBytes` for
+/// with this header, in the format that it names, or bytes at which one was torn off. `BadBytes` for
 /// all other bytes, `NoMemory` only where a growth was refused. Time and memory are linear in the
 /// bytes: room is made for no more blocks, records and pairs than the bytes can hold, whatever
 /// counts were read.

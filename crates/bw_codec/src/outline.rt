@@ -17,7 +17,7 @@ use byteorder::{ByteOrder, LittleEndian};
 pub struct Outline {
     /// How many bytes spell the block.
     pub len: usize,
-    /// The page that it changes, sets or cuts.
+    /// The page that it changes, sets or splits.
     pub page: u32,
     /// The page that it makes, if it is a Split.
     pub made: Option<u32>,

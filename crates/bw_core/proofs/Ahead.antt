@@ -11,7 +11,8 @@ use Rattle.bw_record.specs.declared.leaf.Leaf.{Leaf}
 use Rattle.bw_codec.specs.declared.block.Place.{Place}
 use Rattle.bw_codec.specs.declared.block.Block.{Block}
 use Rattle.bw_codec.specs.declared.block.Block.TheVariants.{Delta, Split}
-use Rattle.bw_page.specs.Leaves.{applied, directed_at, upper_of, AreLeaves}
+use Rattle.bw_page.specs.Leaves.{applied, directed_at, AreLeaves}
+use Rattle.bw_leaf.specs.SplitRule.{upper_of}
 use Rattle.bw_buffer.specs.Counting.{grown}
 use Rattle.bw_buffer.specs.Joining.{joins, joined, added, last_delta, open_records, records_after, takes}
 use Rattle.bw_buffer.proofs.Growing.{last_push, last_joined}

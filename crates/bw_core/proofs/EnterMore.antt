@@ -14,7 +14,8 @@ use Rattle.bw_codec.specs.declared.block.Block.TheVariants.{Delta, Split}
 use Rattle.bw_page.specs.declared.fault.ApplyError.{ApplyError}
 use Rattle.bw_page.specs.declared.fault.ApplyError.TheVariants as apply
 use Rattle.bw_page.specs.Batch.{AreHere, SomeIsSpent}
-use Rattle.bw_page.specs.Leaves.{directed_at, pages, upper_of, HasPages}
+use Rattle.bw_page.specs.Leaves.{directed_at, pages, HasPages}
+use Rattle.bw_leaf.specs.SplitRule.{upper_of}
 use Rattle.bw_page.specs.Seats.{is_among}
 use Rattle.bw_page.specs.Shown.{Shown}
 use Rattle.bw_buffer.specs.Filling.{Filling, with_all, size_of}

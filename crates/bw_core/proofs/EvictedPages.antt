@@ -20,7 +20,8 @@ use Rattle.bw_codec.specs.declared.block.Frame.{Frame}
 use Rattle.std.specs.FinMap as finite
 use Rattle.std.specs.FinMap.Entries.{find}
 use Rattle.bw_leaf.specs.Changed.{Bytes, Map, order, all_changed}
-use Rattle.bw_page.specs.Leaves.{home, plain, leaf_at, directed_at, upper_of}
+use Rattle.bw_page.specs.Leaves.{home, plain, leaf_at, directed_at}
+use Rattle.bw_leaf.specs.SplitRule.{upper_of}
 use Rattle.bw_page.specs.Seats.{is_among}
 use Rattle.bw_page.specs.Shown.{Shown, is_evicted_page, leaf_here}
 use Rattle.bw_leaf.specs.Forwards.{after, content, blocks_of}

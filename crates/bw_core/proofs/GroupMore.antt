@@ -12,7 +12,8 @@ use Rattle.bw_record.specs.declared.leaf.Leaf.{Leaf}
 use Rattle.bw_codec.specs.declared.block.Place.{Place}
 use Rattle.bw_codec.specs.declared.block.Block.{Block}
 use Rattle.bw_page.specs.Batch.{AreHere, SomeIsSpent}
-use Rattle.bw_page.specs.Leaves.{applied, directed_at, pages, upper_of, HasPages, AreLeaves}
+use Rattle.bw_page.specs.Leaves.{applied, directed_at, pages, HasPages, AreLeaves}
+use Rattle.bw_leaf.specs.SplitRule.{upper_of}
 use Rattle.bw_page.specs.Seats.{is_among}
 use Rattle.bw_page.specs.Shown.{Shown}
 use Rattle.bw_page.proofs.Indexed.{home_within}

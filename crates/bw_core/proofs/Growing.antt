@@ -16,7 +16,8 @@ use Rattle.bw_codec.specs.declared.block.Place.{Place}
 use Rattle.bw_codec.specs.declared.block.Block.TheVariants.{Delta, Split}
 use Rattle.bw_codec.specs.declared.block.Frame.{Frame}
 use Rattle.bw_buffer.specs.Joining.{joins}
-use Rattle.bw_page.specs.Leaves.{directed_at, upper_of, leaf_at, applied, HasPage, AreLeaves}
+use Rattle.bw_page.specs.Leaves.{directed_at, leaf_at, applied, HasPage, AreLeaves}
+use Rattle.bw_leaf.specs.SplitRule.{upper_of}
 use Rattle.bw_leaf.specs.Forwards.{after, content, blocks_of}
 use Rattle.bw_page.specs.Standing.{Stand}
 use Rattle.bw_leaf.proofs.Sorted.{all-push}

@@ -13,7 +13,8 @@ use Rattle.bw_codec.specs.declared.block.Block.TheVariants.{Delta, Split}
 use Rattle.bw_record.specs.declared.leaf.Leaf.{Leaf}
 use Rattle.std.proofs.lemmas.Bool.{leb-true, leb-false}
 use Rattle.bw_codec.proofs.Wider.{blocks_wider}
-use Rattle.bw_page.specs.Leaves.{directed_at, upper_of, applied, HasPage, AreLeaves}
+use Rattle.bw_page.specs.Leaves.{directed_at, applied, HasPage, AreLeaves}
+use Rattle.bw_leaf.specs.SplitRule.{upper_of}
 use Rattle.bw_page.specs.Shown.{Shown, IsSpent}
 use Rattle.bw_page.proofs.Indexing.{count_fits}
 use Rattle.bw_page.proofs.Indexed.{home_within}

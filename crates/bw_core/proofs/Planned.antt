@@ -25,7 +25,8 @@ use Rattle.bw_codec.specs.declared.block.Place.{Place}
 use Rattle.bw_codec.specs.declared.block.Block.{Block}
 use Rattle.bw_codec.specs.declared.block.Block.TheVariants.{Delta, Split}
 use Rattle.bw_codec.proofs.Sizing.{largest_blocks}
-use Rattle.bw_page.specs.Leaves.{directed_at, upper_of, HasPage, AreLeaves}
+use Rattle.bw_page.specs.Leaves.{directed_at, HasPage, AreLeaves}
+use Rattle.bw_leaf.specs.SplitRule.{upper_of}
 use Rattle.std.specs.List.{slice_get}
 use Rattle.bw_page.specs.declared.fault.ApplyError.{ApplyError}
 use Rattle.bw_page.specs.declared.fault.ApplyError.TheVariants as apply

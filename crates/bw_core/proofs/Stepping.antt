@@ -14,11 +14,12 @@ use Rattle.bw_record.specs.declared.leaf.Leaf.{Leaf}
 use Rattle.bw_codec.specs.declared.block.Place.{Place}
 use Rattle.bw_codec.specs.declared.block.Block.TheVariants.{Delta, Split}
 use Rattle.bw_leaf.specs.Changed.{changed}
-use Rattle.bw_page.specs.Leaves.{directed_at, lower_of, upper_of, leaf_at, applied, AreLeaves}
+use Rattle.bw_page.specs.Leaves.{directed_at, leaf_at, applied, AreLeaves}
+use Rattle.bw_leaf.specs.SplitRule.{lower_of, upper_of}
 use Rattle.bw_leaf.specs.Forwards.{kept_below, after}
 use Rattle.bw_page.proofs.Homes.{put_in}
 use Rattle.bw_page.proofs.PageByPage.{home_there, put_at}
-use Rattle.bw_page.proofs.Law.{directed, cut_within, applied-whole, applied-cut}
+use Rattle.bw_page.proofs.Law.{directed, cut_within, applied-whole, applied-split}
 use Rattle.bw_page.proofs.Steps.{kept-lower, leaf_at-push, leaf_at-new}
 use Rattle.bw_making.specs.Adding.{result_of, blocks_for}
 
@@ -87,7 +88,7 @@ module _ (m : ℕ) (leaves : List Leaf) (r : Record) (some : 1 ≤ m) (a : AreLe
       ∙ sym (puts (lower_of m (result_of leaves r)) p refl)
       ∙ sym (leaf_at-push p (map (put_in (lower_of m (result_of leaves r))) leaves) (upper_of m (length leaves + 1) (result_of leaves r))
       (let e = length-map leaves (put_in (lower_of m (result_of leaves r))) in omega arith))
-      ∙ ap (leaf_at p) (sym (applied-cut m leaves r some a op over))
+      ∙ ap (leaf_at p) (sym (applied-split m leaves r some a op over))
 
   pub new_content : (back here : Place) (w : Option Leaf) → m < length (result_of leaves r).pairs
       → fold (after (length leaves + 1)) w (blocks_for m leaves back here r) ≡ leaf_at (length leaves + 1) (applied m leaves r)
@@ -102,14 +103,14 @@ module _ (m : ℕ) (leaves : List Leaf) (r : Record) (some : 1 ≤ m) (a : AreLe
       ∙ sym (ap (λ n. leaf_at (n + 1) (map (put_in (lower_of m (result_of leaves r))) leaves
       ++ upper_of m (length leaves + 1) (result_of leaves r) ∷ [])) (sym at)
       ∙ leaf_at-new (map (put_in (lower_of m (result_of leaves r))) leaves) (upper_of m (length leaves + 1) (result_of leaves r)))
-      ∙ ap (leaf_at (length leaves + 1)) (sym (applied-cut m leaves r some a op over))
+      ∙ ap (leaf_at (length leaves + 1)) (sym (applied-split m leaves r some a op over))
 
   pub length-applied : length (applied m leaves r) ≡ (if nat_le (length (result_of leaves r).pairs) m then length leaves else length leaves + 1)
   length-applied =
       elim (nat_le (length (result_of leaves r).pairs) m) as
       (λ b. nat_le (length (result_of leaves r).pairs) m ≡ b → length (applied m leaves r) ≡ (if b then length leaves else length leaves + 1)) [
         | true ↦ λ e. ap length (applied-whole m leaves r some a op (leb-true _ _ e)) ∙ length-map leaves (put_in (result_of leaves r))
-        | false ↦ λ e. ap length (applied-cut m leaves r some a op (leb-false _ _ e))
+        | false ↦ λ e. ap length (applied-split m leaves r some a op (leb-false _ _ e))
             ∙ length-append (map (put_in (lower_of m (result_of leaves r))) leaves) (upper_of m (length leaves + 1) (result_of leaves r) ∷ [])
             ∙ ap (λ n. n + 1) (length-map leaves (put_in (lower_of m (result_of leaves r))))
       ] refl

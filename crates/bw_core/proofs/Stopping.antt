@@ -18,11 +18,11 @@ use Rattle.bw_log.specs.Contents.{IsRoomy}
 use Rattle.bw_log.specs.Places.{first_number}
 use Rattle.bw_log.specs.Segments.{segment_frames, AreFrom, next_of}
 use Rattle.bw_log.proofs.Adding.{following_is}
-use Rattle.bw_care.specs.Laws.{cut_newest, frames_held, FoundAs, IsFound}
+use Rattle.bw_care.specs.Laws.{shorten_newest, frames_held, FoundAs, IsFound}
 use Rattle.bw_care.specs.Recovery.{Finding, frames_in, last_number, recovery}
 use Rattle.bw_lines.specs.declared.cause.RecoverCause.{RecoverCause}
 use Rattle.bw_lines.specs.declared.cause.RecoverCause.TheVariants.{Empty}
-use Rattle.bw_care.proofs.CutBoxes.{cut_boxes, cut_taken, numbered_taken, stopped_boxes}
+use Rattle.bw_care.proofs.ShortenedBoxes.{shortened_boxes, shortened_taken, numbered_taken, stopped_boxes}
 use Rattle.bw_care.proofs.OwnFound.{own_boxes}
 use Rattle.bw_core.specs.Edges.{newest_number}
 use Rattle.bw_core.specs.Growing.{frames_upto}
@@ -110,12 +110,12 @@ first_taken (suc j) (f ∷ fs) some = refl
 
 -- the cut bytes hold these frames, so all boxes do
 held_upto : (q n : ℕ) (live : List Holding) → IfSome (last_of live) (λ h. HoldsUpto q h.bytes (take n h.bytes))
-    → frames_upto q (frames_held (cut_newest n live)) ≡ frames_upto q (frames_held live)
+    → frames_upto q (frames_held (shorten_newest n live)) ≡ frames_upto q (frames_held live)
 held_upto q n [] holds = refl
 held_upto q n (h ∷ []) holds =
     ap (frames_upto q) (append-nil (segment_frames (take n h.bytes))) ∙ holds ∙ ap (frames_upto q) (sym (append-nil (segment_frames h.bytes)))
 held_upto q n (h ∷ k ∷ hs) holds =
-    filter-append (λ (f : Frame). nat_le f.number q) (segment_frames h.bytes) (frames_held (cut_newest n (k ∷ hs)))
+    filter-append (λ (f : Frame). nat_le f.number q) (segment_frames h.bytes) (frames_held (shorten_newest n (k ∷ hs)))
     ∙ ap (λ (fs : List Frame). frames_upto q (segment_frames h.bytes) ++ fs) (held_upto q n (k ∷ hs) holds)
     ∙ sym (filter-append (λ (f : Frame). nat_le f.number q) (segment_frames h.bytes) (frames_held (k ∷ hs)))
 
@@ -138,10 +138,10 @@ held_only P Q (Some x) h = h.1
 
 module _ (s : Kept) (h : IsSound s) (works : s.log.is_failed ≡ false) (n : ℕ) (may : MayCut s n) where
   abbrev cut_frames : List Frame
-  cut_frames = frames_held (cut_newest n s.log.live)
+  cut_frames = frames_held (shorten_newest n s.log.live)
 
   abbrev cut_all : List Holding
-  cut_all = cut_newest n s.log.live ++ s.log.spares
+  cut_all = shorten_newest n s.log.live ++ s.log.spares
 
   abbrev counted : List Frame
   counted = logs.counted s.log
@@ -151,7 +151,7 @@ module _ (s : Kept) (h : IsSound s) (works : s.log.is_failed ≡ false) (n : ℕ
 
   found_as : FoundAs s.log.m cut_all cut_frames
   found_as =
-      cut_boxes s.log n h.log works
+      shortened_boxes s.log n h.log works
       (roomy_at (newest_number s.log) s.edge.length s.edge.segment s.log.f n (λ x. HoldsUpto (s.before + s.floor) x.bytes (take n x.bytes))
       (last_of s.log.live) (let one : 1 ≤ s.log.number = h.log.holds.numbers in omega arith) h.edged h.begun may)
 
@@ -160,7 +160,7 @@ module _ (s : Kept) (h : IsSound s) (works : s.log.is_failed ≡ false) (n : ℕ
 
   begins : cut_frames ≡ take count counted
   begins =
-      let x = cut_taken s.log n h.log works in
+      let x = shortened_taken s.log n h.log works in
       let is : cut_frames ≡ take x.0 counted = x.1 in
       is ∙ sym (take_own x.0 counted) ∙ ap (λ (fs : List Frame). take (length fs) counted) (sym is)
 
@@ -277,7 +277,7 @@ some_beyond [] none = absurd cc
 some_beyond (h ∷ []) none = absurd cc
 some_beyond (h ∷ k ∷ hs) none = some_beyond (k ∷ hs) none
 
-uncut : (live : List Holding) → cut_newest (beyond_last live) live ≡ live
+uncut : (live : List Holding) → shorten_newest (beyond_last live) live ≡ live
 uncut [] = refl
 uncut (h ∷ []) = ap (λ (bytes : List ℕ). record h { bytes = bytes } ∷ []) (take_all (suc (length h.bytes)) h.bytes (omega arith))
 uncut (h ∷ k ∷ hs) = ap (λ (l : List Holding). h ∷ l) (uncut (k ∷ hs))
@@ -294,9 +294,9 @@ module _ (s : Kept) (h : IsSound s) (works : s.log.is_failed ≡ false) where
   nothing_now : logs.counted s.log ≡ [] → FindsNow (recovery (logs.boxes s.log))
   nothing_now none =
       let n = beyond_last s.log.live in
-      let held = cut_taken s.log n h.log works in
-      let empty : frames_held (cut_newest n s.log.live) ≡ [] = held.1 ∙ ap (take held.0) none ∙ take_none held.0 in
-      let found = ((cut_boxes s.log n h.log works (λ zeroth. absurd (some_beyond s.log.live zeroth))).1 empty).0 in
+      let held = shortened_taken s.log n h.log works in
+      let empty : frames_held (shorten_newest n s.log.live) ≡ [] = held.1 ∙ ap (take held.0) none ∙ take_none held.0 in
+      let found = ((shortened_boxes s.log n h.log works (λ zeroth. absurd (some_beyond s.log.live zeroth))).1 empty).0 in
       let is = ap (λ (hs : List Holding). recovery (hs ++ s.log.spares)) (sym (uncut s.log.live)) ∙ found in
       let follows : s.log.next ≡ next_of [] = subst (λ (fs : List Frame). s.log.next ≡ next_of fs) none h.log.holds.follows in
       let first = following_is (s.before + s.durable) 1 (sym h.next ∙ follows) in
@@ -337,7 +337,7 @@ stop_handed s h live spares a b failed =
     (subst (λ (hs : List Holding). FindsStop s (s.log.live ++ hs)) (sym b) (stop_found s h failed))
 
 pub cut_handed : (s : Kept) → IsSound s → (live spares : List Holding) → live ≡ s.log.live → spares ≡ s.log.spares → s.log.is_failed ≡ false
-    → (n : ℕ) → MayCut s n → FindsCut s (cut_newest n live ++ spares)
+    → (n : ℕ) → MayCut s n → FindsCut s (shorten_newest n live ++ spares)
 cut_handed s h live spares a b works n may =
-    subst (λ (hs : List Holding). FindsCut s (cut_newest n hs ++ spares)) (sym a)
-    (subst (λ (hs : List Holding). FindsCut s (cut_newest n s.log.live ++ hs)) (sym b) (cut_found s h works n may))
+    subst (λ (hs : List Holding). FindsCut s (shorten_newest n hs ++ spares)) (sym a)
+    (subst (λ (hs : List Holding). FindsCut s (shorten_newest n s.log.live ++ hs)) (sym b) (cut_found s h works n may))

@@ -7,11 +7,12 @@ use Rattle.bw_record.specs.declared.leaf.Leaf.{Leaf}
 use Rattle.bw_codec.specs.declared.block.Place.{Place}
 use Rattle.bw_codec.specs.declared.block.Block.{Block}
 use Rattle.bw_codec.specs.declared.block.Block.TheVariants.{Delta, Split}
-use Rattle.bw_page.specs.Leaves.{directed_at, applied, pages, upper_of}
+use Rattle.bw_page.specs.Leaves.{directed_at, applied, pages}
+use Rattle.bw_leaf.specs.SplitRule.{upper_of}
 use Rattle.bw_buffer.specs.Joining.{added}
 use Rattle.bw_making.specs.Share.{ops_at, cuts_in, bases_in, directed, cut_by, cuts_by, Tells}
 use Rattle.bw_making.specs.Adding.{result_of, blocks_for}
-use Rattle.bw_making.proofs.Joins.{added_ops, added_cuts, added_bases}
+use Rattle.bw_making.proofs.Joins.{added_ops, added_splits, added_bases}
 
 directed_more : (m p : ℕ) (leaves : List Leaf) (rs : List Record) (r : Record)
     → directed m p leaves (rs ++ r ∷ []) ≡ directed m p leaves rs ++ (if directed_at (pages m leaves rs) r == p then r ∷ [] else [])
@@ -59,7 +60,7 @@ tells_more m leaves rs blocks back here r t =
     record {
       deltas = λ p. added_ops p blocks more ∙ ap (λ (l : List Record). l ++ ops_at p more) (t.deltas p)
           ∙ ap (λ (l : List Record). directed m p leaves rs ++ l) (ops_for m now back here r p) ∙ sym (directed_more m p leaves rs r);
-      splits = added_cuts blocks more ∙ ap (λ (l : List (ℕ × ℕ)). l ++ cuts_in more) t.splits
+      splits = added_splits blocks more ∙ ap (λ (l : List (ℕ × ℕ)). l ++ cuts_in more) t.splits
           ∙ ap (λ (l : List (ℕ × ℕ)). cuts_by m leaves rs ++ l) (cuts_for m now back here r) ∙ sym (cuts_more m leaves rs r);
       bases = added_bases blocks more ∙ ap (λ (l : List Leaf). l ++ bases_in more) t.bases ∙ bases_for m now back here r;
     }

@@ -5,7 +5,7 @@
 //! would lose it.
 
 ghost use Rattle.std.specs.Prelude.{◌≡◌, ◌+◌, ◌++◌, ◌↔◌, ◌⊎◌, ℕ, true, false, map, MatchOption, OnOk, OnErr, IfOk, IfErr, IsErrAnd};
-ghost use Rattle.bw_care.specs.Laws.{cut_newest};
+ghost use Rattle.bw_care.specs.Laws.{shorten_newest};
 ghost use Rattle.bw_log.specs.Limits.{IsNotTaken};
 ghost use Rattle.bw_log.specs.Reads.{IsNumbered, segment_at};
 ghost use Rattle.bw_core.specs.Following.{Follows};
@@ -111,7 +111,7 @@ impl Core {
         ensures cuts { (kept_beside self holding).log.is_failed ≡ false
             → (n : ℕ) → MayCut (kept_beside self holding) n
             → FindsCut (kept_beside self holding)
-            (cut_newest n (map holding result.0.items) ++ map holding result.1.items) }
+            (shorten_newest n (map holding result.0.items) ++ map holding result.1.items) }
     {
         let Core {
             intake: _intake,

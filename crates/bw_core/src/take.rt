@@ -140,7 +140,7 @@ impl Core {
             (kept_by self.old holding) result (kept_by self.new holding) }
     {
         let found = self.pages.leaves.place_on(page, item.key().as_slice());
-        if self.pages.leaves.is_cut_by(page, found, item) {
+        if self.pages.leaves.is_split_by(page, found, item) {
             return self.take_cut(lane, item, page);
         }
         self.take_delta(lane, item, page, found)

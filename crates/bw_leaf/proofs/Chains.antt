@@ -15,7 +15,7 @@ use Rattle.bw_leaf.specs.declared.chain.Link.{Link}
 use Rattle.bw_leaf.specs.declared.chain.Link.TheVariants.{Delta, Flushed}
 use Rattle.bw_leaf.specs.declared.chain.End.TheVariants.{Whole, OnLog}
 use Rattle.bw_leaf.specs.Changed.{changed}
-use Rattle.bw_leaf.specs.Links.{Chained, ground_of, told, content_of, is_flushed, under, cut, from_mark, evicted, consolidated, consolidated_by}
+use Rattle.bw_leaf.specs.Links.{Chained, ground_of, told, content_of, is_flushed, under, trimmed, from_mark, evicted, consolidated, consolidated_by}
 use Rattle.bw_leaf.specs.Marks.{mark_after}
 
 -- what stands above a mark, of links that stand oldest first
@@ -37,33 +37,33 @@ pushed : (links : List Link) (x : Link) (n : ℕ) → length links ≡ n → len
 pushed links x n e = let l = length-append links (x ∷ []) in omega arith
 
 marked : (n : ℕ) (front rest : List Link) (found : Option (ℕ × Place)) → length front ≡ n → IfSome found (λ x. x.0 < n)
-    → cut (reverse front) ≡ above front found
-    → cut (reverse (front ++ rest)) ≡ above (front ++ rest) (mark_after n found rest)
-marked n front [] found e h is = subst (λ (ls : List Link). cut (reverse ls) ≡ above ls found) (sym (append-nil front)) is
+    → trimmed (reverse front) ≡ above front found
+    → trimmed (reverse (front ++ rest)) ≡ above (front ++ rest) (mark_after n found rest)
+marked n front [] found e h is = subst (λ (ls : List Link). trimmed (reverse ls) ≡ above ls found) (sym (append-nil front)) is
 marked n front (Delta r ∷ rest) found e h is =
-    subst (λ (ls : List Link). cut (reverse ls) ≡ above ls (mark_after (n + 1) found rest)) (append_assoc front (Delta r ∷ []) rest)
+    subst (λ (ls : List Link). trimmed (reverse ls) ≡ above ls (mark_after (n + 1) found rest)) (append_assoc front (Delta r ∷ []) rest)
     (marked (n + 1) (front ++ Delta r ∷ []) rest found (pushed front (Delta r) n e) (lasts n found h)
-    (ap cut (reverse-append front (Delta r ∷ [])) ∙ ap (under (Delta r)) is ∙ above-more front r found (subst (λ k. IfSome found (λ x. x.0 < k)) (sym e) h)))
+    (ap trimmed (reverse-append front (Delta r ∷ [])) ∙ ap (under (Delta r)) is ∙ above-more front r found (subst (λ k. IfSome found (λ x. x.0 < k)) (sym e) h)))
 marked n front (Flushed place ∷ rest) found e h is =
-    subst (λ (ls : List Link). cut (reverse ls) ≡ above ls (mark_after (n + 1) (Some (n, place)) rest)) (append_assoc front (Flushed place ∷ []) rest)
+    subst (λ (ls : List Link). trimmed (reverse ls) ≡ above ls (mark_after (n + 1) (Some (n, place)) rest)) (append_assoc front (Flushed place ∷ []) rest)
     (marked (n + 1) (front ++ Flushed place ∷ []) rest (Some (n, place)) (pushed front (Flushed place) n e) (omega arith)
-    (ap cut (reverse-append front (Flushed place ∷ []))
+    (ap trimmed (reverse-append front (Flushed place ∷ []))
     ∙ ap (λ ls. Some (ls, place)) (sym (ap reverse
     (drop_all (n + 1) (front ++ Flushed place ∷ []) (let l = pushed front (Flushed place) n e in omega arith))))))
 
 -- the newest mark of links that stand oldest first, and of the same links newest first
-pub cut-reverse : (links : List Link) → cut (reverse links) ≡ above links (mark_after 0 None links)
-cut-reverse links = marked 0 [] links None refl tt refl
+pub trimmed-reverse : (links : List Link) → trimmed (reverse links) ≡ above links (mark_after 0 None links)
+trimmed-reverse links = marked 0 [] links None refl tt refl
 
 flushed-under : (r : Record) (x : Option (List Link × Place)) → is_some (under (Delta r) x) ≡ is_some x
 flushed-under r None = refl
 flushed-under r (Some x) = refl
 
 -- there is a mark exactly where a flushed link stands
-pub flushed-cut : (links : List Link) → list_any is_flushed links ≡ is_some (cut links)
-flushed-cut [] = refl
-flushed-cut (Delta r ∷ links) = flushed-cut links ∙ sym (flushed-under r (cut links))
-flushed-cut (Flushed place ∷ links) = refl
+pub flushed-trimmed : (links : List Link) → list_any is_flushed links ≡ is_some (trimmed links)
+flushed-trimmed [] = refl
+flushed-trimmed (Delta r ∷ links) = flushed-trimmed links ∙ sym (flushed-under r (trimmed links))
+flushed-trimmed (Flushed place ∷ links) = refl
 
 told-under : (r : Record) (links : List Link) (x : Option (List Link × Place)) (leaf : Leaf)
     → IfSome x (λ c. told c.0 (told (from_mark links) leaf) ≡ told links leaf)
@@ -72,19 +72,19 @@ told-under r links None leaf h = tt
 told-under r links (Some x) leaf h = ap (changed r) h
 
 -- what stands above the mark, over what stands from it on, is all
-pub told-cut : (links : List Link) (leaf : Leaf) → IfSome (cut links) (λ c. told c.0 (told (from_mark links) leaf) ≡ told links leaf)
-told-cut [] leaf = tt
-told-cut (Delta r ∷ links) leaf = told-under r links (cut links) leaf (told-cut links leaf)
-told-cut (Flushed place ∷ links) leaf = refl
+pub told-trimmed : (links : List Link) (leaf : Leaf) → IfSome (trimmed links) (λ c. told c.0 (told (from_mark links) leaf) ≡ told links leaf)
+told-trimmed [] leaf = tt
+told-trimmed (Delta r ∷ links) leaf = told-under r links (trimmed links) leaf (told-trimmed links leaf)
+told-trimmed (Flushed place ∷ links) leaf = refl
 
 -- ---- at the end of the search for a mark
 
-pub cut_at : (c : Chained) (links : List Link) (at : ℕ) (place : Place) → c.links ≡ reverse links → Some (at, place) ≡ mark_after 0 None links
-    → cut c.links ≡ Some (reverse (drop (at + 1) links), place)
-cut_at c links at place e is = ap cut e ∙ cut-reverse links ∙ ap (above links) (sym is)
+pub trimmed_at : (c : Chained) (links : List Link) (at : ℕ) (place : Place) → c.links ≡ reverse links → Some (at, place) ≡ mark_after 0 None links
+    → trimmed c.links ≡ Some (reverse (drop (at + 1) links), place)
+trimmed_at c links at place e is = ap trimmed e ∙ trimmed-reverse links ∙ ap (above links) (sym is)
 
-pub no_cut : (c : Chained) (links : List Link) → c.links ≡ reverse links → None ≡ mark_after 0 None links → cut c.links ≡ None
-no_cut c links e is = ap cut e ∙ cut-reverse links ∙ ap (above links) (sym is)
+pub not_trimmed : (c : Chained) (links : List Link) → c.links ≡ reverse links → None ≡ mark_after 0 None links → trimmed c.links ≡ None
+not_trimmed c links e is = ap trimmed e ∙ trimmed-reverse links ∙ ap (above links) (sym is)
 
 -- a chain whose newest mark is known
 pub record Evicts (c : Chained) (links : List Link) (place : Place) : Type 0 where
@@ -92,16 +92,16 @@ pub record Evicts (c : Chained) (links : List Link) (place : Place) : Type 0 whe
   pub acts : evicted c ≡ Some (record c { links = links; end = OnLog place })
   pub content : (below : Leaf) → told links (told (from_mark c.links) (ground_of c.end below)) ≡ content_of c below
 
-pub evicts : (c : Chained) (links : List Link) (place : Place) → cut c.links ≡ Some (links, place) → Evicts c links place
+pub evicts : (c : Chained) (links : List Link) (place : Place) → trimmed c.links ≡ Some (links, place) → Evicts c links place
 evicts c links place e = record {
-  flushed = sym (flushed-cut c.links ∙ ap is_some e);
+  flushed = sym (flushed-trimmed c.links ∙ ap is_some e);
   acts = ap (option_map (λ x. record c { links = x.0; end = OnLog x.1 })) e;
   content = λ below. subst (λ (x : Option (List Link × Place)). IfSome x
-      (λ y. told y.0 (told (from_mark c.links) (ground_of c.end below)) ≡ content_of c below)) e (told-cut c.links (ground_of c.end below));
+      (λ y. told y.0 (told (from_mark c.links) (ground_of c.end below)) ≡ content_of c below)) e (told-trimmed c.links (ground_of c.end below));
 }
 
-pub stays : (c : Chained) → cut c.links ≡ None → (false ≡ list_any is_flushed c.links) × (evicted c ≡ None)
-stays c e = (sym (flushed-cut c.links ∙ ap is_some e), ap (option_map (λ x. record c { links = x.0; end = OnLog x.1 })) e)
+pub stays : (c : Chained) → trimmed c.links ≡ None → (false ≡ list_any is_flushed c.links) × (evicted c ≡ None)
+stays c e = (sym (flushed-trimmed c.links ∙ ap is_some e), ap (option_map (λ x. record c { links = x.0; end = OnLog x.1 })) e)
 
 -- ---- a consolidation
 

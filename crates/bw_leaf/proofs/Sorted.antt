@@ -1,4 +1,4 @@
--- Pairs in the order of their keys: cut, searched and changed.
+-- Pairs in the order of their keys: split, searched and changed.
 
 use Rattle.std.proofs.Common.{◌≡◌, ℕ, zero, suc, ◌+◌, ◌<◌, ◌≤◌, Bool, true, false, cond, not, ◌&&◌, Option, Some, None, List, [], ◌∷◌, ◌++◌, length, take, drop}
 use Rattle.std.proofs.Common.{IsTrue, refl, sym, ap, ◌∙◌, subst, arith, T}
@@ -106,7 +106,7 @@ rises_T ps h = to_T _ (rises_true ps h)
 pub T_rises : (ps : Pairs) → T (is_sorted order ps) → Rises ps
 T_rises ps h = true_rises ps (from_T _ h)
 
--- ---- cut in two
+-- ---- split in two
 
 pub rises-take : (n : ℕ) (ps : Pairs) → Rises ps → Rises (take n ps)
 rises-take zero ps h = tt
@@ -129,7 +129,7 @@ dropped zero (p ∷ ps) h = omega arith
 dropped (suc n) [] h = absurd (omega arith)
 dropped (suc n) (p ∷ ps) h = dropped n ps (omega arith)
 
--- the keys in front of a cut are below the first one behind it
+-- the keys in front of a split are below the first one behind it
 pub lower_below : (n : ℕ) (ps : Pairs) → n < length ps → Rises ps → All (λ p. Below p.0 (first_key (drop n ps))) (take n ps)
 lower_below zero ps h r = tt
 lower_below (suc n) [] h r = tt
@@ -140,7 +140,7 @@ from_first : (ps : Pairs) → Rises ps → All (λ p. UpTo (first_key ps) p.0) p
 from_first [] r = tt
 from_first (p ∷ ps) r = (upto-refl p.0, all-map (λ q. Below p.0 q.0) (λ q. UpTo p.0 q.0) (λ q b. below_upto p.0 q.0 b) ps r.0)
 
--- the keys behind a cut are not below the first of them
+-- the keys behind a split are not below the first of them
 pub upper_from : (n : ℕ) (ps : Pairs) → Rises ps → All (λ p. UpTo (first_key (drop n ps)) p.0) (drop n ps)
 upper_from n ps r = from_first (drop n ps) (rises-drop n ps r)
 

@@ -15,7 +15,7 @@ use Rattle.bw_codec.specs.declared.block.Block.{Block}
 use Rattle.bw_codec.specs.declared.block.Block.TheVariants.{Delta, Base, Split}
 use Rattle.bw_leaf.specs.Changed.{Bytes, Pairs, order, changed, changed_pairs, all_changed}
 use Rattle.bw_leaf.specs.Forwards.{after, kept_below}
-use Rattle.bw_leaf.specs.Words.{newer, told_by, word_of, said, record_word, records_word, cut_word, block_word, blocks_word, value_on, HasOrder}
+use Rattle.bw_leaf.specs.Words.{newer, told_by, word_of, said, record_word, records_word, split_word, block_word, blocks_word, value_on, HasOrder}
 use Rattle.bw_leaf.specs.declared.words.Word.{Word}
 use Rattle.bw_leaf.specs.declared.words.Word.TheVariants.{Silent, Gone, Holds}
 use Rattle.std.proofs.lemmas.Grind.{fold-append}
@@ -71,32 +71,32 @@ records_tell k rs leaf rises =
     (let step = records_step k rs leaf rises in
     record { rises = step.0; value = step.1 ∙ sym (all_tell (record_word k) Silent rs (find order k leaf.pairs)) })
 
--- ---- a cut
+-- ---- a split
 
-cut_tells : (k separator : Bytes) (ps : Pairs)
-    → find order k (filter (λ p. is_below p.0 separator) ps) ≡ told_by (cut_word k separator) (find order k ps)
-cut_tells k separator [] = elim (is_below k separator) as (λ t. None ≡ told_by (if t then Silent else Gone) None) [ true ↦ refl | false ↦ refl ]
-cut_tells k separator (p ∷ ps) =
+split_tells : (k separator : Bytes) (ps : Pairs)
+    → find order k (filter (λ p. is_below p.0 separator) ps) ≡ told_by (split_word k separator) (find order k ps)
+split_tells k separator [] = elim (is_below k separator) as (λ t. None ≡ told_by (if t then Silent else Gone) None) [ true ↦ refl | false ↦ refl ]
+split_tells k separator (p ∷ ps) =
     elim (eq_by_cmp order k p.0) as (λ t. eq_by_cmp order k p.0 ≡ t
     → find order k (if is_below p.0 separator then p ∷ filter (λ p. is_below p.0 separator) ps else filter (λ p. is_below p.0 separator) ps)
-    ≡ told_by (cut_word k separator) (cond t (Some p.1) (find order k ps))) [
+    ≡ told_by (split_word k separator) (cond t (Some p.1) (find order k ps))) [
       | true ↦ λ e. (
           let same : k ≡ p.0 = tied k p.0 e in
           elim (is_below p.0 separator) as (λ b. is_below p.0 separator ≡ b
           → find order k (if b then p ∷ filter (λ p. is_below p.0 separator) ps else filter (λ p. is_below p.0 separator) ps)
-          ≡ told_by (cut_word k separator) (Some p.1)) [
+          ≡ told_by (split_word k separator) (Some p.1)) [
             | true ↦ λ below. ap (λ (b : Bool). cond b (Some p.1) (find order k (filter (λ p. is_below p.0 separator) ps))) e
                 ∙ sym (ap (λ (b : Bool). told_by (if b then Silent else Gone) (Some p.1)) (ap (λ (q : Bytes). is_below q separator) same ∙ below))
             | false ↦ λ not. (
                 let word = ap (λ (b : Bool). if b then Silent else Gone) (ap (λ (q : Bytes). is_below q separator) same ∙ not) in
-                cut_tells k separator ps ∙ ap (λ (w : Word). told_by w (find order k ps)) word ∙ sym (ap (λ (w : Word). told_by w (Some p.1)) word))
+                split_tells k separator ps ∙ ap (λ (w : Word). told_by w (find order k ps)) word ∙ sym (ap (λ (w : Word). told_by w (Some p.1)) word))
           ] refl)
       | false ↦ λ e. (
           elim (is_below p.0 separator) as (λ b.
           find order k (if b then p ∷ filter (λ p. is_below p.0 separator) ps else filter (λ p. is_below p.0 separator) ps)
-          ≡ told_by (cut_word k separator) (find order k ps)) [
-            | true ↦ ap (λ (b : Bool). cond b (Some p.1) (find order k (filter (λ p. is_below p.0 separator) ps))) e ∙ cut_tells k separator ps
-            | false ↦ cut_tells k separator ps
+          ≡ told_by (split_word k separator) (find order k ps)) [
+            | true ↦ ap (λ (b : Bool). cond b (Some p.1) (find order k (filter (λ p. is_below p.0 separator) ps))) e ∙ split_tells k separator ps
+            | false ↦ split_tells k separator ps
           ])
     ] refl
 
@@ -142,16 +142,16 @@ block_steps p k leaf (Base new) rises h =
 block_steps p k leaf (Split page back upper) rises h =
     elim (upper.page == p) as (λ u. (now : Leaf)
     × ((if u then Some upper else if page == p then Some (kept_below upper.low leaf) else Some leaf) ≡ Some now)
-    × Tells k (if u then word_of (find order k upper.pairs) else if page == p then cut_word k upper.low else Silent) leaf now) [
+    × Tells k (if u then word_of (find order k upper.pairs) else if page == p then split_word k upper.low else Silent) leaf now) [
       | true ↦ (upper, refl, known k leaf upper (ascends_rises upper.pairs h))
       | false ↦ elim (page == p) as (λ t. (now : Leaf) × ((if t then Some (kept_below upper.low leaf) else Some leaf) ≡ Some now)
-          × Tells k (if t then cut_word k upper.low else Silent) leaf now) [
+          × Tells k (if t then split_word k upper.low else Silent) leaf now) [
             | true ↦ (
               kept_below upper.low leaf,
               refl,
               record {
                 rises = rises-kept (λ p. is_below p.0 upper.low) leaf.pairs rises;
-                value = cut_tells k upper.low leaf.pairs;
+                value = split_tells k upper.low leaf.pairs;
               },
             )
             | false ↦ (leaf, refl, untold k leaf rises)
@@ -244,7 +244,7 @@ silent_block p k (Base leaf) e =
     ] e)
 silent_block p k (Split page back upper) e =
     (elim (upper.page == p) as (λ t.
-    (if t then word_of (find order k upper.pairs) else if page == p then cut_word k upper.low else Silent) ≡ Silent → t ≡ false) [
+    (if t then word_of (find order k upper.pairs) else if page == p then split_word k upper.low else Silent) ≡ Silent → t ≡ false) [
       | true ↦ λ e. absurd (known_speaks (find order k upper.pairs) e)
       | false ↦ λ e. refl
     ] e)

@@ -1,6 +1,7 @@
 -- what callers see, in reading order
 pub mod Changed
 pub mod Seek
+pub mod SplitRule
 pub mod Above
 pub mod Forwards
 pub mod Links

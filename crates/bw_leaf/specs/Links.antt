@@ -57,13 +57,13 @@ is_flushed (Flushed place) = true
 
 -- links above a mark, with one more
 abbrev pub under : Link → Option (List Link × Place) → Option (List Link × Place)
-under link cut = option_map (λ c. (link ∷ c.0, c.1)) cut
+under link trimmed = option_map (λ c. (link ∷ c.0, c.1)) trimmed
 
 -- the links above the newest flushed one, and its place
-abbrev pub cut : List Link → Option (List Link × Place)
-cut [] = None
-cut (Flushed place ∷ links) = Some ([], place)
-cut (Delta r ∷ links) = under (Delta r) (cut links)
+abbrev pub trimmed : List Link → Option (List Link × Place)
+trimmed [] = None
+trimmed (Flushed place ∷ links) = Some ([], place)
+trimmed (Delta r ∷ links) = under (Delta r) (trimmed links)
 
 -- the links from the newest flushed one on
 abbrev pub from_mark : List Link → List Link
@@ -73,7 +73,7 @@ from_mark (Delta r ∷ links) = from_mark links
 
 -- the chain without what the log has: the newest flushed link and all below it become its place
 abbrev pub evicted : Chained → Option Chained
-evicted c = option_map (λ x. record c { links = x.0; end = OnLog x.1 }) (cut c.links)
+evicted c = option_map (λ x. record c { links = x.0; end = OnLog x.1 }) (trimmed c.links)
 
 -- a chain whose newest link is flushed becomes that link over the whole page
 abbrev pub consolidated_by : Chained → List Link → Leaf → Option Chained

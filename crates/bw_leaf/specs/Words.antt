@@ -46,16 +46,16 @@ records_word k rs = fold (λ was r. newer was (record_word k r)) Silent rs
 
 -- ---- blocks
 
--- a page that is cut has no key from the separator on
-abbrev pub cut_word : Bytes → Bytes → Word
-cut_word k separator = if is_below k separator then Silent else Gone
+-- a page that is split has no key from the separator on
+abbrev pub split_word : Bytes → Bytes → Word
+split_word k separator = if is_below k separator then Silent else Gone
 
 -- what a block says of a key on a page
 abbrev pub block_word : ℕ → Bytes → Block → Word
 block_word p k (Delta page back ops) = if page == p then records_word k ops else Silent
 block_word p k (Base leaf) = if leaf.page == p then word_of (find order k leaf.pairs) else Silent
 block_word p k (Split page back upper) =
-    if upper.page == p then word_of (find order k upper.pairs) else if page == p then cut_word k upper.low else Silent
+    if upper.page == p then word_of (find order k upper.pairs) else if page == p then split_word k upper.low else Silent
 
 abbrev pub blocks_word : ℕ → Bytes → List Block → Word
 blocks_word p k bs = fold (λ was b. newer was (block_word p k b)) Silent bs

@@ -12,7 +12,7 @@ ghost use Rattle.bw_leaf.specs.Forwards.{after, kept_below};
 
 use crate::changes::empty_page;
 use crate::room::fitted;
-use crate::tree::{change_tree, cut_tree, row_of, tree_of};
+use crate::tree::{change_tree, split_tree, row_of, tree_of};
 use crate::{changes, replay};
 use bw_codec::{Block, Key, Leaf, Packed, Pairs, Value, ascend};
 use std::alloc::AllocError;
@@ -191,7 +191,7 @@ impl Draft {
             },
             Some(tree) => {
                 let mut tree = tree;
-                cut_tree(&mut tree, separator);
+                split_tree(&mut tree, separator);
                 Draft {
                     leaf,
                     tree: Some(tree),

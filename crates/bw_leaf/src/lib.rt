@@ -16,6 +16,7 @@ mod changes;
 mod draft;
 mod replay;
 mod room;
+mod split;
 mod tree;
 mod words;
 
@@ -27,4 +28,5 @@ pub use changes::{
 pub use draft::Draft;
 pub use replay::{change_all, keep_below, read_block, read_blocks};
 pub use room::fitted_copy;
+pub use split::{Halves, half_of, new_pair, split_in_two};
 pub use words::{Word, word_in_blocks, word_in_records};

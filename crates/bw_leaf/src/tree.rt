@@ -71,7 +71,7 @@ fn ends_behind(tree: &BTreeMap<Key, Value>, separator: &[u8]) -> bool
 }
 
 /// Takes off the pairs from a separator on, from the last one down. No memory is taken.
-pub(crate) fn cut_tree(tree: &mut BTreeMap<Key, Value>, separator: &[u8])
+pub(crate) fn split_tree(tree: &mut BTreeMap<Key, Value>, separator: &[u8])
     ensures { tree.new.entries ≡ filter (λ p. is_below p.0 separator.now) tree.old.entries }
 {
     'down: while ends_behind(tree, separator) {

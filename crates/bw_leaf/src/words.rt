@@ -6,7 +6,7 @@ ghost use Rattle.std.specs.List.{AllByRecursion};
 ghost use Rattle.std.specs.FinMap.Entries.{find};
 ghost use Rattle.bw_record.specs.Keys.{ascends};
 ghost use Rattle.bw_leaf.specs.Changed.{order};
-ghost use Rattle.bw_leaf.specs.Words.{newer, told_by, record_word, records_word, block_word, blocks_word, cut_word, HasOrder};
+ghost use Rattle.bw_leaf.specs.Words.{newer, told_by, record_word, records_word, block_word, blocks_word, split_word, HasOrder};
 ghost use Rattle.bw_leaf.specs.Words.{word_of as word_of_value};
 
 use crate::changes::value_in;
@@ -84,9 +84,9 @@ fn word_in_leaf(leaf: &Leaf, key: &Key) -> Word
     }
 }
 
-// What the cut of a page at this key says.
-fn word_of_cut(separator: &Low, key: &Key) -> Word
-    ensures { result ≡ cut_word key.now separator.now }
+// What the split of a page at this key says.
+fn word_of_split(separator: &Low, key: &Key) -> Word
+    ensures { result ≡ split_word key.now separator.now }
 {
     if bw_codec::is_before(key.as_slice(), separator.as_slice()) {
         Word::Silent
@@ -123,7 +123,7 @@ fn word_of_block(page: u32, key: &Key, block: &Block) -> Word
             if upper.page == page {
                 word_in_leaf(upper, key)
             } else if *of == page {
-                word_of_cut(&upper.low, key)
+                word_of_split(&upper.low, key)
             } else {
                 Word::Silent
             }
@@ -132,7 +132,7 @@ fn word_of_block(page: u32, key: &Key, block: &Block) -> Word
 }
 
 /// What the newest of these blocks that speaks of a key on a page says, oldest first: a record of the
-/// key, a block that sets the page, or one that cuts the key off. Their pairs ascend. No memory is
+/// key, a block that sets the page, or one that splits the key off. Their pairs ascend. No memory is
 /// taken.
 pub fn word_in_blocks(page: u32, key: &Key, blocks: &[Block]) -> Word
     requires { AllByRecursion HasOrder blocks.now }

@@ -43,7 +43,7 @@ all_untouched p (b ∷ bs) beyond = (untouched p b (omega arith), all_untouched 
 block_page : (m : ℕ) (b : Block) → IsBlock m b → (1 ≤ top_of (mark_of b)) × (top_of (mark_of b) < 2 ^ 32)
 block_page m (Delta page back ops) law = law.changes
 block_page m (Base leaf) law = law.page
-block_page m (Split page back upper) law = let a = law.cuts in let b = law.makes.page in (omega arith, omega arith)
+block_page m (Split page back upper) law = let a = law.splits in let b = law.makes.page in (omega arith, omega arith)
 
 pub top_small : (m : ℕ) (bs : List Block) → AllByRecursion (IsBlock m) bs → top_page bs < 2 ^ 32
 top_small m [] laws = omega arith

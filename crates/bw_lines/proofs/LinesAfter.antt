@@ -60,19 +60,19 @@ base_line p place leaf old new with_it = with_it p ∙ base_by p place leaf old 
 
 -- ---- Split
 
-abbrev pub cut_after : Place → List ℕ → Option Line → Line
-cut_after place low was = record { at = changed_line place (at_in was); leaf = option_map (kept_below low) (leaf_in was) }
+abbrev pub split_after : Place → List ℕ → Option Line → Line
+split_after place low was = record { at = changed_line place (at_in was); leaf = option_map (kept_below low) (leaf_in was) }
 
 split_by : (p page : ℕ) (place back : Place) (upper : Leaf) (old mid : Lines) (t u : Bool) → nat_eq page p ≡ t → nat_eq upper.page p ≡ u → Without page old mid
-    → (if u then Some (base_after place upper) else if t then Some (cut_after place upper.low (old page)) else mid p)
+    → (if u then Some (base_after place upper) else if t then Some (split_after place upper.low (old page)) else mid p)
     ≡ line_after p (old p) (place, Split page back upper)
 split_by p page place back upper old mid true true e f without = rw (e, f) refl
 split_by p page place back upper old mid false true e f without = rw (e, f) refl
-split_by p page place back upper old mid true false e f without = rw (e, f) (ap (λ (k : ℕ). Some (cut_after place upper.low (old k))) (eqb-true page p e))
+split_by p page place back upper old mid true false e f without = rw (e, f) (ap (λ (k : ℕ). Some (split_after place upper.low (old k))) (eqb-true page p e))
 split_by p page place back upper old mid false false e f without = rw (e, f) (without p ∙ (rw e refl))
 
 pub split_line : (p page : ℕ) (place back : Place) (upper : Leaf) (old mid one new : Lines) → Without page old mid
-    → With page (cut_after place upper.low (old page)) mid one → With upper.page (base_after place upper) one new
+    → With page (split_after place upper.low (old page)) mid one → With upper.page (base_after place upper) one new
     → new p ≡ line_after p (old p) (place, Split page back upper)
 split_line p page place back upper old mid one new without with_it more =
     more p ∙ ap (λ (o : Option Line). if nat_eq upper.page p then Some (base_after place upper) else o) (with_it p)
@@ -110,7 +110,7 @@ split_told r place back was_at at page upper low block was leaf old mid one new 
     let leaf_told : leaf ≡ option_map (kept_below upper.low) (leaf_in (old page)) =
     leaf_is ∙ ap (λ (l : List ℕ). option_map (kept_below l) was) same ∙ ap (option_map (kept_below upper.low)) was_is in
     let at_told : at ≡ changed_line place (at_in (old page)) = at_is ∙ ap (changed_line place) was_at_is in
-    let line : record { at = at; leaf = leaf } ≡ cut_after place upper.low (old page) =
+    let line : record { at = at; leaf = leaf } ≡ split_after place upper.low (old page) =
     λ i. record { at = at_told i; leaf = leaf_told i } in
     on_more r (λ (h : With upper.page (base_after place upper) one new). λ p.
     split_line p page place back upper old mid one new without (λ q. first q ∙ ap (λ (l : Line). if nat_eq page q then Some l else mid q) line) h

@@ -52,7 +52,7 @@ changes_shaped : (p : ℕ) (rs : List Record) (leaf : Leaf) → AllByRecursion I
 changes_shaped p [] leaf ops s = s
 changes_shaped p (r ∷ rs) leaf ops s = changes_shaped p rs (changed r leaf) ops.1 (change_shaped p r leaf ops.0 s)
 
--- ---- a cut
+-- ---- a split
 
 kept_all : {X : Type 0} (P : X → Type 0) (x : X) (xs : List X) (t : Bool) → P x → AllByRecursion P xs → AllByRecursion P (if t then x ∷ xs else xs)
 kept_all P x xs true one all = (one, all)
@@ -70,8 +70,8 @@ filter_rises : (test : Bytes × Bytes → Bool) (xs : Pairs) → Rises xs → Ri
 filter_rises test [] all = tt
 filter_rises test (x ∷ xs) all = kept_rises x (filter test xs) (test x) (filter_all (λ q. Below x.0 q.0) test xs all.0) (filter_rises test xs all.1)
 
-cut_shaped : (p : ℕ) (low : Bytes) (leaf : Leaf) → IsShaped p leaf → IsShaped p (kept_below low leaf)
-cut_shaped p low leaf s = record {
+split_shaped : (p : ℕ) (low : Bytes) (leaf : Leaf) → IsShaped p leaf → IsShaped p (kept_below low leaf)
+split_shaped p low leaf s = record {
   page = s.page;
   low = s.low;
   pairs = filter_all IsPair (λ q. is_below q.0 low) leaf.pairs s.pairs;
@@ -97,7 +97,7 @@ after_shaped m p was (Split page back upper) law s =
     either p (Some upper) (if page == p then option_map (kept_below upper.low) was else was) (upper.page == p)
     (λ e. base_shaped m p upper law.makes (eqb-true upper.page p e))
     (either p (option_map (kept_below upper.low) was) was (page == p)
-    (λ _. if_shaped p (kept_below upper.low) was (λ leaf t. cut_shaped p upper.low leaf t) s) s)
+    (λ _. if_shaped p (kept_below upper.low) was (λ leaf t. split_shaped p upper.low leaf t) s) s)
 
 fold_shaped : (m p : ℕ) (was : Option Leaf) (bs : List Block) → AllByRecursion (IsBlock m) bs → IsShapedIf p was → IsShapedIf p (fold (after p) was bs)
 fold_shaped m p was [] laws s = s

@@ -77,7 +77,7 @@ no_zero : (m : ℕ) (b : Block) → IsBlock m b → touches 0 b ≡ false
 no_zero m (Delta page back ops) law = must_not (page == 0) (λ e. (let zero_is = eqb-true page 0 e in let from = law.changes.0 in omega arith))
 no_zero m (Base leaf) law = must_not (leaf.page == 0) (λ e. (let zero_is = eqb-true leaf.page 0 e in let from = law.page.0 in omega arith))
 no_zero m (Split page back upper) law = two (page == 0) (upper.page == 0)
-    (must_not (page == 0) (λ e. (let zero_is = eqb-true page 0 e in let from = law.cuts.0 in omega arith)))
+    (must_not (page == 0) (λ e. (let zero_is = eqb-true page 0 e in let from = law.splits.0 in omega arith)))
     (must_not (upper.page == 0) (λ e. (let zero_is = eqb-true upper.page 0 e in let from = law.makes.page.0 in omega arith))) where
       two : (a b : Bool) → a ≡ false → b ≡ false → (a || b) ≡ false
       two false false x y = refl

@@ -77,19 +77,19 @@ pub record InSegment (v m f segment : ℕ) (bytes : List ℕ) (e : FrameAt × Fr
   pub numbered : e.0.number ≡ e.1.number
   pub begins : e.0.starts ≡ starts_of v e.1
 
-in_segment : (v m f segment : ℕ) (bytes front : List ℕ) (fs : List Frame) (cut : List ℕ) → bytes ≡ front ++ (flat_map (frame_bytes_in v) fs ++ cut)
+in_segment : (v m f segment : ℕ) (bytes front : List ℕ) (fs : List Frame) (torn : List ℕ) → bytes ≡ front ++ (flat_map (frame_bytes_in v) fs ++ torn)
     → AllByRecursion (IsFrameIn v m f) fs
     → AllByRecursion (InSegment v m f segment bytes) (entries_from v segment (length front) fs)
-in_segment v m f segment bytes front [] cut parts lawful = tt
-in_segment v m f segment bytes front (x ∷ xs) cut parts lawful =
-    let here : bytes ≡ front ++ (frame_bytes_in v x ++ (flat_map (frame_bytes_in v) xs ++ cut)) =
-    parts ∙ ap (λ (r : List ℕ). front ++ r) (append_assoc (frame_bytes_in v x) (flat_map (frame_bytes_in v) xs) cut) in
-    let next : bytes ≡ (front ++ frame_bytes_in v x) ++ (flat_map (frame_bytes_in v) xs ++ cut) =
-    here ∙ sym (append_assoc front (frame_bytes_in v x) (flat_map (frame_bytes_in v) xs ++ cut)) in (
+in_segment v m f segment bytes front [] torn parts lawful = tt
+in_segment v m f segment bytes front (x ∷ xs) torn parts lawful =
+    let here : bytes ≡ front ++ (frame_bytes_in v x ++ (flat_map (frame_bytes_in v) xs ++ torn)) =
+    parts ∙ ap (λ (r : List ℕ). front ++ r) (append_assoc (frame_bytes_in v x) (flat_map (frame_bytes_in v) xs) torn) in
+    let next : bytes ≡ (front ++ frame_bytes_in v x) ++ (flat_map (frame_bytes_in v) xs ++ torn) =
+    here ∙ sym (append_assoc front (frame_bytes_in v x) (flat_map (frame_bytes_in v) xs ++ torn)) in (
       record {
         names = refl;
         front = front;
-        back = flat_map (frame_bytes_in v) xs ++ cut;
+        back = flat_map (frame_bytes_in v) xs ++ torn;
         parts = here;
         at = refl;
         len = refl;
@@ -98,7 +98,7 @@ in_segment v m f segment bytes front (x ∷ xs) cut parts lawful =
         begins = refl;
       },
       subst (λ (n : ℕ). AllByRecursion (InSegment v m f segment bytes) (entries_from v segment n xs)) (length-append front (frame_bytes_in v x))
-          (in_segment v m f segment bytes (front ++ frame_bytes_in v x) xs cut next lawful.1),
+          (in_segment v m f segment bytes (front ++ frame_bytes_in v x) xs torn next lawful.1),
     )
 
 -- the same in a segment of a log
@@ -111,7 +111,7 @@ live_segment l number bytes live =
     let h : Header = header_in l number in
     subst (λ (v : ℕ). AllByRecursion (InLive l number bytes) (entries_from v number 24 (segment_frames bytes))) (sym (live_version l number bytes live))
     (subst (λ (n : ℕ). AllByRecursion (InLive l number bytes) (entries_from h.version number n (segment_frames bytes))) (length-header h)
-    (in_segment h.version h.m h.f number bytes (header_bytes h) (segment_frames bytes) live.cut live.whole.parts live.whole.each))
+    (in_segment h.version h.m h.f number bytes (header_bytes h) (segment_frames bytes) live.torn live.whole.parts live.whole.each))
 
 -- ---- all live segments
 

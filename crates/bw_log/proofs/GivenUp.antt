@@ -203,10 +203,10 @@ refault_at : (first next : ℕ) (gone before : List (Place × Block)) (page : �
 refault_at first next gone before page back within le none =
     let was : is_back first (last_place (touches page) (gone ++ before)) back ≡ true =
     true_by (is_back first (last_place (touches page) (gone ++ before)) back) page none in
-    let cut : is_back first (or_else (last_place (touches page) before) (last_place (touches page) gone)) back ≡ true =
+    let behind : is_back first (or_else (last_place (touches page) before) (last_place (touches page) gone)) back ≡ true =
     ap (λ (o : Option Place). is_back first o back) (sym (last_of_two (touches page) gone before)) ∙ was in
     none_by (is_back next (last_place (touches page) before) back) page
-    (relink_by first next (last_place (touches page) before) (last_place (touches page) gone) back (within page) le cut)
+    (relink_by first next (last_place (touches page) before) (last_place (touches page) gone) back (within page) le behind)
 
 refault : (first next : ℕ) (gone before : List (Place × Block)) (b : Block) → Within next gone → first ≤ next → fault_of first (gone ++ before) b ≡ None
     → fault_of next before b ≡ None

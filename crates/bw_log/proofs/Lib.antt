@@ -22,7 +22,7 @@ pub mod Stepped
 pub mod Torn
 pub mod Whole
 pub mod Growing
-pub mod Cut
+pub mod Shortened
 pub mod BlocksRead
 pub mod Adopted
 pub mod Valued

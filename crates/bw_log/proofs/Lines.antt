@@ -45,7 +45,7 @@ block_lines : (m n : ℕ) (b : Block) → IsBlock m b → ((p : ℕ) → n + 1 �
 block_lines m n (Delta page back ops) law beyond = in_lines n page (Delta page back ops) law.changes.0 (eq-eqb page page refl) beyond
 block_lines m n (Base leaf) law beyond = in_lines n leaf.page (Base leaf) law.page.0 (eq-eqb leaf.page leaf.page refl) beyond
 block_lines m n (Split page back upper) law beyond = (
-  in_lines n page (Split page back upper) law.cuts.0 (ap (λ (t : Bool). t || (upper.page == page)) (eq-eqb page page refl)) beyond,
+  in_lines n page (Split page back upper) law.splits.0 (ap (λ (t : Bool). t || (upper.page == page)) (eq-eqb page page refl)) beyond,
   in_lines n upper.page (Split page back upper) law.makes.page.0
       (ap (λ (t : Bool). (page == upper.page) || t) (eq-eqb upper.page upper.page refl) ∙ or_true (page == upper.page)) beyond,
 )

@@ -40,22 +40,22 @@ frames_few v [] = omega arith
 frames_few v (x ∷ fs) = omega (arith, frames_few v fs, length-frame_in v x, length-append (frame_bytes_in v x) (flat_map (frame_bytes_in v) fs))
 
 -- frames spelled one after the other, and a tail, are read as they are
-pub frames_read : (v : ℕ) → (n m f : ℕ) (fs : List Frame) (cut : List ℕ) → m < 2 ^ 16 → f < 2 ^ 32 → AllByRecursion (IsFrameIn v m f) fs
-    → IsTailIn v f cut → length fs ≤ n
-    → frames_at n v m f (flat_map (frame_bytes_in v) fs ++ cut) ≡ (fs, cut)
+pub frames_read : (v : ℕ) → (n m f : ℕ) (fs : List Frame) (torn : List ℕ) → m < 2 ^ 16 → f < 2 ^ 32 → AllByRecursion (IsFrameIn v m f) fs
+    → IsTailIn v f torn → length fs ≤ n
+    → frames_at n v m f (flat_map (frame_bytes_in v) fs ++ torn) ≡ (fs, torn)
 unfolding frames_at
-frames_read v zero m f [] cut small limit laws tail few = refl
-frames_read v (suc n) m f [] cut small limit laws tail few = rw (is_front v m f cut Tail small limit tail, frames_at) refl
-frames_read v zero m f (x ∷ fs) cut small limit laws tail few = absurd (omega arith)
-frames_read v (suc n) m f (x ∷ fs) cut small limit laws tail few =
-    let rest = flat_map (frame_bytes_in v) fs ++ cut in
-    let parts : flat_map (frame_bytes_in v) (x ∷ fs) ++ cut ≡ frame_bytes_in v x ++ rest = append_assoc (frame_bytes_in v x)
-    (flat_map (frame_bytes_in v) fs) cut in
-    let front : front_at v m f (flat_map (frame_bytes_in v) (x ∷ fs) ++ cut) ≡ Some (Whole x (length (frame_bytes_in v x))) =
-    is_front v m f (flat_map (frame_bytes_in v) (x ∷ fs) ++ cut) (Whole x (length (frame_bytes_in v x))) small limit (laws.0, rest, parts, refl) in
-    let left : drop (length (frame_bytes_in v x)) (flat_map (frame_bytes_in v) (x ∷ fs) ++ cut) ≡ rest =
+frames_read v zero m f [] torn small limit laws tail few = refl
+frames_read v (suc n) m f [] torn small limit laws tail few = rw (is_front v m f torn Tail small limit tail, frames_at) refl
+frames_read v zero m f (x ∷ fs) torn small limit laws tail few = absurd (omega arith)
+frames_read v (suc n) m f (x ∷ fs) torn small limit laws tail few =
+    let rest = flat_map (frame_bytes_in v) fs ++ torn in
+    let parts : flat_map (frame_bytes_in v) (x ∷ fs) ++ torn ≡ frame_bytes_in v x ++ rest = append_assoc (frame_bytes_in v x)
+    (flat_map (frame_bytes_in v) fs) torn in
+    let front : front_at v m f (flat_map (frame_bytes_in v) (x ∷ fs) ++ torn) ≡ Some (Whole x (length (frame_bytes_in v x))) =
+    is_front v m f (flat_map (frame_bytes_in v) (x ∷ fs) ++ torn) (Whole x (length (frame_bytes_in v x))) small limit (laws.0, rest, parts, refl) in
+    let left : drop (length (frame_bytes_in v x)) (flat_map (frame_bytes_in v) (x ∷ fs) ++ torn) ≡ rest =
     ap (λ (b : List ℕ). drop (length (frame_bytes_in v x)) b) parts ∙ drop_at (frame_bytes_in v x) rest (length (frame_bytes_in v x)) refl in
-    let others = frames_read v n m f fs cut small limit laws.1 tail (omega arith) in
+    let others = frames_read v n m f fs torn small limit laws.1 tail (omega arith) in
     rw (front, left, others, frames_at) refl
 
 -- ---- a segment
@@ -65,18 +65,18 @@ limited : (v : ℕ) → greatest_limit v < 2 ^ 32
 limited v = elim (v == 1) as (λ t. (if t then 65536 else 262144) < 2 ^ 32) [ true ↦ omega arith | false ↦ omega arith ]
 
 -- what its first bytes are read as
-pub whole_header : (bytes : List ℕ) (h : Header) (fs : List Frame) (cut : List ℕ) → IsWhole bytes h fs cut → heading_of bytes ≡ heading.Whole h
-whole_header bytes h fs cut w = ap heading_of w.parts ∙ header_again h (flat_map (frame_bytes_in h.version) fs ++ cut) w.lawful
+pub whole_header : (bytes : List ℕ) (h : Header) (fs : List Frame) (torn : List ℕ) → IsWhole bytes h fs torn → heading_of bytes ≡ heading.Whole h
+whole_header bytes h fs torn w = ap heading_of w.parts ∙ header_again h (flat_map (frame_bytes_in h.version) fs ++ torn) w.lawful
 
 -- the same bytes have one header
-pub one_header : (bytes : List ℕ) (h k : Header) (fs gs : List Frame) (cut rest : List ℕ) → IsWhole bytes h fs cut → IsWhole bytes k gs rest → h ≡ k
-one_header bytes h k fs gs cut rest a b =
-    (let same : heading.Whole h ≡ heading.Whole k = sym (whole_header bytes h fs cut a) ∙ whole_header bytes k gs rest b in cc)
+pub one_header : (bytes : List ℕ) (h k : Header) (fs gs : List Frame) (torn rest : List ℕ) → IsWhole bytes h fs torn → IsWhole bytes k gs rest → h ≡ k
+one_header bytes h k fs gs torn rest a b =
+    (let same : heading.Whole h ≡ heading.Whole k = sym (whole_header bytes h fs torn a) ∙ whole_header bytes k gs rest b in cc)
 
-pub segment_read : (bytes : List ℕ) (h : Header) (fs : List Frame) (cut : List ℕ) → IsWhole bytes h fs cut → segment_frames bytes ≡ fs
+pub segment_read : (bytes : List ℕ) (h : Header) (fs : List Frame) (torn : List ℕ) → IsWhole bytes h fs torn → segment_frames bytes ≡ fs
 unfolding segment_frames
-segment_read bytes h fs cut w =
-    let rest = flat_map (frame_bytes_in h.version) fs ++ cut in
+segment_read bytes h fs torn w =
+    let rest = flat_map (frame_bytes_in h.version) fs ++ torn in
     let ms = w.lawful.m in
     let small : h.f < 2 ^ 32 = (let fl = w.lawful.f.1 in let all = limited h.version in omega arith) in
     let head : heading_of bytes ≡ heading.Whole h = ap heading_of w.parts ∙ header_again h rest w.lawful in
@@ -88,9 +88,9 @@ segment_read bytes h fs cut w =
       frames_few h.version fs,
       length-append (header_bytes h) rest,
       length-append
-          (flat_map (frame_bytes_in h.version) fs) cut,
+          (flat_map (frame_bytes_in h.version) fs) torn,
     ) in
-    let read = frames_read h.version (length bytes) h.m h.f fs cut (omega arith) small w.each w.tail few in
+    let read = frames_read h.version (length bytes) h.m h.f fs torn (omega arith) small w.each w.tail few in
     rw (head, left, read, segment_frames) refl
 
 pub no_bytes_are_a_tail : (v f : ℕ) → IsTailIn v f []
@@ -137,7 +137,7 @@ clean_len m f number bytes clean =
 
 -- a header of version 2, frames and a tail
 abbrev pub IsNew : ℕ → ℕ → ℕ → List ℕ → Type 0
-IsNew m f number bytes = (cut : List ℕ) × IsWhole bytes (header_with number m f) (segment_frames bytes) cut
+IsNew m f number bytes = (torn : List ℕ) × IsWhole bytes (header_with number m f) (segment_frames bytes) torn
 
 -- the header of a segment behind the old ones
 pub header_new : (l : Limits) (number : ℕ) → l.old_to < number → header_in l number ≡ header_with number l.m l.f
@@ -148,7 +148,7 @@ header_new l number new =
 pub new_is_live : (l : Limits) (number : ℕ) (bytes : List ℕ) → header_in l number ≡ header_with number l.m l.f → IsNew l.m l.f number bytes
     → IsLive l number bytes
 new_is_live l number bytes same new =
-    record { cut = new.0; whole = subst (λ (h : Header). IsWhole bytes h (segment_frames bytes) new.0) (sym same) new.1 }
+    record { torn = new.0; whole = subst (λ (h : Header). IsWhole bytes h (segment_frames bytes) new.0) (sym same) new.1 }
 
 pub clean_is_new : (m f number : ℕ) (bytes : List ℕ) → IsClean m f number bytes → IsNew m f number bytes
 clean_is_new m f number bytes clean = ([], clean)
@@ -157,7 +157,7 @@ clean_is_new m f number bytes clean = ([], clean)
 pub clean_header : (l : Limits) (number : ℕ) (bytes : List ℕ) → IsLive l number bytes → IsClean l.m l.f number bytes
     → header_in l number ≡ header_with number l.m l.f
 clean_header l number bytes live clean =
-    one_header bytes (header_in l number) (header_with number l.m l.f) (segment_frames bytes) (segment_frames bytes) live.cut [] live.whole clean
+    one_header bytes (header_in l number) (header_with number l.m l.f) (segment_frames bytes) (segment_frames bytes) live.torn [] live.whole clean
 
 -- the version of a segment, by its first bytes
 pub new_version : (m f number : ℕ) (bytes : List ℕ) → IsNew m f number bytes → version_in bytes ≡ latest
@@ -166,14 +166,14 @@ new_version m f number bytes new = ap version_in new.1.parts
 pub live_version : (l : Limits) (number : ℕ) (bytes : List ℕ) → IsLive l number bytes → version_in bytes ≡ version_at l.old_to number
 live_version l number bytes live =
     let rest = number_bytes 8 number ++ (number_bytes 2 l.m ++ (number_bytes 2 0 ++ number_bytes 4 (limit_at l number))) in
-    let more = flat_map (frame_bytes_in (version_at l.old_to number)) (segment_frames bytes) ++ live.cut in
+    let more = flat_map (frame_bytes_in (version_at l.old_to number)) (segment_frames bytes) ++ live.torn in
     ap version_in live.whole.parts
     ∙ elim (nat_le number l.old_to) as (λ t. version_in ((segment_word (if t then 1 else latest) ++ rest) ++ more) ≡ (if t then 1 else latest)) [
       | true ↦ refl
       | false ↦ refl
     ]
 
--- a frame cut off: the frames are those before, or one more where all of its bytes are there
+-- a frame that is torn: the frames are those before, or one more where all of its bytes are there
 pub clean_torn : (m f number : ℕ) (bytes : List ℕ) (x : Frame) (n : ℕ) → IsClean m f number bytes → IsFrame m f x
     → IsNew m f number (bytes ++ take n (frame_bytes x))
     × ((segment_frames (bytes ++ take n (frame_bytes x)) ≡ segment_frames bytes) ⊎ (bytes ++ take n (frame_bytes x) ≡ bytes ++ frame_bytes x))
@@ -182,14 +182,14 @@ clean_torn m f number bytes x n clean law =
     let fs = segment_frames bytes in
     elim (cases_lt n (length (frame_bytes x))) [
       | inl short ↦ (
-          let cut = take n (frame_bytes x) in
-          let parts : bytes ++ cut ≡ header_bytes h ++ (flat_map frame_bytes fs ++ cut) =
-          ap (λ (b : List ℕ). b ++ cut) (clean.parts ∙ ap (λ (b : List ℕ). header_bytes h ++ b) (append-nil (flat_map frame_bytes fs)))
-          ∙ append_assoc (header_bytes h) (flat_map frame_bytes fs) cut in
-          let whole : IsWhole (bytes ++ cut) h fs cut =
+          let torn = take n (frame_bytes x) in
+          let parts : bytes ++ torn ≡ header_bytes h ++ (flat_map frame_bytes fs ++ torn) =
+          ap (λ (b : List ℕ). b ++ torn) (clean.parts ∙ ap (λ (b : List ℕ). header_bytes h ++ b) (append-nil (flat_map frame_bytes fs)))
+          ∙ append_assoc (header_bytes h) (flat_map frame_bytes fs) torn in
+          let whole : IsWhole (bytes ++ torn) h fs torn =
           record { lawful = clean.lawful; each = clean.each; tail = beginnings_are_tails latest m f x n law short; parts = parts } in
-          let read = segment_read (bytes ++ cut) h fs cut whole in
-          ((cut, subst (λ (gs : List Frame). IsWhole (bytes ++ cut) h gs cut) (sym read) whole), inl read))
+          let read = segment_read (bytes ++ torn) h fs torn whole in
+          ((torn, subst (λ (gs : List Frame). IsWhole (bytes ++ torn) h gs torn) (sym read) whole), inl read))
       | inr whole ↦ (
           let same : bytes ++ take n (frame_bytes x) ≡ bytes ++ frame_bytes x = ap (λ (b : List ℕ). bytes ++ b) (take_all n (frame_bytes x) whole) in
           (subst (IsNew m f number) (sym same) (clean_is_new m f number (bytes ++ frame_bytes x) (clean_more m f number bytes x clean law).1), inr same))

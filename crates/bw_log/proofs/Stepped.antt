@@ -162,7 +162,7 @@ top_small : (m : ℕ) (bs : List Block) → AllByRecursion (IsBlock m) bs → to
 top_small m [] laws = omega arith
 top_small m (Delta page back ops ∷ bs) laws = let a = laws.0.changes.1 in let t = top_small m bs laws.1 in omega arith
 top_small m (Base leaf ∷ bs) laws = let a = laws.0.page.1 in let t = top_small m bs laws.1 in omega arith
-top_small m (Split page back upper ∷ bs) laws = let a = laws.0.cuts.1 in let b = laws.0.makes.page.1 in let t = top_small m bs laws.1 in omega arith
+top_small m (Split page back upper ∷ bs) laws = let a = laws.0.splits.1 in let b = laws.0.makes.page.1 in let t = top_small m bs laws.1 in omega arith
 
 abbrev new_pages : Contents → Frame → List PageAt
 new_pages c x = noted_all x.number 0 x.blocks (grown_to (top_page x.blocks) c.pages)

@@ -70,8 +70,8 @@ header_in l number = record { version = version_at l.old_to number; number = num
 
 -- a header with the segment's number, frames and a tail
 pub record IsLive (l : Limits) (number : ℕ) (bytes : List ℕ) : Type 0 where
-  pub cut : List ℕ
-  pub whole : IsWhole bytes (header_in l number) (segment_frames bytes) cut
+  pub torn : List ℕ
+  pub whole : IsWhole bytes (header_in l number) (segment_frames bytes) torn
 
 -- segments numbered one after the other
 abbrev pub AreLive : Limits → ℕ → List (List ℕ) → Type 0

@@ -5,7 +5,7 @@
 //! could refuse is asked before (`ready`), and the tables change behind the device's answer, into
 //! room that was reserved: a log says of no frame that it is there which may not be. One failure
 //! ends it for good, since an append behind a piece of unknown length would stand where no scan
-//! finds it. A header is an append of its own: cut short, it is a segment with a part of a header,
+//! finds it. A header is an append of its own: torn, it is a segment with a part of a header,
 //! which is a spare again.
 //!
 //! An ordinary append leaves one spare. A cleaning writes before it gives room back, and without

@@ -60,7 +60,7 @@ impl PageAt {
         }
     }
 
-    /// Where a block that changes or cuts the page stands here.
+    /// Where a block that changes or splits the page stands here.
     pub fn changed(self, place: Place) -> PageAt
         ensures { result ≡ changed_line place self }
     {

@@ -8,7 +8,7 @@ use std::alloc::{AllocError, Global};
 pub enum Step {
     /// A frame, in so many bytes.
     Frame(Frame, usize),
-    /// So many bytes, perhaps none, at which a frame was cut off.
+    /// So many bytes, perhaps none, at which a frame was torn off.
     Tail(usize),
     /// Other bytes.
     Bad,

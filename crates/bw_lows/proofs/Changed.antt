@@ -32,18 +32,18 @@ flat_without [] (suc i) block e = refl
 flat_without (b ∷ bs) zero block e = ap (λ (c : List Low). c ++ flat bs) (sym e)
 flat_without (b ∷ bs) (suc i) block e = ap (λ (c : List Low). b ++ c) (flat_without bs i block e)
 
-cut_there : (blocks : List (List Low)) (i : ℕ) (lower upper : List Low) → i < length blocks → lower ++ upper ≡ block_at blocks i
+halved_there : (blocks : List (List Low)) (i : ℕ) (lower upper : List Low) → i < length blocks → lower ++ upper ≡ block_at blocks i
     → flat (insert (slice_set blocks i lower) (suc i) upper) ≡ flat blocks
-cut_there [] i lower upper h e = absurd (omega arith)
-cut_there (b ∷ bs) zero lower upper h e = sym (append_assoc lower upper (flat bs)) ∙ ap (λ (c : List Low). c ++ flat bs) e
-cut_there (b ∷ bs) (suc i) lower upper h e = ap (λ (c : List Low). b ++ c) (cut_there bs i lower upper (omega arith) e)
+halved_there [] i lower upper h e = absurd (omega arith)
+halved_there (b ∷ bs) zero lower upper h e = sym (append_assoc lower upper (flat bs)) ∙ ap (λ (c : List Low). c ++ flat bs) e
+halved_there (b ∷ bs) (suc i) lower upper h e = ap (λ (c : List Low). b ++ c) (halved_there bs i lower upper (omega arith) e)
 
--- a block was cut in two
-pub flat_cut : (blocks : List (List Low)) (i : ℕ) (lower upper : List Low) → i < length blocks → lower ++ upper ≡ block_at blocks i
+-- a block was halved
+pub flat_halved : (blocks : List (List Low)) (i : ℕ) (lower upper : List Low) → i < length blocks → lower ++ upper ≡ block_at blocks i
     → flat (insert (slice_set blocks i lower) (i + 1) upper) ≡ flat blocks
-flat_cut blocks i lower upper h e =
+flat_halved blocks i lower upper h e =
     let one : i + 1 ≡ suc i = omega arith in
-    ap (λ (k : ℕ). flat (insert (slice_set blocks i lower) k upper)) one ∙ cut_there blocks i lower upper h e
+    ap (λ (k : ℕ). flat (insert (slice_set blocks i lower) k upper)) one ∙ halved_there blocks i lower upper h e
 
 -- a low was taken out of a block
 pub flat_out : (blocks : List (List Low)) (i m : ℕ) → i < length blocks

@@ -54,10 +54,10 @@ module _ (shared row : List ℕ) (blocks : List (List Low)) (at : ℕ) (is : IsR
       (subst (λ (k : Bytes). IsRow shared row (slice_set (firsts blocks) at (k, (first block).1))) (sym low)
       (row_kept shared row (firsts blocks) at (first block).1 is))
 
-  -- a block was cut in two
-  pub firsts_cut : (lower upper : List Low) → lower ++ upper ≡ block_at blocks at → 0 < length lower
+  -- a block was halved
+  pub firsts_halved : (lower upper : List Low) → lower ++ upper ≡ block_at blocks at → 0 < length lower
       → IsRow shared row (firsts (slice_set blocks at lower))
-  firsts_cut lower upper e some =
+  firsts_halved lower upper e some =
       firsts_kept lower (sym (first_of_both lower upper some) ∙ ap (λ (b : List Low). low_at b 0) e)
 
 -- a block was put behind the one at an index

@@ -6,7 +6,7 @@ use Rattle.std.proofs.lemmas.Bool.{cases_lt}
 use Rattle.std.specs.Prelude.{slice_set}
 use Rattle.bw_record.specs.Keys.{is_below}
 use Rattle.bw_lows.specs.LowHeads.{Bytes, page_of_low, IsGreatestLow, HasNoLow, IsLeastLow, HasNoHigher}
-use Rattle.bw_lows.specs.Rows.{Low, nothing, low_at, page_at, AllUpTo, AllAbove, Ascends, IsCut}
+use Rattle.bw_lows.specs.Rows.{Low, nothing, low_at, page_at, AllUpTo, AllAbove, Ascends, IsBoundary}
 use Rattle.bw_lows.specs.Flat.{flat, block_at, lows_before, lows_behind, AreFilled, AreBlocks, IsPlace}
 use Rattle.bw_lows.proofs.Order.{Below, UpTo, not_both}
 use Rattle.bw_lows.proofs.Ascending.{AllBelow, all_back, all_both, ascends_back, before_low, below_through, above_first, greatest_there, least_there, none_there, none_higher}
@@ -101,10 +101,10 @@ none_here blocks i n h = ap (λ (lows : List Low). lows ++ flat (drop (suc i) bl
 -- ---- the place that a search finds
 
 module _ (key : Bytes) (blocks : List (List Low)) (a : AreBlocks blocks) (count : ℕ)
-    (cut : IsCut (λ i. is_below key (low_at (block_at blocks i) 0)) (length blocks) count) where
+    (boundary : IsBoundary (λ i. is_below key (low_at (block_at blocks i) 0)) (length blocks) count) where
   above_from : 0 < length (flat (drop count blocks)) → Below key (low_at (flat (drop count blocks)) 0)
   above_from some = elim (cases_lt count (length blocks)) as (λ _. Below key (low_at (flat (drop count blocks)) 0)) [
-    | inl h ↦ ap (λ k. is_below key k) (first_from blocks count a.filled h) ∙ cut.behind h
+    | inl h ↦ ap (λ k. is_below key k) (first_from blocks count a.filled h) ∙ boundary.behind h
     | inr h ↦ absurd (omega (arith, ap length (no_block blocks count h)))
   ]
 
@@ -125,15 +125,15 @@ module _ (key : Bytes) (blocks : List (List Low)) (a : AreBlocks blocks) (count 
         above = subst (λ (lows : List Low). AllAbove key lows) (sym (behind_none blocks)) all;
       }
 
-  module _ (i n : ℕ) (next : suc i ≡ count) (there : IsCut (λ j. is_below key (low_at (block_at blocks i) j)) (length (block_at blocks i)) n) where
+  module _ (i n : ℕ) (next : suc i ≡ count) (there : IsBoundary (λ j. is_below key (low_at (block_at blocks i) j)) (length (block_at blocks i)) n) where
     block : i < length blocks
-    block = omega (arith, cut.within)
+    block = omega (arith, boundary.within)
 
     -- its first low is not above the key
     some : n ≡ 0 → ⊥
     some e = not_both (is_below key (low_at (block_at blocks i) 0))
         (ap (λ (j : ℕ). is_below key (low_at (block_at blocks i) j)) (sym e) ∙ there.behind (omega (arith, filled_at blocks i a.filled block)))
-        (cut.before i next)
+        (boundary.before i next)
 
     upto_before : (m : ℕ) → suc m ≡ n → AllUpTo key (lows_before blocks i n)
     upto_before m e =

@@ -27,7 +27,7 @@ abbrev pub IsRow : Bytes → List ℕ → List Low → Type 0
 IsRow shared row lows = (row ≡ []) ⊎ IsWholeRow shared row lows
 
 -- of the heads from `least` on, the one before the n-th is below another head, and the n-th is not
-pub record IsHeadCut (row : List ℕ) (h least n : ℕ) : Type 0 where
+pub record IsHeadBoundary (row : List ℕ) (h least n : ℕ) : Type 0 where
   pub order : least ≤ n
   pub within : n ≤ length row
   pub before : (i : ℕ) → suc i ≡ n → least < n → get_or row i 0 < h

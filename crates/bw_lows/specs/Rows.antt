@@ -32,7 +32,7 @@ Ascends [] = Unit {0}
 Ascends (p ∷ ps) = AllAbove p.0 ps × Ascends ps
 
 -- of so many places, the one before the n-th is not above, and the n-th is
-pub record IsCut (is_above : ℕ → Bool) (count n : ℕ) : Type 0 where
+pub record IsBoundary (is_above : ℕ → Bool) (count n : ℕ) : Type 0 where
   pub within : n ≤ count
   pub before : (i : ℕ) → suc i ≡ n → is_above i ≡ false
   pub behind : n < count → is_above n ≡ true

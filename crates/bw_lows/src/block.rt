@@ -5,7 +5,7 @@ ghost use Rattle.std.specs.Ordering.{is_eq};
 ghost use Rattle.bw_record.specs.Keys.{is_below, IsBytes};
 ghost use Rattle.bw_record.specs.Heads.{head};
 ghost use Rattle.bw_lows.specs.LowHeads.{order};
-ghost use Rattle.bw_lows.specs.Rows.{low_at, page_at, IsCut};
+ghost use Rattle.bw_lows.specs.Rows.{low_at, page_at, IsBoundary};
 ghost use Rattle.bw_lows.specs.LowRow.{IsHeadBehind};
 
 use crate::entry::Entry;
@@ -103,7 +103,7 @@ impl Block {
     pub(crate) fn count_upto(&self, start: u64, key: &Key) -> usize
         requires start { start ≡ head key.now }
         requires bytes { IsBytes key.now }
-        ensures { IsCut (λ i. is_below key.now (low_at self.now i)) (length self.now) result }
+        ensures { IsBoundary (λ i. is_below key.now (low_at self.now i)) (length self.now) result }
     {
         let (mut from, mut to) = self.row.bounds(self.len(), key);
         while from < to {

@@ -3,7 +3,7 @@
 ghost use Rattle.std.specs.Prelude.{◌≡◌, ◌≤◌, ◌<◌, ◌+◌, [], ◌∷◌, ◌++◌, length, insert, slice_set, List, OnOk, OnErr};
 ghost use Rattle.bw_record.specs.Keys.{is_below, IsBytes};
 ghost use Rattle.bw_record.specs.Heads.{head};
-ghost use Rattle.bw_lows.specs.Rows.{Low, low_at, IsCut};
+ghost use Rattle.bw_lows.specs.Rows.{Low, low_at, IsBoundary};
 ghost use Rattle.bw_lows.specs.LowRow.{IsRow};
 ghost use Rattle.bw_lows.specs.Flat.{flat, block_at, firsts, lows_before, lows_behind, AreFilled, AreBlocks, IsPlace};
 
@@ -70,7 +70,7 @@ impl Blocks {
         requires filled { AreFilled self.now }
         requires start { start ≡ head key.now }
         requires bytes { IsBytes key.now }
-        ensures { IsCut (λ i. is_below key.now (low_at (block_at self.now i) 0))
+        ensures { IsBoundary (λ i. is_below key.now (low_at (block_at self.now i) 0))
             (length self.now) result }
     {
         let (mut from, mut to) = self.begins.bounds(self.len(), key);
@@ -135,8 +135,8 @@ impl Blocks {
         self.blocks[at].set_page(index, page);
     }
 
-    /// Cuts a block in two: its upper half becomes a block behind it. A refusal changes nothing.
-    pub(crate) fn cut(&mut self, at: usize) -> Result<(), AllocError>
+    /// Halves a block: its upper half becomes a block behind it. A refusal changes nothing.
+    pub(crate) fn halve(&mut self, at: usize) -> Result<(), AllocError>
         requires within { at < length self.old }
         requires long { 2 ≤ length (block_at self.old at) }
         ensures lows { flat self.new ≡ flat self.old }

@@ -1,6 +1,6 @@
 //! The index of low keys: the page of each, and of the greatest that is not above a key.
 //!
-//! Lows stand in ascending order in blocks of at most 256, and a block that is full is cut in two
+//! Lows stand in ascending order in blocks of at most 256, and a block that is full is halved
 //! before it takes one more: no change moves more than a block's lows and the row of blocks. A low
 //! of at most eight bytes is told by its head, which is its first eight bytes as a number, and its
 //! length; it takes forty bytes, and none beside them. A longer one has a run of its own.

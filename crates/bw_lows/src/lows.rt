@@ -105,7 +105,7 @@ impl LowIndex {
         true
     }
 
-    // Cuts the block that a low belongs to in two, where it has no room for one more.
+    // Halves the block that a low belongs to, where it has no room for one more.
     fn make_room(&mut self, low: &Key) -> Result<(), AllocError>
         ensures { self.new ≡ self.old }
     {
@@ -113,7 +113,7 @@ impl LowIndex {
         if at >= self.blocks.len() || self.blocks.block(at).len() < MOST {
             return Ok(());
         }
-        self.blocks.cut(at)
+        self.blocks.halve(at)
     }
 
     // Adds a low that has no page yet.

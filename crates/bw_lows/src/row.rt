@@ -8,7 +8,7 @@ ghost use Rattle.std.specs.Prelude.{◌≡◌, List, [], ◌∷◌, ◌++◌, �
 ghost use Rattle.std.specs.Bool.{OnTrue};
 ghost use Rattle.bw_record.specs.Keys.{is_below};
 ghost use Rattle.bw_lows.specs.Rows.{Low, low_at, IsBetween};
-ghost use Rattle.bw_lows.specs.LowRow.{IsHeadBehind, IsRow, IsHeadCut, IsHeadRun};
+ghost use Rattle.bw_lows.specs.LowRow.{IsHeadBehind, IsRow, IsHeadBoundary, IsHeadRun};
 ghost use Rattle.bw_lows.specs.Flat.{firsts};
 
 use crate::block::Block;
@@ -239,7 +239,7 @@ fn equal(row: &[u64], head: u64) -> (usize, usize)
 // How many heads are below this one, where heads ascend and so many are known to be.
 fn count_below(row: &[u64], least: usize, head: u64) -> usize
     requires { least ≤ length row.now }
-    ensures { IsHeadCut row.now head least result }
+    ensures { IsHeadBoundary row.now head least result }
 {
     let mut from = least;
     let mut to = row.len();

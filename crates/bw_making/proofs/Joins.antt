@@ -26,7 +26,7 @@ use Rattle.bw_buffer.proofs.Joined.{StandsOpen, Joinable, JoinsIn, found, joins_
 use Rattle.bw_buffer.proofs.Sizes.{pushed_size, joined_size}
 use Rattle.bw_log.proofs.Walks.{content_push}
 use Rattle.bw_making.specs.Adding.{with_blocks}
-use Rattle.bw_making.specs.Share.{ops_of, ops_at, cut_of, cuts_in, base_of, bases_in}
+use Rattle.bw_making.specs.Share.{ops_of, ops_at, split_of, splits_in, base_of, bases_in}
 use Rattle.bw_making.specs.Overlay.{makes, is_made}
 
 pub all-append : {X : Type 0} (P : X → Type 0) (xs ys : List X) → All P xs → All P ys → All P (xs ++ ys)
@@ -122,9 +122,9 @@ ops_join p = record {
 pub added_ops : (p : ℕ) (blocks more : List Block) → ops_at p (added blocks more) ≡ ops_at p blocks ++ ops_at p more
 added_ops p blocks more = added_flat (ops_of p) (ops_join p) blocks more
 
-pub added_cuts : (blocks more : List Block) → cuts_in (added blocks more) ≡ cuts_in blocks ++ cuts_in more
-added_cuts blocks more =
-    added_flat cut_of (record { more = λ p one back old new. refl; past = λ p back new c quiet. append-nil (cut_of c) }) blocks more
+pub added_splits : (blocks more : List Block) → splits_in (added blocks more) ≡ splits_in blocks ++ splits_in more
+added_splits blocks more =
+    added_flat split_of (record { more = λ p one back old new. refl; past = λ p back new c quiet. append-nil (split_of c) }) blocks more
 
 pub added_bases : (blocks more : List Block) → bases_in (added blocks more) ≡ bases_in blocks ++ bases_in more
 added_bases blocks more =

@@ -1,4 +1,4 @@
--- What blocks do to a page that they neither make nor cut.
+-- What blocks do to a page that they neither make nor split.
 
 use Rattle.std.proofs.Common.{◌≡◌, ℕ, Bool, true, false, Option, Some, None, List, [], ◌∷◌, ◌++◌}
 use Rattle.std.proofs.Common.{refl, sym, ap, ◌∙◌, if◌then◌else◌}

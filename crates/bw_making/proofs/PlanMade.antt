@@ -10,7 +10,8 @@ use Rattle.bw_codec.specs.declared.block.Place.{Place}
 use Rattle.bw_codec.specs.declared.block.Block.{Block}
 use Rattle.bw_codec.specs.declared.block.Block.TheVariants.{Delta, Split}
 use Rattle.bw_leaf.specs.Changed.{changed}
-use Rattle.bw_page.specs.Leaves.{home, directed_at, upper_of, leaf_at, result_of, HasPage, AreLeaves}
+use Rattle.bw_page.specs.Leaves.{home, directed_at, leaf_at, result_of, HasPage, AreLeaves}
+use Rattle.bw_leaf.specs.SplitRule.{upper_of}
 use Rattle.bw_page.specs.Shown.{Shown, leaf_here, is_evicted_page, IsHere}
 use Rattle.bw_page.specs.declared.fault.ApplyError.{ApplyError}
 use Rattle.bw_page.proofs.PageByPage.{home_there}

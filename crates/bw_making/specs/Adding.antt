@@ -9,7 +9,8 @@ use Rattle.bw_codec.specs.declared.block.Block.{Block}
 use Rattle.bw_codec.specs.declared.block.Block.TheVariants.{Delta, Split}
 use Rattle.bw_codec.specs.declared.block.Frame.{Frame}
 use Rattle.bw_leaf.specs.Changed.{changed}
-use Rattle.bw_page.specs.Leaves.{home, directed_at, upper_of, applied}
+use Rattle.bw_page.specs.Leaves.{home, directed_at, applied}
+use Rattle.bw_leaf.specs.SplitRule.{upper_of}
 use Rattle.bw_buffer.specs.Joining.{joins, added}
 
 -- a frame with further blocks, of which Deltas join

@@ -7,7 +7,7 @@ use Rattle.bw_codec.specs.declared.block.Block.TheVariants.{Delta, Base, Split}
 use Rattle.bw_buffer.specs.declared.mark.Mark.{Mark}
 use Rattle.bw_buffer.specs.declared.mark.Mark.TheVariants.{Changes, Sets, Splits}
 
--- whether a block makes a page or cuts it: without this block no records lead from the page in the log to the page
+-- whether a block makes a page or splits it: without this block no records lead from the page in the log to the page
 abbrev pub makes : ℕ → Block → Bool
 makes p (Delta page back ops) = false
 makes p (Base leaf) = leaf.page == p
@@ -16,7 +16,7 @@ makes p (Split page back upper) = (page == p) || (upper.page == p)
 abbrev pub is_made : ℕ → List Block → Bool
 is_made p blocks = list_any (makes p) blocks
 
--- whether a block of this mark makes a page or cuts it
+-- whether a block of this mark makes a page or splits it
 abbrev pub made_by : ℕ → Mark → Bool
 made_by p (Changes page) = false
 made_by p (Sets page) = page == p

@@ -3,7 +3,7 @@
 //! A page that leaves memory is the page in the log with the records that the frame in the making
 //! has of it: its overlay. Nothing is kept for that beside the frame, so a record that is taken costs
 //! nothing here: the records are read back out of the frame when somebody asks for the page. A page
-//! that the frame makes or cuts has no overlay: it stays until the log has it whole.
+//! that the frame makes or splits has no overlay: it stays until the log has it whole.
 
 ghost use Rattle.std.specs.Prelude.{◌≡◌, ◌<◌, ◌++◌, length, slice_get, IfOk, IfSome, OnOk};
 ghost use Rattle.bw_making.specs.Share.{ops_at, ops_of};
@@ -13,7 +13,7 @@ use bw_buffer::{Buffer, Mark};
 use bw_codec::{Block, Packed};
 use std::alloc::{AllocError, Global};
 
-/// Whether the frame makes a page or cuts it. It costs a look at each block, and takes no memory.
+/// Whether the frame makes a page or splits it. It costs a look at each block, and takes no memory.
 pub fn makes(making: &Buffer, page: u32) -> bool
     ensures { result ≡ is_made page making.now.blocks }
 {

@@ -13,7 +13,7 @@ ghost use Rattle.bw_making.specs.Planning.{listed, IsWantingAt};
 
 use crate::blocks::{Blocks, blocks_of};
 use bw_codec::{Leaf, Place, Record};
-use bw_page::{ApplyError, Cut, Leaves, change, count_after, cut_in_two};
+use bw_page::{ApplyError, Halves, Leaves, change, count_after, split_in_two};
 use std::alloc::Global;
 
 /// A record's page, the block before on that page, and the record's blocks.
@@ -24,7 +24,7 @@ pub struct Plan {
     pub blocks: Blocks,
 }
 
-// The upper part of a leaf, if the record cuts it.
+// The upper part of a leaf, if the record splits it.
 fn upper_of(
     alloc: Global,
     m: u16,
@@ -46,7 +46,7 @@ fn upper_of(
     };
     let mut whole = leaf.copy()?;
     change(&mut whole, item)?;
-    let Cut { lower: _, upper } = cut_in_two(alloc, m, whole, page)?;
+    let Halves { lower: _, upper } = split_in_two(alloc, m, whole, page)?;
     Ok(Some(upper))
 }
 

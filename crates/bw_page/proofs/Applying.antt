@@ -114,10 +114,10 @@ begins-push [] u b = absurd b
 begins-push (l ∷ ls) u b = b
 
 module _ (m : ℕ) (leaves : List Leaf) (u : Leaf) (a : AreLeaves m leaves) (s : Splits m leaves u) where
-  -- were u better for a key with another home, its home would have the low of the leaf that is cut
-  better_is_cut : (q : Bytes) → UpTo u.low q → Below (home q leaves).low u.low → (home q leaves).page ≡ (home u.low leaves).page
-  better_is_cut q from below =
-      let cut_low : UpTo (home u.low leaves).low (home q leaves).low =
+  -- were u better for a key with another home, its home would have the low of the leaf that is split
+  better_is_split : (q : Bytes) → UpTo u.low q → Below (home q leaves).low u.low → (home q leaves).page ≡ (home u.low leaves).page
+  better_is_split q from below =
+      let split_low : UpTo (home u.low leaves).low (home q leaves).low =
       home-all (λ l. UpTo l.low q → UpTo l.low (home q leaves).low) u.low leaves a.first (home-max q leaves)
       (upto-trans (home u.low leaves).low u.low q (below_upto (home u.low leaves).low u.low s.above) from) in
       let home_low : UpTo (home q leaves).low (home u.low leaves).low =
@@ -125,10 +125,10 @@ module _ (m : ℕ) (leaves : List Leaf) (u : Leaf) (a : AreLeaves m leaves) (s :
       (below_upto (home q leaves).low u.low below) in
       home-all (λ y. (home q leaves).low ≡ y.low → (home q leaves).page ≡ y.page) u.low leaves a.first
       (home-all (λ x. All (λ y. x.low ≡ y.low → x.page ≡ y.page) leaves) q leaves a.first a.lows)
-      (upto-antisymm _ _ home_low cut_low)
+      (upto-antisymm _ _ home_low split_low)
 
   pub stays : (q : Bytes) → (home q leaves).page ≢ (home u.low leaves).page → pick q (home q leaves) u ≡ home q leaves
-  stays q ne = elim (picks q (home q leaves) u) [ second from below e ↦ absurd (ne (better_is_cut q from below)) | first f e ↦ e ]
+  stays q ne = elim (picks q (home q leaves) u) [ second from below e ↦ absurd (ne (better_is_split q from below)) | first f e ↦ e ]
 
   pub home-push_lower : (q : Bytes) → Below q u.low → home q (leaves ++ u ∷ []) ≡ home q leaves
   home-push_lower q b = home-push q leaves u a.first ∙ elim (picks q (home q leaves) u) [ second from below e ↦ absurd (not_both _ b from) | first f e ↦ e ]

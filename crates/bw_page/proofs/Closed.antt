@@ -15,7 +15,8 @@ use Rattle.bw_record.specs.declared.leaf.Leaf.{Leaf}
 use Rattle.bw_record.specs.declared.record.Record.{Record}
 use Rattle.bw_page.specs.declared.leaves.Leaves.TheInside.{Inside}
 use Rattle.bw_leaf.specs.Changed.{Bytes, order, empty_leaf, changed, changed_map}
-use Rattle.bw_page.specs.Leaves.{home, AreLeaves, BeginsEmpty, HasPage, lower_of, upper_of, applied, union}
+use Rattle.bw_page.specs.Leaves.{home, AreLeaves, BeginsEmpty, HasPage, applied, union}
+use Rattle.bw_leaf.specs.SplitRule.{lower_of, upper_of}
 use Rattle.bw_lows.specs.LowHeads.{page_of_low}
 use Rattle.bw_page.specs.Shown.{Shown, applied_by}
 use Rattle.bw_leaf.specs.Seek.{seek_of, IsWithin}
@@ -24,7 +25,7 @@ use Rattle.bw_page.specs.Index.{view_of, IsIndexed}
 use Rattle.bw_leaf.proofs.Order.{order-total, apart}
 use Rattle.bw_page.proofs.Homes.{put_in, set_is_put}
 use Rattle.bw_page.proofs.Applying.{put_in-page, same_lows, put_leaves, new_low}
-use Rattle.bw_page.proofs.Law.{directed, whole_in, lower_in, upper_in, applied-whole, applied-cut, applied-lawful, applied-plain}
+use Rattle.bw_page.proofs.Law.{directed, whole_in, lower_in, upper_in, applied-whole, applied-split, applied-lawful, applied-plain}
 use Rattle.bw_page.proofs.Homes.{home_stands}
 
 -- ---- the lows of changed leaves
@@ -111,27 +112,27 @@ module _ (a : Inside) (h : IsIndexed a) (r : Record) (op : IsOp r) (at : ℕ) (h
             ∙ lows-put _ a.leaves.items (same_lows a.m a.leaves.items (key_of r) _ h.lawful into)));
       }
 
-  -- one leaf was cut in two, and its upper part stands behind the others
-  pub cut_is : a.m < length (changed r (home (key_of r) a.leaves.items)).pairs
+  -- one leaf was split in two, and its upper part stands behind the others
+  pub split_is : a.m < length (changed r (home (key_of r) a.leaves.items)).pairs
       → slice_set a.leaves.items at (lower_of a.m (changed r (home (key_of r) a.leaves.items)))
       ++ upper_of a.m (length a.leaves.items + 1) (changed r (home (key_of r) a.leaves.items)) ∷ [] ≡ applied a.m a.leaves.items r
-  cut_is over =
+  split_is over =
       ap (λ (ls : List Leaf). ls ++ upper_of a.m (length a.leaves.items + 1) (changed r (home (key_of r) a.leaves.items)) ∷ [])
       (in_place (lower_of a.m (changed r (home (key_of r) a.leaves.items))) refl)
-      ∙ sym (applied-cut a.m a.leaves.items r some h.lawful op over)
+      ∙ sym (applied-split a.m a.leaves.items r some h.lawful op over)
 
-  pub cut_filed : (b : Inside) → b.m ≡ a.m → a.m < length (changed r (home (key_of r) a.leaves.items)).pairs → length a.leaves.items + 1 < 2 ^ 32
+  pub split_filed : (b : Inside) → b.m ≡ a.m → a.m < length (changed r (home (key_of r) a.leaves.items)).pairs → length a.leaves.items + 1 < 2 ^ 32
       → b.leaves.items ≡ applied a.m a.leaves.items r
       → ((q : Bytes) → page_of_low b.index q
       ≡ cond (eq_by_cmp order q (upper_of a.m (length a.leaves.items + 1) (changed r (home (key_of r) a.leaves.items))).low)
       (Some (length a.leaves.items + 1)) (page_of_low a.index q))
       → IsIndexed b
-  cut_filed b em over room el got =
+  split_filed b em over room el got =
       let x = changed r (home (key_of r) a.leaves.items) in
       let u = upper_of a.m (length a.leaves.items + 1) x in
       let t = directed a.m a.leaves.items r h.lawful op in
       let into = lower_in a.m a.leaves.items (key_of r) x some t in
-      let form = applied-cut a.m a.leaves.items r some h.lawful op over in
+      let form = applied-split a.m a.leaves.items r some h.lawful op over in
       let parts : List Leaf = map (put_in (lower_of a.m x)) a.leaves.items in
       let lowers = put_leaves a.m a.leaves.items (key_of r) (lower_of a.m x) h.lawful into in
       let up = upper_in a.m a.leaves.items (key_of r) x some h.lawful t over room in
@@ -169,7 +170,7 @@ module _ (a : Inside) (h : IsIndexed a) (now : Shown) (v : view_of a ≡ now) (r
   count_inside : count ≡ length (changed r (home (key_of r) a.leaves.items)).pairs
   count_inside = subst (λ (f : Shown). count ≡ length (changed r (home (key_of r) f.leaves)).pairs) (sym v) pairs
 
-  -- the leaf that is cut has too many pairs, whatever a read past the end gives
+  -- the leaf that is split has too many pairs, whatever a read past the end gives
   pub over_at : a.m < count → (d : Leaf) → a.m < length (changed r (get_or a.leaves.items at d)).pairs
   over_at over d =
       subst (λ (l : Leaf). a.m < length (changed r l).pairs) (sym (leaf_is a h r op at here_inside d)) (let c = count_inside in omega arith)
@@ -212,13 +213,13 @@ module _ (a : Inside) (h : IsIndexed a) (now : Shown) (v : view_of a ≡ now) (r
         plain = plain_is a h r op at here_inside b.leaves.items (λ over. absurd (omega arith)) el ∙ ap (λ (f : Shown). changed_map (union f.leaves) r) v;
       }
 
-  pub follows_cut : (b : Inside) (page : ℕ) → b.m ≡ a.m → b.leaves.evicted ≡ a.leaves.evicted → a.m < count → page ≡ length a.leaves.items + 1 → page < 2 ^ 32
+  pub follows_split : (b : Inside) (page : ℕ) → b.m ≡ a.m → b.leaves.evicted ≡ a.leaves.evicted → a.m < count → page ≡ length a.leaves.items + 1 → page < 2 ^ 32
       → ((d : Leaf) → b.leaves.items ≡ slice_set a.leaves.items at (lower_of a.m (changed r (get_or a.leaves.items at d)))
       ++ upper_of a.m page (changed r (get_or a.leaves.items at d)) ∷ [])
       → ((d : Leaf) (q : Bytes) → page_of_low b.index q
       ≡ cond (eq_by_cmp order q (upper_of a.m page (changed r (get_or a.leaves.items at d))).low) (Some page) (page_of_low a.index q))
       → Follows now r b
-  follows_cut b page em ea many e room set got =
+  follows_split b page em ea many e room set got =
       let over : a.m < length (changed r (home (key_of r) a.leaves.items)).pairs = (let c = count_inside in omega arith) in
       let fits : length a.leaves.items + 1 < 2 ^ 32 = subst (λ n. n < 2 ^ 32) e room in
       let el : b.leaves.items ≡ applied a.m a.leaves.items r =
@@ -227,9 +228,9 @@ module _ (a : Inside) (h : IsIndexed a) (now : Shown) (v : view_of a ≡ now) (r
       (leaf_is a h r op at here_inside empty_leaf)
       ∙ ap (λ n. slice_set a.leaves.items at (lower_of a.m (changed r (home (key_of r) a.leaves.items)))
       ++ upper_of a.m n (changed r (home (key_of r) a.leaves.items)) ∷ []) e
-      ∙ cut_is a h r op at here_inside over in
+      ∙ split_is a h r op at here_inside over in
       record {
-        filed = cut_filed a h r op at here_inside b em over fits el (λ q. got empty_leaf q
+        filed = split_filed a h r op at here_inside b em over fits el (λ q. got empty_leaf q
             ∙ ap (λ (l : Leaf). cond (eq_by_cmp order q (upper_of a.m page (changed r l)).low) (Some page) (page_of_low a.index q))
             (leaf_is a h r op at here_inside empty_leaf)
             ∙ ap (λ n. cond (eq_by_cmp order q (upper_of a.m n (changed r (home (key_of r) a.leaves.items))).low) (Some n) (page_of_low a.index q)) e);
@@ -250,10 +251,10 @@ whole_by f r page count m e c k few =
     ap (λ b. cond b None (Some (length f.leaves + 1))) (sym (le-leb (length (changed r (home (key_of r) f.leaves)).pairs) f.m (omega arith))) in
     λ i. record { page = e i; made = made i }
 
-pub cut_by : (f : Shown) (r : Record) (page count m made : ℕ) → page ≡ (home (key_of r) f.leaves).page
+pub split_by : (f : Shown) (r : Record) (page count m made : ℕ) → page ≡ (home (key_of r) f.leaves).page
     → count ≡ length (changed r (home (key_of r) f.leaves)).pairs → m ≡ f.m → m < count → made ≡ length f.leaves + 1
     → (record { page = page; made = Some made }) ≡ applied_by f r
-cut_by f r page count m made e c k many n =
+split_by f r page count m made e c k many n =
     let made_is : Some made ≡ (applied_by f r).made =
     ap Some n ∙ ap (λ b. cond b None (Some (length f.leaves + 1))) (sym (lt-leb (length (changed r (home (key_of r) f.leaves)).pairs) f.m (omega arith))) in
     λ i. record { page = e i; made = made_is i }

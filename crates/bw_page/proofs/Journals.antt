@@ -14,12 +14,13 @@ use Rattle.bw_record.specs.Record.{key_of}
 use Rattle.bw_record.specs.declared.leaf.Leaf.{Leaf}
 use Rattle.bw_record.specs.declared.record.Record.{Record}
 use Rattle.bw_leaf.specs.Changed.{Bytes, order, changed}
-use Rattle.bw_page.specs.Leaves.{home, with_leaf, lower_of, upper_of, applied, HasPage, AreLeaves}
+use Rattle.bw_page.specs.Leaves.{home, with_leaf, applied, HasPage, AreLeaves}
+use Rattle.bw_leaf.specs.SplitRule.{lower_of, upper_of}
 use Rattle.bw_page.specs.Lows.{lows_of}
 use Rattle.bw_leaf.proofs.Order.{Below, not_both, upto_empty, tied}
 use Rattle.bw_page.proofs.Homes.{put_in, set_is_put}
 use Rattle.bw_page.proofs.Applying.{Replaces, same_lows, put_leaves, Splits, new_low}
-use Rattle.bw_page.proofs.Law.{directed, home_base, whole_in, lower_in, upper_in, applied-whole, applied-cut}
+use Rattle.bw_page.proofs.Law.{directed, home_base, whole_in, lower_in, upper_in, applied-whole, applied-split}
 use Rattle.bw_page.proofs.Homes.{home_stands}
 use Rattle.bw_page.proofs.Closed.{lows-put, find-push, not_among_others}
 
@@ -38,7 +39,7 @@ stepped m leaves r some room a op =
       | true ↦ λ e. let fits = leb-true _ _ e in whole x (whole_in m leaves (key_of r) x t fits) (applied-whole m leaves r some a op fits)
       | false ↦ λ e. let over = leb-false _ _ e in
           split (lower_of m x) (upper_of m (length leaves + 1) x) (lower_in m leaves (key_of r) x some t)
-          (upper_in m leaves (key_of r) x some a t over (room over)) (applied-cut m leaves r some a op over)
+          (upper_in m leaves (key_of r) x some a t over (room over)) (applied-split m leaves r some a op over)
     ] refl
 
 -- ---- put back

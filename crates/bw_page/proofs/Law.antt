@@ -19,7 +19,8 @@ use Rattle.bw_record.specs.declared.leaf.Leaf.{Leaf}
 use Rattle.bw_record.specs.declared.record.Record.{Record}
 use Rattle.bw_record.specs.declared.record.Record.TheVariants.{Put, Del}
 use Rattle.bw_leaf.specs.Changed.{Bytes, order, empty_leaf, changed, changed_map}
-use Rattle.bw_page.specs.Leaves.{home, AtHome, AreLeaves, HasPage, HasPages, lower_of, upper_of, applied, pages}
+use Rattle.bw_page.specs.Leaves.{home, AtHome, AreLeaves, HasPage, HasPages, applied, pages}
+use Rattle.bw_leaf.specs.SplitRule.{lower_of, upper_of}
 use Rattle.bw_page.specs.Leaves.{union, plain}
 use Rattle.bw_leaf.proofs.Order.{Below, UpTo, order-total, upto-below, apart}
 use Rattle.bw_leaf.proofs.Sorted.{all-map, all-zip, all-take, all-drop, Rises, ascends_rises, rises_ascends, rises-take, rises-drop, first-all, lower_below}
@@ -98,22 +99,22 @@ lower_in m leaves k d some t = record {
 
 module _ (m : ℕ) (leaves : List Leaf) (k : Bytes) (d : Leaf) (some : 1 ≤ m) (a : AreLeaves m leaves) (t : Directed m leaves k d)
     (over : m < length d.pairs) where
-  pub cut_within : (m + 1) / 2 < length d.pairs
-  cut_within = let lies = half_lies m some in omega arith
+  pub split_within : (m + 1) / 2 < length d.pairs
+  split_within = let lies = half_lies m some in omega arith
 
   upper_some : 1 ≤ length (drop ((m + 1) / 2) d.pairs)
-  upper_some = let long = length-drop ((m + 1) / 2) d.pairs in let within = cut_within in omega arith
+  upper_some = let long = length-drop ((m + 1) / 2) d.pairs in let within = split_within in omega arith
 
   lower_some : 1 ≤ length (take ((m + 1) / 2) d.pairs)
-  lower_some = let long = length-take ((m + 1) / 2) d.pairs in let lies = half_lies m some in let within = cut_within in omega arith
+  lower_some = let long = length-take ((m + 1) / 2) d.pairs in let lies = half_lies m some in let within = split_within in omega arith
 
   low_home : home (first_key (drop ((m + 1) / 2) d.pairs)) leaves ≡ home k leaves
   low_home = first-all (λ q. home q leaves ≡ home k leaves) (drop ((m + 1) / 2) d.pairs) upper_some
       (all-drop (λ p. home p.0 leaves ≡ home k leaves) ((m + 1) / 2) d.pairs t.keys)
 
   -- the low of the upper part is above that of the lower part, which has a pair
-  pub cut_over : Below d.low (first_key (drop ((m + 1) / 2) d.pairs))
-  cut_over =
+  pub split_over : Below d.low (first_key (drop ((m + 1) / 2) d.pairs))
+  split_over =
       first-all (λ q. Below d.low (first_key (drop ((m + 1) / 2) d.pairs))) (take ((m + 1) / 2) d.pairs) lower_some
       (all-zip (λ p. home p.0 leaves ≡ home k leaves) (λ p. Below p.0 (first_key (drop ((m + 1) / 2) d.pairs)))
       (λ p. Below d.low (first_key (drop ((m + 1) / 2) d.pairs)))
@@ -121,13 +122,13 @@ module _ (m : ℕ) (leaves : List Leaf) (k : Bytes) (d : Leaf) (some : 1 ≤ m) 
       (subst (λ (low : Bytes). UpTo low p.0) (ap (λ (x : Leaf). x.low) is ∙ sym t.low) (home-low p.0 leaves a.first)) below)
       (take ((m + 1) / 2) d.pairs)
       (all-take (λ p. home p.0 leaves ≡ home k leaves) ((m + 1) / 2) d.pairs t.keys)
-      (lower_below ((m + 1) / 2) d.pairs cut_within t.rises))
+      (lower_below ((m + 1) / 2) d.pairs split_within t.rises))
 
   pub lower_here : (q : Bytes) → home q leaves ≡ home k leaves → home q (map (put_in (lower_of m d)) leaves) ≡ lower_of m d
   lower_here q e = home-put_here m leaves k (lower_of m d) a (lower_in m leaves k d some t) q e
 
-  pub cut_here : home (first_key (drop ((m + 1) / 2) d.pairs)) (map (put_in (lower_of m d)) leaves) ≡ lower_of m d
-  cut_here = lower_here (first_key (drop ((m + 1) / 2) d.pairs)) low_home
+  pub split_here : home (first_key (drop ((m + 1) / 2) d.pairs)) (map (put_in (lower_of m d)) leaves) ≡ lower_of m d
+  split_here = lower_here (first_key (drop ((m + 1) / 2) d.pairs)) low_home
 
   pub upper_in : length leaves + 1 < 2 ^ 32 → Splits m (map (put_in (lower_of m d)) leaves) (upper_of m (length leaves + 1) d)
   upper_in room = record {
@@ -140,13 +141,13 @@ module _ (m : ℕ) (leaves : List Leaf) (k : Bytes) (d : Leaf) (some : 1 ≤ m) 
       pairs = all-drop IsPair ((m + 1) / 2) d.pairs t.pairs;
       ascends = rises_ascends (drop ((m + 1) / 2) d.pairs) (rises-drop ((m + 1) / 2) d.pairs t.rises);
     };
-    above = subst (λ (x : Leaf). Below x.low (first_key (drop ((m + 1) / 2) d.pairs))) (sym cut_here) cut_over;
-    lower = subst (λ (x : Leaf). All (λ p. Below p.0 (first_key (drop ((m + 1) / 2) d.pairs))) x.pairs) (sym cut_here)
-        (lower_below ((m + 1) / 2) d.pairs cut_within t.rises);
+    above = subst (λ (x : Leaf). Below x.low (first_key (drop ((m + 1) / 2) d.pairs))) (sym split_here) split_over;
+    lower = subst (λ (x : Leaf). All (λ p. Below p.0 (first_key (drop ((m + 1) / 2) d.pairs))) x.pairs) (sym split_here)
+        (lower_below ((m + 1) / 2) d.pairs split_within t.rises);
     from = upper_from ((m + 1) / 2) d.pairs t.rises;
     homes = all-map (λ p. home p.0 leaves ≡ home k leaves)
         (λ p. home p.0 (map (put_in (lower_of m d)) leaves) ≡ home (first_key (drop ((m + 1) / 2) d.pairs)) (map (put_in (lower_of m d)) leaves))
-        (λ p is. lower_here p.0 is ∙ sym cut_here) (drop ((m + 1) / 2) d.pairs) (all-drop (λ p. home p.0 leaves ≡ home k leaves) ((m + 1) / 2) d.pairs t.keys);
+        (λ p is. lower_here p.0 is ∙ sym split_here) (drop ((m + 1) / 2) d.pairs) (all-drop (λ p. home p.0 leaves ≡ home k leaves) ((m + 1) / 2) d.pairs t.keys);
   }
 
 -- ---- leaves after a record
@@ -193,10 +194,10 @@ module _ (m : ℕ) (leaves : List Leaf) (r : Record) (some : 1 ≤ m) (a : AreLe
             (λ ne. home-put_elsewhere m leaves (key_of r) _ a into q ne);
       }
 
-  cut-tells : m < length (changed r (home (key_of r) leaves)).pairs → length leaves + 1 < 2 ^ 32
+  split-tells : m < length (changed r (home (key_of r) leaves)).pairs → length leaves + 1 < 2 ^ 32
       → Tells m leaves r (map (put_in (lower_of m (changed r (home (key_of r) leaves)))) leaves
       ++ upper_of m (length leaves + 1) (changed r (home (key_of r) leaves)) ∷ [])
-  cut-tells over room =
+  split-tells over room =
       let x : Leaf = changed r (home (key_of r) leaves) in
       let t = directed m leaves r a op in
       let into = lower_in m leaves (key_of r) x some t in
@@ -205,7 +206,7 @@ module _ (m : ℕ) (leaves : List Leaf) (r : Record) (some : 1 ≤ m) (a : AreLe
       let low : Bytes = first_key (drop ((m + 1) / 2) x.pairs) in
       let parts = map (put_in (lower_of m x)) leaves in
       let u = upper_of m (length leaves + 1) x in
-      let cut_at = cut_here m leaves (key_of r) x some a t over in
+      let split_one = split_here m leaves (key_of r) x some a t over in
       record {
         lawful = push_leaves m parts u lowers up;
         finds = λ q. here q (parts ++ u ∷ [])
@@ -214,13 +215,13 @@ module _ (m : ℕ) (leaves : List Leaf) (r : Record) (some : 1 ≤ m) (a : AreLe
             elim (is_below q low) as (λ b. is_below q low ≡ b → find order q (home q (parts ++ u ∷ [])).pairs ≡ find order q x.pairs) [
               | true ↦ λ e. ap (λ (l : Leaf). find order q l.pairs) (home-push_lower m parts u lowers up q e ∙ lower)
                   ∙ find-lower q ((m + 1) / 2) x.pairs t.rises e
-              | false ↦ λ e. ap (λ (l : Leaf). find order q l.pairs) (home-push_upper m parts u lowers up q e (lower ∙ sym cut_at))
-                  ∙ find-upper q ((m + 1) / 2) x.pairs (cut_within m leaves (key_of r) x some a t over) t.rises e
+              | false ↦ λ e. ap (λ (l : Leaf). find order q l.pairs) (home-push_upper m parts u lowers up q e (lower ∙ sym split_one))
+                  ∙ find-upper q ((m + 1) / 2) x.pairs (split_within m leaves (key_of r) x some a t over) t.rises e
             ] refl)
             (λ ne.
             let other = home-put_elsewhere m leaves (key_of r) (lower_of m x) a into q ne in
             home-push_elsewhere m parts u lowers up q
-            (λ e. ne (sym (ap (λ (l : Leaf). l.page) other) ∙ e ∙ ap (λ (l : Leaf). l.page) cut_at ∙ t.page)) ∙ other);
+            (λ e. ne (sym (ap (λ (l : Leaf). l.page) other) ∙ e ∙ ap (λ (l : Leaf). l.page) split_one ∙ t.page)) ∙ other);
       }
 
   -- the two forms that leaves take after a record
@@ -228,10 +229,10 @@ module _ (m : ℕ) (leaves : List Leaf) (r : Record) (some : 1 ≤ m) (a : AreLe
   applied-whole fits =
       rw (le-leb _ m fits) (set_is_put (changed r (home (key_of r) leaves)) leaves a.pages (directed m leaves r a op).number.0)
 
-  pub applied-cut : m < length (changed r (home (key_of r) leaves)).pairs
+  pub applied-split : m < length (changed r (home (key_of r) leaves)).pairs
       → applied m leaves r ≡ map (put_in (lower_of m (changed r (home (key_of r) leaves)))) leaves
       ++ upper_of m (length leaves + 1) (changed r (home (key_of r) leaves)) ∷ []
-  applied-cut over =
+  applied-split over =
       rw (lt-leb _ m over) (ap (λ ls. ls ++ upper_of m (length leaves + 1) (changed r (home (key_of r) leaves)) ∷ [])
       (set_is_put (lower_of m (changed r (home (key_of r) leaves))) leaves a.pages (directed m leaves r a op).number.0))
 
@@ -240,7 +241,7 @@ module _ (m : ℕ) (leaves : List Leaf) (r : Record) (some : 1 ≤ m) (a : AreLe
       elim (nat_le (length (changed r (home (key_of r) leaves)).pairs) m) as
       (λ b. nat_le (length (changed r (home (key_of r) leaves)).pairs) m ≡ b → Tells m leaves r (applied m leaves r)) [
         | true ↦ λ e. let fits = leb-true _ _ e in subst (Tells m leaves r) (sym (applied-whole fits)) (whole-tells fits)
-        | false ↦ λ e. let over = leb-false _ _ e in subst (Tells m leaves r) (sym (applied-cut over)) (cut-tells over (room over))
+        | false ↦ λ e. let over = leb-false _ _ e in subst (Tells m leaves r) (sym (applied-split over)) (split-tells over (room over))
       ] refl
 
 module _ (m : ℕ) (leaves : List Leaf) (r : Record) (some : 1 ≤ m) (room : HasPage m leaves r) (a : AreLeaves m leaves) (op : IsOp r) where

@@ -10,12 +10,13 @@ use Rattle.std.proofs.lemmas.List.{length-map}
 use Rattle.bw_record.specs.Record.{key_of}
 use Rattle.bw_record.specs.declared.leaf.Leaf.{Leaf}
 use Rattle.bw_leaf.specs.Changed.{Bytes, changed}
-use Rattle.bw_page.specs.Leaves.{home, lower_of, upper_of, leaf_at, AreNumbered, AreLeaves}
+use Rattle.bw_page.specs.Leaves.{home, leaf_at, AreNumbered, AreLeaves}
+use Rattle.bw_leaf.specs.SplitRule.{lower_of, upper_of}
 use Rattle.bw_page.specs.Laws.{AppliesPageByPage}
 use Rattle.bw_page.proofs.Homes.{home-all, put_in}
 use Rattle.bw_page.proofs.Applying.{put_in-at, put_in-other}
 use Rattle.bw_page.proofs.Indexed.{each_at}
-use Rattle.bw_page.proofs.Law.{applied-whole, applied-cut}
+use Rattle.bw_page.proofs.Law.{applied-whole, applied-split}
 use Rattle.bw_page.proofs.Steps.{leaf_at-map, leaf_at-push, leaf_at-new}
 
 page_is : (n : ℕ) (ls : List Leaf) (i : ℕ) (l : Leaf) → AreNumbered n ls → slice_get ls i ≡ Some l → l.page ≡ n + i
@@ -59,12 +60,12 @@ page_by_page m leaves r some a op =
     record {
       whole = λ fits p. ap (leaf_at p) (applied-whole m leaves r some a op fits) ∙ put_at m leaves k x p a refl;
       as_many = λ fits. ap (λ (ls : List Leaf). length ls) (applied-whole m leaves r some a op fits) ∙ length-map leaves (put_in x);
-      lower = λ over p within. ap (leaf_at p) (applied-cut m leaves r some a op over)
+      lower = λ over p within. ap (leaf_at p) (applied-split m leaves r some a op over)
           ∙ leaf_at-push p low u (omega arith)
           ∙ put_at m leaves k (lower_of m x) p a refl;
-      upper = λ over. ap (leaf_at (length leaves + 1)) (applied-cut m leaves r some a op over)
+      upper = λ over. ap (leaf_at (length leaves + 1)) (applied-split m leaves r some a op over)
           ∙ ap (λ n. leaf_at (n + 1) (low ++ u ∷ [])) (sym long)
           ∙ leaf_at-new low u;
-      one_more = λ over. ap (λ (ls : List Leaf). length ls) (applied-cut m leaves r some a op over)
+      one_more = λ over. ap (λ (ls : List Leaf). length ls) (applied-split m leaves r some a op over)
           ∙ length-append low (u ∷ []) ∙ ap (λ n. n + 1) long;
     }

@@ -68,7 +68,7 @@ none_there m r pairs rises few over =
 
 -- ---- the two parts as one leaf again
 
--- without the key of the record they are the leaf that was cut
+-- without the key of the record they are the leaf that was split
 pub parts_whole : (m h : ℕ) (r : Record) (leaf upper : Leaf) → Rises leaf.pairs → length leaf.pairs ≤ m → m < length (changed r leaf).pairs
     → upper.pairs ≡ drop h (changed r leaf).pairs
     → changed (Del (key_of r)) (joined (record (changed r leaf) { pairs = take h (changed r leaf).pairs }) upper) ≡ leaf

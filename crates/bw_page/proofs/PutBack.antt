@@ -18,7 +18,8 @@ use Rattle.bw_page.specs.declared.leaves.Leaves.TheInside.{Inside}
 use Rattle.bw_page.specs.declared.journal.Undo.TheVariants.{Back, Page}
 use Rattle.bw_page.specs.Displaced.{Displaced, joined, AreParts}
 use Rattle.bw_leaf.specs.Changed.{Bytes, order, empty_leaf, changed}
-use Rattle.bw_page.specs.Leaves.{home, result_of, lower_of, upper_of, with_leaf, applied, AreLeaves}
+use Rattle.bw_page.specs.Leaves.{home, result_of, with_leaf, applied, AreLeaves}
+use Rattle.bw_leaf.specs.SplitRule.{lower_of, upper_of}
 use Rattle.bw_lows.specs.LowHeads.{page_of_low}
 use Rattle.bw_page.specs.Seats.{Seating, is_among}
 use Rattle.bw_leaf.specs.Seek.{seek_of, AddsNone, back_of}
@@ -33,7 +34,7 @@ use Rattle.bw_page.proofs.Homes.{put_in, set_is_put}
 use Rattle.bw_page.proofs.Parting.{parts_few, parts_whole}
 use Rattle.bw_leaf.proofs.Sorted.{ascends_rises}
 use Rattle.bw_page.proofs.Applying.{Replaces, same_lows, put_in-page, home-put}
-use Rattle.bw_page.proofs.Law.{directed, home_base, lower_in, applied-whole, applied-cut}
+use Rattle.bw_page.proofs.Law.{directed, home_base, lower_in, applied-whole, applied-split}
 use Rattle.bw_page.proofs.Closed.{leaf_is, lows-put}
 use Rattle.bw_page.proofs.TakenBack.{into, back_adds, back-key}
 use Rattle.bw_page.proofs.Runs.{back_one, page_of, back_is}
@@ -88,10 +89,10 @@ module _ (a : Inside) (h : IsIndexed a) (now : Shown) (v : view_of a ≡ now) (u
   pub put_page : 1 ≤ u.leaf.page
   put_page = let p = page_is in let w = home_within n.before.m (key_of n.change) n.before.leaves n.lawful in omega arith
 
-  -- where the record cut the page, its parts are there
+  -- where the record split the page, its parts are there
   pub put_parts : (seats : Seating) (upper : Option Leaf) → seats.items ≡ take u.pages a.leaves.items → seats.evicted ≡ a.leaves.evicted
-      → ((d : Leaf) → u.pages < length a.leaves.items → upper ≡ Some (get_or a.leaves.items u.pages d)) → IsTrue u.is_cut → AreParts u seats upper
-  put_parts seats upper items evicted last cut =
+      → ((d : Leaf) → u.pages < length a.leaves.items → upper ≡ Some (get_or a.leaves.items u.pages d)) → IsTrue u.is_split → AreParts u seats upper
+  put_parts seats upper items evicted last split =
       let m = n.before.m in
       let leaves = n.before.leaves in
       let k = key_of n.change in
@@ -101,9 +102,9 @@ module _ (a : Inside) (h : IsIndexed a) (now : Shown) (v : view_of a ≡ now) (u
       let lower : Leaf = lower_of m x in
       let upper_is : Leaf = upper_of m (length leaves + 1) x in
       let was = page_of n.before n.change u n.displaced in
-      let cut_is : IsTrue (not (nat_le (length x.pairs) m)) = subst IsTrue (ap (λ (d : Displaced). d.is_cut) was) cut in
-      let over : m < length x.pairs = over_of (length x.pairs) m cut_is in
-      let form : a.leaves.items ≡ map (put_in lower) leaves ++ upper_is ∷ [] = leaves_are ∙ applied-cut m leaves n.change n.some n.lawful n.op over in
+      let split_is : IsTrue (not (nat_le (length x.pairs) m)) = subst IsTrue (ap (λ (d : Displaced). d.is_split) was) split in
+      let over : m < length x.pairs = over_of (length x.pairs) m split_is in
+      let form : a.leaves.items ≡ map (put_in lower) leaves ++ upper_is ∷ [] = leaves_are ∙ applied-split m leaves n.change n.some n.lawful n.op over in
       let into = lower_in m leaves k x n.some (directed m leaves n.change n.lawful n.op) in
       let p = pages_are in
       let page = page_is in

@@ -137,8 +137,8 @@ undo_back f r back fits is =
     let few = le-leb (length (result_of f.leaves r).pairs) f.m fits in
     λ i. if sym few i then undo_by (is i) (displaced_by f r) else Page (displaced_by f r)
 
-pub undo_cut : (f : Shown) (r : Record) (d : Displaced) → d ≡ displaced_by f r → f.m < length (result_of f.leaves r).pairs → Page d ≡ undo_of f r
-undo_cut f r d e over =
+pub undo_split : (f : Shown) (r : Record) (d : Displaced) → d ≡ displaced_by f r → f.m < length (result_of f.leaves r).pairs → Page d ≡ undo_of f r
+undo_split f r d e over =
     let many = lt-leb (length (result_of f.leaves r).pairs) f.m over in
     λ i. if sym many i then undo_by (back_of r (find order (key_of r) (home (key_of r) f.leaves).pairs)) (displaced_by f r) else Page (e i)
 

@@ -1,4 +1,4 @@
--- For the crates above: a page's leaf after a record, and the cut of the forward reading.
+-- For the crates above: a page's leaf after a record, and the split of the forward reading.
 
 use Rattle.std.proofs.Common.{◌≡◌, ℕ, zero, suc, ◌+◌, ◌/◌, ◌<◌, ◌≤◌, Some, List, [], ◌∷◌, ◌++◌, map, length, take, drop, refl, ap, arith, add-one}
 use Rattle.std.specs.List.{AllByRecursion as All, filter, slice_get}
@@ -7,7 +7,8 @@ use Rattle.bw_record.specs.Keys.{is_below}
 use Rattle.bw_codec.specs.Grammar.{first_key}
 use Rattle.bw_record.specs.declared.leaf.Leaf.{Leaf}
 use Rattle.bw_leaf.specs.Changed.{Bytes, Pairs}
-use Rattle.bw_page.specs.Leaves.{leaf_at, lower_of, upper_of}
+use Rattle.bw_page.specs.Leaves.{leaf_at}
+use Rattle.bw_leaf.specs.SplitRule.{lower_of, upper_of}
 use Rattle.bw_leaf.specs.Forwards.{kept_below}
 use Rattle.bw_leaf.proofs.Order.{Below, UpTo}
 use Rattle.bw_leaf.proofs.Sorted.{Rises, lower_below, upper_from}
@@ -22,7 +23,7 @@ filter-take s zero ps h k = filter-none s ps k
 filter-take s (suc n) [] h k = refl
 filter-take s (suc n) (p ∷ ps) h k = rw h.0 (ap (λ xs. p ∷ xs) (filter-take s n ps h.1 k))
 
--- the Split of the forward reading cuts as the split rule does
+-- the Split of the forward reading splits as the split rule does
 pub kept-lower : (m page : ℕ) (leaf : Leaf) → (m + 1) / 2 < length leaf.pairs → Rises leaf.pairs → kept_below (upper_of m page leaf).low leaf ≡ lower_of m leaf
 kept-lower m page leaf within r =
     ap (λ (ps : Pairs). record leaf { pairs = ps })

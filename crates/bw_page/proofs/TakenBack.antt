@@ -70,7 +70,7 @@ back_adds_by (Put key value) back None ps found s h e k = let same : Del key ≡
 back_adds_by (Del key) back (Some old) ps found s h e k = absurd (cc)
 back_adds_by (Del key) back None ps found s h e k = let same : Del key ≡ back = cc in subst (λ (b : Record). AddsNone b s) same tt
 
--- ---- all leaves, where the page was not cut
+-- ---- all leaves, where the page was not split
 
 module _ (m : ℕ) (leaves : List Leaf) (r back : Record) (some : 1 ≤ m) (a : AreLeaves m leaves) (op : IsOp r)
     (fits : length (result_of leaves r).pairs ≤ m) (is : back_of r (find order (key_of r) (home (key_of r) leaves).pairs) ≡ Some back) where

@@ -5,7 +5,8 @@ use Rattle.bw_record.specs.Record.{key_of}
 use Rattle.bw_record.specs.declared.leaf.Leaf.{Leaf}
 use Rattle.bw_record.specs.declared.record.Record.{Record}
 use Rattle.bw_page.specs.declared.leaves.batch.Step.{Step}
-use Rattle.bw_page.specs.Leaves.{directed_at, result_of, upper_of, HasPage}
+use Rattle.bw_page.specs.Leaves.{directed_at, result_of, HasPage}
+use Rattle.bw_leaf.specs.SplitRule.{upper_of}
 use Rattle.bw_page.specs.Shown.{Shown, IsSpent, IsHere, is_evicted_page, after_record, run}
 
 -- one of the records, after those before it, makes a page for which there is no number

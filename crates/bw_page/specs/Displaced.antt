@@ -12,14 +12,14 @@ pub record Displaced : Type 0 where
   pub pages : ℕ
   -- the key of the record
   pub key : Bytes
-  -- whether the record cut the page
-  pub is_cut : Bool
+  -- whether the record split the page
+  pub is_split : Bool
 
 -- two parts as one leaf
 abbrev pub joined : Leaf → Leaf → Leaf
 joined lower upper = record lower { pairs = lower.pairs ++ upper.pairs }
 
--- the parts of a leaf that was cut: the lower one in its place among others, and the upper one; without the record's pair they
+-- the parts of a leaf that was split: the lower one in its place among others, and the upper one; without the record's pair they
 -- are the leaf
 pub record AreParts (d : Displaced) (seats : Seating) (upper : Option Leaf) : Type 0 where
   pub page : (1 ≤ d.leaf.page) × (d.leaf.page - 1 < length seats.items)

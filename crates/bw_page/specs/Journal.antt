@@ -22,14 +22,14 @@ displaced_by f r = record {
   leaf = home (key_of r) f.leaves;
   pages = length f.leaves;
   key = key_of r;
-  is_cut = not (nat_le (length (result_of f.leaves r).pairs) f.m);
+  is_split = not (nat_le (length (result_of f.leaves r).pairs) f.m);
 }
 
 abbrev pub undo_by : Option Record → Displaced → Undo
 undo_by (Some back) d = Back back
 undo_by None d = Page d
 
--- what takes a record back: a record that adds no pair, if there is one and the page is not cut; else the displaced leaf
+-- what takes a record back: a record that adds no pair, if there is one and the page is not split; else the displaced leaf
 abbrev pub undo_of : Shown → Record → Undo
 undo_of f r =
     if nat_le (length (result_of f.leaves r).pairs) f.m

@@ -14,7 +14,7 @@ is_parted (Whole leaf) = false
 is_parted (Parted page room) = true
 
 abbrev pub displaced_view : Inside → Displaced
-displaced_view a = record { leaf = a.was.value; pages = a.pages; key = key_of a.by; is_cut = is_parted a.kept }
+displaced_view a = record { leaf = a.was.value; pages = a.pages; key = key_of a.by; is_split = is_parted a.kept }
 
 -- the leaf itself, or its page and room for its pairs and one more
 abbrev pub KeepsLeaf : Kept → Leaf → Type 0

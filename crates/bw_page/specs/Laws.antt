@@ -14,7 +14,8 @@ use Rattle.bw_leaf.specs.Changed.{Bytes, all_changed}
 use Rattle.bw_page.specs.Leaves.{home, directed_at, result_of, leaf_at, AreNumbered, BeginsEmpty, HaveOwnLows, AreLeaves, HasPage}
 use Rattle.bw_page.specs.Shown.{Shown, IsHere}
 use Rattle.bw_page.specs.Batch.{AreHere, NoneBeyond}
-use Rattle.bw_page.specs.Leaves.{lower_of, upper_of, applied}
+use Rattle.bw_page.specs.Leaves.{applied}
+use Rattle.bw_leaf.specs.SplitRule.{lower_of, upper_of}
 use Rattle.bw_leaf.specs.Links.{told}
 use Rattle.bw_page.specs.Lows.{home_page}
 use Rattle.bw_page.specs.Standing.{Stand}

@@ -5,11 +5,12 @@ use Rattle.std.specs.Prelude.{take, drop, slice_get, slice_set}
 use Rattle.std.specs.List.{fold, flat_map, AllByRecursion}
 use Rattle.std.specs.FinMap as finite
 use Rattle.bw_record.specs.Keys.{is_below}
-use Rattle.bw_codec.specs.Grammar.{IsBase, first_key}
+use Rattle.bw_codec.specs.Grammar.{IsBase}
 use Rattle.bw_record.specs.Record.{key_of}
 use Rattle.bw_record.specs.declared.leaf.Leaf.{Leaf}
 use Rattle.bw_record.specs.declared.record.Record.{Record}
 use Rattle.bw_leaf.specs.Changed.{Bytes, Map, changed, changed_map, empty_leaf}
+use Rattle.bw_leaf.specs.SplitRule.{lower_of, upper_of}
 
 -- ---- the page at which a record is directed
 
@@ -68,22 +69,13 @@ pub record AreLeaves (m : ℕ) (leaves : List Leaf) : Type 0 where
   pub each : AllByRecursion (IsBase m) leaves
   pub homes : AllByRecursion (AtHome leaves) leaves
 
--- ---- the split rule
-
--- of a leaf that is cut, the part that stays: the first floor((m + 1) / 2) pairs
-abbrev pub lower_of : ℕ → Leaf → Leaf
-lower_of m leaf = record leaf { pairs = take ((m + 1) / 2) leaf.pairs }
-
--- the part that becomes a new page; its low is its first key
-abbrev pub upper_of : ℕ → ℕ → Leaf → Leaf
-upper_of m page leaf =
-    let pairs = drop ((m + 1) / 2) leaf.pairs in record { page = page; low = first_key pairs; pairs = pairs }
+-- ---- the split rule among all leaves
 
 -- leaves with one of them in its place
 abbrev pub with_leaf : List Leaf → Leaf → List Leaf
 with_leaf leaves leaf = slice_set leaves (leaf.page - 1) leaf
 
--- leaves with one of them in its place, cut in two where it has more than m pairs
+-- leaves with one of them in its place, split in two where it has more than m pairs
 abbrev pub placed : ℕ → List Leaf → Leaf → List Leaf
 placed m leaves leaf =
     if nat_le (length leaf.pairs) m then with_leaf leaves leaf

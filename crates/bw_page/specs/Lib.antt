@@ -14,7 +14,7 @@ pub mod Beginning
 pub mod Seats
 pub mod Seating
 pub mod Aim
-pub mod Cutting
+pub mod Splitting
 pub mod Displaced
 pub mod Keeping
 pub mod Journal

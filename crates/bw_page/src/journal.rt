@@ -20,7 +20,7 @@ use std::snapshot::Snapshot;
 pub(crate) enum Undo {
     /// This record does, which adds no pair.
     Back(Packed),
-    /// The page was cut, or lost a pair: it is put back as it was.
+    /// The page was split, or lost a pair: it is put back as it was.
     Page(Displaced),
 }
 
@@ -40,7 +40,7 @@ pub(crate) struct Displaced {
 enum Kept {
     /// It lost a pair: whole.
     Whole(Leaf),
-    /// It was cut: its pairs are in its two parts. Its page, and room for the pairs of both.
+    /// It was split: its pairs are in its two parts. Its page, and room for the pairs of both.
     Parted(u32, Vec<Pair>),
 }
 
@@ -60,7 +60,7 @@ impl Displaced {
     /// A leaf of which a pair is removed. No memory is taken.
     pub(crate) fn whole(leaf: Leaf, pages: u32, by: Packed) -> Displaced
         ensures { result
-            ≡ record { leaf = leaf; pages = pages; key = key_of by; is_cut = false } }
+            ≡ record { leaf = leaf; pages = pages; key = key_of by; is_split = false } }
     {
         let was = Snapshot::of(&leaf);
         Displaced {
@@ -71,10 +71,10 @@ impl Displaced {
         }
     }
 
-    /// A leaf that is about to be cut. It takes memory, whose refusal is the only error.
-    pub(crate) fn cut(leaf: &Leaf, pages: u32, by: &Packed) -> Result<Displaced, AllocError>
+    /// A leaf that is about to be split. It takes memory, whose refusal is the only error.
+    pub(crate) fn split(leaf: &Leaf, pages: u32, by: &Packed) -> Result<Displaced, AllocError>
         ensures { IfOk result (λ d. d
-            ≡ record { leaf = leaf.now; pages = pages; key = key_of by.now; is_cut = true }) }
+            ≡ record { leaf = leaf.now; pages = pages; key = key_of by.now; is_split = true }) }
     {
         let by = by.copy()?;
         let room = Vec::with_capacity(leaf.pairs.allocator(), leaf.pairs.as_slice().len() + 1)?;
@@ -93,10 +93,10 @@ impl Displaced {
         self.pages
     }
 
-    /// The leaf again; where it was cut, from its parts, of which the lower one is taken from its
+    /// The leaf again; where it was split, from its parts, of which the lower one is taken from its
     /// seat. It is never refused; a row of heads takes memory.
     pub(crate) fn into_leaf(self, leaves: &mut Seats, upper: Option<Leaf>) -> Leaf
-        requires { IsTrue self.is_cut → AreParts self leaves.old upper }
+        requires { IsTrue self.is_split → AreParts self leaves.old upper }
         ensures leaf { result ≡ self.leaf }
         ensures others { (x : LeafValue) → slice_set leaves.new.items (self.leaf.page - 1) x
             ≡ slice_set leaves.old.items (self.leaf.page - 1) x }

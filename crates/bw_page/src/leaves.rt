@@ -1,7 +1,7 @@
 //! All pages: a list of leaves by page number, with an index of their low keys.
 //!
 //! A record changes the page with the greatest low key not above its key. A page that then has too
-//! many pairs is cut in two, and its upper part is a new page behind all others, so no page moves.
+//! many pairs is split in two, and its upper part is a new page behind all others, so no page moves.
 
 ghost use Rattle.std.specs.Prelude.{ℕ, ◌≡◌, ◌==◌, ◌<◌, ◌≤◌, ◌+◌, ◌-◌, ◌^◌, [], ◌∷◌, length, nat_lt, true, false, Some, None, is_some, if◌then◌else◌, IfSome, IfOk, OnOk, OnErr, IsTrue};
 ghost use Rattle.std.specs.Option.{option_copied};
@@ -24,7 +24,7 @@ mod batch;
 mod hinted;
 mod walk;
 
-use crate::cuts::cut_at;
+use crate::splits::split_one;
 use crate::fault::ApplyError;
 use crate::index::{copy_all, index_of};
 use crate::journal::Displaced;
@@ -41,7 +41,7 @@ use std::marker::Model;
 pub struct Applied {
     /// The page at which it was directed.
     pub page: u32,
-    /// The page that it made, if that one was cut in two.
+    /// The page that it made, if that one was split in two.
     pub made: Option<u32>,
 }
 
@@ -219,11 +219,11 @@ impl Leaves {
         self.leaves.get(page as usize - 1)
     }
 
-    /// Changes the leaf at whose page the record is directed, and cuts it in two where it then has
+    /// Changes the leaf at whose page the record is directed, and splits it in two where it then has
     /// more than `m` pairs: the first (m + 1) / 2 stay, and the others become a new last page.
     ///
     /// It costs a search among the pages and work within one page; a new page also costs what a
-    /// push on a `Vec` does. The pairs of a page that is cut are moved, and none is copied. A refusal
+    /// push on a `Vec` does. The pairs of a page that is split are moved, and none is copied. A refusal
     /// changes nothing.
     pub fn apply(&mut self, change: &Packed) -> Result<Applied, ApplyError>
         requires { IsHere (key_of change.now) self.old }
@@ -299,8 +299,8 @@ impl Leaves {
         find_key(&self.home_on(page, key).pairs, key)
     }
 
-    /// Whether a record cuts its page in two, where the search for its key there ended so.
-    pub fn is_cut_by(&self, page: u32, found: Result<usize, usize>, item: &Record) -> bool
+    /// Whether a record splits its page in two, where the search for its key there ended so.
+    pub fn is_split_by(&self, page: u32, found: Result<usize, usize>, item: &Record) -> bool
         requires here { IsHere (key_of item.now) self.now }
         requires page { page ≡ directed_at self.now.leaves item.now }
         requires found { IsFound self.now.leaves (key_of item.now) found }
@@ -359,14 +359,14 @@ impl Leaves {
                 made: None,
             });
         }
-        let (_, made) = self.cut_page(at, count, found, change)?;
+        let (_, made) = self.split_page(at, count, found, change)?;
         Ok(Applied {
             page: at as u32 + 1,
             made: Some(made),
         })
     }
 
-    /// Applies a record where `aim` says, which cuts no page, and gives the record that takes it
+    /// Applies a record where `aim` says, which splits no page, and gives the record that takes it
     /// back. There is none for a record that removes a pair.
     fn change_at(
         &mut self,
@@ -389,9 +389,9 @@ impl Leaves {
         Ok(back)
     }
 
-    /// Applies a record where `aim` says, which cuts the page in two. It gives what puts the page back
+    /// Applies a record where `aim` says, which splits the page in two. It gives what puts the page back
     /// as it was, and the number of the page that is made.
-    fn cut_page(
+    fn split_page(
         &mut self,
         at: usize,
         count: usize,
@@ -415,8 +415,8 @@ impl Leaves {
             return Err(ApplyError::Spent);
         }
         let pages = before as u32;
-        let displaced = Displaced::cut(self.leaves.get(at), pages, change)?;
-        cut_at(
+        let displaced = Displaced::split(self.leaves.get(at), pages, change)?;
+        split_one(
             &mut self.leaves,
             &mut self.index,
             self.m,

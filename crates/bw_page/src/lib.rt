@@ -1,14 +1,14 @@
 //! All pages with their split rule, and the index of their low keys.
 //!
 //! A page has a number, a low key and its pairs in the order of their keys. A record changes the
-//! page with the greatest low key not above its own; a page that then has too many pairs is cut in
+//! page with the greatest low key not above its own; a page that then has too many pairs is split in
 //! two, and the upper part becomes a new page behind all others. `specs/Leaves.antt` has the rule,
 //! and the law that all pairs of all pages are one plain map. What is said of one page alone, its
 //! chain among it, stands in `bw_leaf`; its names are handed on here. `specs/Standing.antt` has what
 //! blocks of the log say of all pages.
 //!
 //! A search finds the right page, since lows ascend and the first is the empty key: the pages'
-//! ranges part all keys, each pair stands on the page that its key is directed at, and a cut gives
+//! ranges part all keys, each pair stands on the page that its key is directed at, and a split gives
 //! the upper part its own first key as low. So a guess at a page costs nothing but a look: a key
 //! among the page's pairs is at home there.
 //!
@@ -19,20 +19,20 @@
 //! snapshot, which has no bytes; whoever brings it back has to have read exactly that.
 #![tactic(auto)]
 
-mod cuts;
 mod fault;
 mod index;
 mod journal;
 mod laws;
 mod leaves;
 mod seats;
+mod splits;
 mod start;
 
 pub use bw_leaf::{
-    Chain, Draft, End, Link, Word, add_pairs, change, change_all, count_after, empty_page,
-    keep_below, pair_from, read_block, read_blocks, value_in, word_in_blocks, word_in_records,
+    Chain, Draft, End, Halves, Link, Word, add_pairs, change, change_all, count_after, empty_page,
+    keep_below, pair_from, read_block, read_blocks, split_in_two, value_in, word_in_blocks,
+    word_in_records,
 };
-pub use cuts::{Cut, cut_in_two};
 pub use fault::ApplyError;
 pub use laws::{
     applies_page_by_page, chains_read_over_newer, here_together, homes_are_ranges, homes_stay,

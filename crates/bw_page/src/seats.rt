@@ -12,14 +12,14 @@ ghost use Rattle.std.specs.FinMap.Entries.{find};
 ghost use Rattle.bw_record.specs.Keys.{ascends};
 ghost use Rattle.std.specs.Ordering.{eq_by_cmp};
 ghost use Rattle.bw_leaf.specs.Changed.{Bytes, order, changed};
-ghost use Rattle.bw_page.specs.Leaves.{lower_of, upper_of};
+ghost use Rattle.bw_leaf.specs.SplitRule.{lower_of, upper_of};
 ghost use Rattle.bw_lows.specs.LowHeads.{page_of_low};
-ghost use Rattle.bw_page.specs.Cutting.{changed_at};
+ghost use Rattle.bw_page.specs.Splitting.{changed_at};
 ghost use Rattle.bw_page.specs.Seats.{is_among};
 ghost use Rattle.bw_leaf.specs.Seek.{seek_of, back_of, IsWithin, AddsNone, AddsOne};
 ghost use Rattle.bw_record.specs.Record.{key_of};
 
-use crate::cuts::cut_leaf;
+use crate::splits::split_leaf;
 use bw_codec::{Leaf, Packed, base_length};
 use bw_leaf::{change_found, take_back};
 use bw_lows::LowIndex;
@@ -121,7 +121,7 @@ impl Seat {
     /// Changes the leaf by a record that adds one pair too many, where the search for its key ended
     /// so, and gives the part that becomes a new page, whose low key goes into the index. A refusal
     /// changes nothing.
-    fn cut(
+    fn split(
         &mut self,
         index: &mut LowIndex,
         m: u16,
@@ -148,7 +148,7 @@ impl Seat {
     {
         match &mut self.leaf {
             Some(leaf) => {
-                let upper = cut_leaf(index, m, leaf, found, item, page)?;
+                let upper = split_leaf(index, m, leaf, found, item, page)?;
                 self.was = Snapshot::of(leaf);
                 Ok(upper)
             }
@@ -359,7 +359,7 @@ impl Seats {
     /// Changes a leaf, which is in memory, by a record that adds one pair too many, where the search
     /// for its key ended so, and gives the part that becomes a new page, whose low key goes into the
     /// index. A refusal changes nothing.
-    pub(crate) fn cut(
+    pub(crate) fn split(
         &mut self,
         index: &mut LowIndex,
         m: u16,
@@ -390,7 +390,7 @@ impl Seats {
         ensures index_stays { OnErr result (index.new ≡ index.old) }
     {
         let _ = self.seats.as_slice().len(); // For the proof.
-        self.seats[at].cut(index, m, found, item, page)
+        self.seats[at].split(index, m, found, item, page)
     }
 
     /// Changes a leaf, which is in memory, by a record that adds no pair and has its memory, where

@@ -44,14 +44,14 @@ enum Change<'a> {
     /// It is changed by these records.
     Records(&'a Ops),
     /// It loses all keys from this one on.
-    Cut(&'a [u8]),
+    Split(&'a [u8]),
 }
 
 /// A page after a change.
 fn changed(draft: Draft, change: &Change<'_>) -> Result<Draft, AllocError> {
     match change {
         Change::Records(ops) => draft.change_all(ops.as_slice()),
-        Change::Cut(separator) => Ok(draft.keep_below(*separator)),
+        Change::Split(separator) => Ok(draft.keep_below(*separator)),
     }
 }
 
@@ -136,7 +136,7 @@ impl Pages {
                 self.change(place, page, back, &Change::Records(&ops))
             }
             Block::Split { page, back, upper } => {
-                self.change(place, page, back, &Change::Cut(upper.low.as_slice()))?;
+                self.change(place, page, back, &Change::Split(upper.low.as_slice()))?;
                 self.set(place, upper)
             }
         }

@@ -9,7 +9,7 @@ use std::slice;
 use std::sync::atomic::Ordering::SeqCst;
 use std::sync::atomic::raw;
 
-// No run is longer.
+// No run is longer: its length has two bytes.
 const MOST: usize = 65_535;
 
 /// Bytes in one run of memory, which its owners share. A run of more than 65,535 bytes is refused as
@@ -27,18 +27,6 @@ impl Model for Run {
 }
 
 impl Run {
-    /// A run of these bytes. It takes memory, whose refusal is the only error.
-    pub fn of(alloc: Global, bytes: &[u8]) -> Result<Run, AllocError>
-        ensures { IfOk result (λ run. run.bytes ≡ bytes.now) }
-    {
-        if MOST < bytes.len() {
-            return Err(AllocError);
-        }
-        let (front, mut slots) = reserve(&alloc, bytes.len())?.open();
-        slots.copy_in(0, bytes);
-        Ok(front.close(slots, alloc))
-    }
-
     /// A run of this byte and, behind it, of the bytes of both. It takes memory, whose refusal is the
     /// only error.
     pub fn of_parts(alloc: Global, head: u8, first: &[u8], second: &[u8]) -> Result<Run, AllocError>

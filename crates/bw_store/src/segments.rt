@@ -1,7 +1,7 @@
 //! The boxes of a store: the core's calls; and its end, which tells the readers.
 
 ghost use Rattle.std.specs.Prelude.{◌≡◌, ◌↔◌, ◌⊎◌, ◌++◌, ℕ, true, false, map, MatchOption, OnOk, OnErr, IfOk, IfErr, IsErrAnd};
-ghost use Rattle.bw_care.specs.Laws.{cut_newest};
+ghost use Rattle.bw_care.specs.Laws.{shorten_newest};
 ghost use Rattle.bw_log.specs.Limits.{IsNotTaken};
 ghost use Rattle.bw_log.specs.Reads.{IsNumbered, segment_at};
 ghost use Rattle.bw_core.specs.Stopping.{FindsCut, FindsStop, MayCut};
@@ -103,7 +103,7 @@ impl Store {
         ensures cuts { (kept_beside self holding).log.is_failed ≡ false
             → (n : ℕ) → MayCut (core_of (kept_beside self holding)) n
             → FindsCut (core_of (kept_beside self holding))
-            (cut_newest n (map holding result.0.items) ++ map holding result.1.items) }
+            (shorten_newest n (map holding result.0.items) ++ map holding result.1.items) }
     {
         let Store {
             core,

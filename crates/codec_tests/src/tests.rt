@@ -3,6 +3,7 @@
 mod calls;
 mod headings;
 mod reading;
+mod runs;
 mod told;
 mod writing;
 mod wrong;

@@ -8,7 +8,7 @@ pub enum Piece {
     /// The whole text.
     Whole(&'static str),
     /// So many of its bytes, from the first on.
-    Cut(&'static str, usize),
+    Torn(&'static str, usize),
     /// With other bytes from an offset on.
     With(&'static str, usize, &'static [u8]),
     /// With more bytes behind.
@@ -28,14 +28,14 @@ fn change(bytes: &mut Vec<u8>, at: usize, with: &[u8]) {
 pub fn bytes_of(alloc: Global, piece: &Piece) -> Option<Vec<u8>> {
     let hex = match piece {
         Piece::Whole(hex) => *hex,
-        Piece::Cut(hex, _) => *hex,
+        Piece::Torn(hex, _) => *hex,
         Piece::With(hex, _, _) => *hex,
         Piece::Behind(hex, _) => *hex,
     };
     let mut bytes = hex::decode(alloc, hex).ok()?;
     match piece {
         Piece::Whole(_) => {}
-        Piece::Cut(_, len) => bytes.truncate(*len),
+        Piece::Torn(_, len) => bytes.truncate(*len),
         Piece::With(_, at, with) => change(&mut bytes, *at, *with),
         Piece::Behind(_, more) => bytes.extend_from_slice(*more).ok()?,
     }

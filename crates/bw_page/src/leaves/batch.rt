@@ -2,7 +2,7 @@
 //!
 //! A record that adds no pair takes back most of them: a put of the key's old value, or a delete of
 //! a key that had none. To put back a pair that was removed might take memory; there the leaf is kept
-//! as it was before. A page that was cut is joined again in room that was made before the cut.
+//! as it was before. A page that was split is joined again in room that was made before the split.
 
 ghost use Rattle.std.specs.Prelude.{◌≡◌, ◌≤◌, ◌<◌, ◌+◌, [], length, map, vec_len, is_none, is_some, IfOk, IfSome, IsOk, IsErr, OnOk, OnErr, ◌⊎◌};
 ghost use Rattle.std.specs.Vec.{vec_capacity};
@@ -18,12 +18,11 @@ ghost use Rattle.bw_page.specs.Batch.{SomeIsSpent, AreHere, upper_if, step_of, s
 ghost use Rattle.bw_page.specs.Aim.{IsAim};
 
 use super::Leaves;
-use crate::cuts::{Cut, cut_in_two};
 use crate::fault::ApplyError;
 use crate::index::take_above;
 use crate::journal::{Displaced, Undo};
 use bw_codec::{Leaf, Packed};
-use bw_leaf::{change_packed, count_packed, find_key, removes};
+use bw_leaf::{Halves, change_packed, count_packed, find_key, removes, split_in_two};
 use std::alloc::AllocError;
 
 /// A value in which a record stands.
@@ -58,7 +57,7 @@ impl HasRecord for Packed {
 pub struct Step {
     /// The page at which it is directed.
     pub page: u32,
-    /// The page that it makes, if that one is cut in two.
+    /// The page that it makes, if that one is split in two.
     pub upper: Option<Leaf>,
 }
 
@@ -118,7 +117,7 @@ impl Leaves {
     /// What each of these records does, one after the other. The pages are left as they were: all
     /// records but the last are applied, and then taken back.
     ///
-    /// Beside what `apply_all_of` costs, it costs for each page that is cut a copy of that page.
+    /// Beside what `apply_all_of` costs, it costs for each page that is split a copy of that page.
     pub fn steps<T: HasRecord>(&mut self, items: &[T]) -> Result<Vec<Step>, ApplyError>
         requires { AreHere self.old (map T.record_of items.now) }
         ensures steps { IfOk result (λ steps. steps.items
@@ -194,7 +193,7 @@ impl Leaves {
     }
 
     /// What a record would do. It costs a search among the pages, and a copy of the page that it
-    /// would cut.
+    /// would split.
     pub fn step(&self, change: &Packed) -> Result<Step, ApplyError>
         requires { IsHere (key_of change.now) self.now }
         ensures step { IfOk result (λ step. step ≡ step_of self.now change.now) }
@@ -227,7 +226,7 @@ impl Leaves {
         };
         let mut whole = leaf.copy()?;
         change_packed(&mut whole, change)?;
-        let Cut { lower: _, upper } = cut_in_two(self.leaves.allocator(), self.m, whole, made)?;
+        let Halves { lower: _, upper } = split_in_two(self.leaves.allocator(), self.m, whole, made)?;
         Ok(Some(upper))
     }
 
@@ -246,11 +245,11 @@ impl Leaves {
         if count <= usize::from(self.m) {
             return Ok(self.displace_pair(at, count, found, change)?);
         }
-        let (displaced, _) = self.cut_page(at, count, found, change)?;
+        let (displaced, _) = self.split_page(at, count, found, change)?;
         Ok(Undo::Page(displaced))
     }
 
-    /// Applies a record where `aim` says, which cuts no page, and gives what takes it back. A
+    /// Applies a record where `aim` says, which splits no page, and gives what takes it back. A
     /// refusal changes nothing.
     fn displace_pair(
         &mut self,

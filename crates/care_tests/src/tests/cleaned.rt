@@ -2,7 +2,7 @@
 
 use super::steps::Step::{Add, Bytes, Cleans, NotCleaned, Page, Stands};
 use super::steps::{Course, Step, walked, wrong_in_course};
-use Piece::{Cut, Whole};
+use Piece::{Torn, Whole};
 use bw_care::CleanFault;
 use bw_log::LogFault;
 use test_boxes::{Kept, LEAST, Piece};
@@ -51,22 +51,22 @@ const FAILED: &[Step] = &[
 const THIRD: &[Kept] = &[
     (Whole(THIRD_LOST), LEAST, false),
     (Whole(THIRD_OLDER), LEAST, false),
-    (Cut(THIRD_NEWER, 69), LEAST, true),
-    (Cut(THIRD_NEWER, 0), LEAST, false),
+    (Torn(THIRD_NEWER, 69), LEAST, true),
+    (Torn(THIRD_NEWER, 0), LEAST, false),
 ];
 
 /// The same with no room in the newest segment and no spare.
 const FULL: &[Kept] = &[
     (Whole(THIRD_LOST), LEAST, false),
     (Whole(THIRD_OLDER), LEAST, false),
-    (Cut(THIRD_NEWER, 69), 69, false),
+    (Torn(THIRD_NEWER, 69), 69, false),
 ];
 
 /// The second vector, a segment behind it, and a spare.
 const SECOND_AND_MORE: &[Kept] = &[
     (Whole(SECOND), LEAST, false),
     (Whole(BEHIND_SECOND), LEAST, false),
-    (Cut(SECOND, 0), LEAST, false),
+    (Torn(SECOND, 0), LEAST, false),
 ];
 
 const TABLES: &[Course] = &[

@@ -40,7 +40,7 @@ enum Boxes {
 struct Row(Boxes, Told);
 
 use Boxes::{Again, Ample, Beside, Many};
-use Piece::{Behind, Cut, Whole, With};
+use Piece::{Behind, Torn, Whole, With};
 use RecoverCause::{BadBytes, BadConfig, BadLink, Empty, Gap, Mixed, Unlawful};
 use Told::{Fault, Found};
 
@@ -212,7 +212,7 @@ fn of<T: Copy>(format: Format, both: &(T, T)) -> T {
 fn piece_of(format: Format, part: &Part) -> Piece {
     match part {
         All(text) => Whole(of(format, text)),
-        To(text, len) => Cut(of(format, text), of(format, len)),
+        To(text, len) => Torn(of(format, text), of(format, len)),
         At(text, at, with) => With(of(format, text), of(format, at), *with),
         Marked(text) => With(of(format, text), 27, of(format, &ABOVE)),
         And(text, more) => Behind(of(format, text), *more),
@@ -297,7 +297,7 @@ const MIXED: &[Row] = &[
         Fault(BadBytes { segment: 0, at: 76 }),
     ),
     Row(
-        Ample(&[Whole(FIRST), Cut(OLD_FIRST, 8)]),
+        Ample(&[Whole(FIRST), Torn(OLD_FIRST, 8)]),
         Found(1, 1, 0, 1, 0, 1, KV),
     ),
 ];
@@ -347,7 +347,7 @@ const SPARES: &[Row] = &[
         Found(1, 1, 0, 1, 1, 0, KV),
     ),
     Row(Beside(Whole(FIRST), 77, 65_559), Fault(BadConfig)),
-    Row(Beside(Cut(FIRST, 24), 24, 65_559), Fault(Empty)),
+    Row(Beside(Torn(FIRST, 24), 24, 65_559), Fault(Empty)),
     Row(
         Beside(With(FIRST, 53, &[0x03]), 77, 65_559),
         Fault(BadConfig),

@@ -2,7 +2,7 @@
 
 use super::steps::Step::{Add, Bytes, NotUpgraded, Page, Stands, Upgrades, Versions};
 use super::steps::{Course, Step, walked, wrong_in_course};
-use Piece::{Behind, Cut, Whole};
+use Piece::{Behind, Torn, Whole};
 use bw_care::CleanFault;
 use bw_log::LogFault;
 use test_boxes::{Kept, LEAST, Piece};
@@ -90,7 +90,7 @@ const FAILED: &[Step] = &[
 /// The first vector in format 1, and a spare.
 const FIRST_AND_SPARE: &[Kept] = &[
     (Whole(OLD_FIRST), LEAST, false),
-    (Cut(FIRST, 0), LEAST, true),
+    (Torn(FIRST, 0), LEAST, true),
 ];
 
 const TABLES: &[Course] = &[
@@ -98,14 +98,14 @@ const TABLES: &[Course] = &[
     Course(
         &[
             (Behind(OLD_FIRST, &[0x46]), LEAST, false),
-            (Cut(FIRST, 0), LEAST, false),
+            (Torn(FIRST, 0), LEAST, false),
         ],
         ONE,
     ),
     Course(
         &[
-            (Cut(OLD_THIRD_NEWER, 68), LEAST, false),
-            (Cut(FIRST, 0), LEAST, false),
+            (Torn(OLD_THIRD_NEWER, 68), LEAST, false),
+            (Torn(FIRST, 0), LEAST, false),
             (Whole(OLD_THIRD_OLDER), LEAST, false),
             (Whole(OLD_THIRD_LOST), LEAST, false),
         ],
@@ -115,7 +115,7 @@ const TABLES: &[Course] = &[
         &[
             (Whole(OLD_SECOND), LEAST, false),
             (Whole(OLD_BEHIND_SECOND), LEAST, false),
-            (Cut(FIRST, 0), LEAST, false),
+            (Torn(FIRST, 0), LEAST, false),
         ],
         TWO_PAGES,
     ),
@@ -123,7 +123,7 @@ const TABLES: &[Course] = &[
         &[
             (Whole(OLD_FIRST), LEAST, false),
             (Whole(THIRD_OLDER), LEAST, false),
-            (Cut(FIRST, 0), LEAST, false),
+            (Torn(FIRST, 0), LEAST, false),
         ],
         WENT_ON,
     ),
@@ -135,13 +135,13 @@ const TABLES: &[Course] = &[
         STANDS_ALREADY,
     ),
     Course(
-        &[(Whole(FIRST), LEAST, false), (Cut(FIRST, 0), LEAST, false)],
+        &[(Whole(FIRST), LEAST, false), (Torn(FIRST, 0), LEAST, false)],
         NOTHING,
     ),
     Course(
         &[
             (Whole(OLD_GREATEST), LEAST, false),
-            (Cut(FIRST, 0), LEAST, false),
+            (Torn(FIRST, 0), LEAST, false),
         ],
         SPENT,
     ),

@@ -7,7 +7,7 @@ use super::versions::entries;
 use bw_codec::{Block, Key, Leaf, Ops, Packed, Place};
 use bw_history::PackedEntry;
 use bw_page::{
-    Applied, ApplyError, Chain, Draft, Leaves, Start, change, change_all, cut_in_two, empty_page,
+    Applied, ApplyError, Chain, Draft, Leaves, Start, change, change_all, split_in_two, empty_page,
     read_block, read_blocks,
 };
 use std::alloc::{AllocError, Global};
@@ -43,7 +43,7 @@ enum Call {
     Change,
     /// And so many into one that is handed over.
     ChangeAll(u8),
-    Cut,
+    Halves,
     /// A page is read over a Base, a Delta of so many puts and a Split.
     Read(Reading, u8),
     /// What a chain is asked.
@@ -356,7 +356,7 @@ fn cuts(alloc: Global) -> Option<Try> {
         return None;
     }
     begin(alloc);
-    let cut = cut_in_two(alloc, 4, leaf, 7);
+    let cut = split_in_two(alloc, 4, leaf, 7);
     let refused = end(alloc);
     match cut {
         Ok(cut) => {
@@ -568,7 +568,7 @@ const CALLS: &[Call] = &[
     Call::Change,
     Call::ChangeAll(3),
     Call::ChangeAll(100),
-    Call::Cut,
+    Call::Halves,
     Call::Read(Reading::Blocks, 3),
     Call::Read(Reading::Blocks, 100),
     Call::Read(Reading::Block, 3),

@@ -4,7 +4,7 @@ ghost use Rattle.std.specs.Prelude.{IsTrue};
 ghost use Rattle.bw_record.specs.Keys.{ascends};
 
 use bw_codec::{Key, Leaf, Record};
-use bw_page::{Cut, change, change_all, count_after, cut_in_two, empty_page, keep_below, value_in};
+use bw_page::{Halves, change, change_all, count_after, split_in_two, empty_page, keep_below, value_in};
 use std::alloc::Global;
 use test_tables::wrong_row;
 use test_vectors::{all_packed, del, is_shown, leaf_of, put};
@@ -88,11 +88,11 @@ fn to_cut_goes(alloc: Global, row: &ToCut) -> Option<bool> {
     if m == 0 || leaf.pairs.as_slice().len() <= usize::from(m) {
         return None;
     }
-    let cut = cut_in_two(alloc, m, leaf, 7).ok()?;
+    let cut = split_in_two(alloc, m, leaf, 7).ok()?;
     Some(are_parts(&cut, lower, upper))
 }
 
-fn are_parts(cut: &Cut, lower: &str, upper: &str) -> bool {
+fn are_parts(cut: &Halves, lower: &str, upper: &str) -> bool {
     let pages = cut.lower.page == 1 && cut.upper.page == 7;
     pages && is_shown(Some(&cut.lower), lower) && is_shown(Some(&cut.upper), upper)
 }
@@ -106,7 +106,7 @@ const CUTS: &[ToCut] = &[
 ];
 
 #[test]
-fn a_leaf_is_cut_in_two(rt: HostRuntime) {
+fn a_leaf_is_split_in_two(rt: HostRuntime) {
     assert_eq!(rt; wrong_row(CUTS, |row| to_cut_goes(rt.alloc(), row)), None);
 }
 

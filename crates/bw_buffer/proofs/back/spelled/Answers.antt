@@ -26,7 +26,7 @@ push_front-requires-clause-room c =
 pub split_at-requires : goal.split_at-requires
 split_at-requires c =
     piece_inside c.args.pieces.now c.args.arena.now c.loop-piece.rest.now c.loop-piece.piece-index (piece_of c.args.pieces.now c.loop-piece.piece-index)
-    c.requires.cut c.loop-piece-test.true (piece_is c.args.pieces.now c.loop-piece.piece-index c.loop-piece-test.true) c.loop-piece.invariant.rest
+    c.requires.parted c.loop-piece-test.true (piece_is c.args.pieces.now c.loop-piece.piece-index c.loop-piece-test.true) c.loop-piece.invariant.rest
 
 pub loop-piece-preserved : goal.loop-piece-preserved
 loop-piece-preserved c =

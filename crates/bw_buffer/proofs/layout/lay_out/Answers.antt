@@ -78,7 +78,7 @@ split_at-requires c =
     c.loop-piece.piece-index
     (piece_of c.args.pieces.now c.loop-piece.piece-index) c.loop-piece.rest.now c.loop-piece.bytes.items c.loop-piece.spots.items
     (length-head latest c.args.number (c.args.size - 20) (length c.args.rows.now))
-    c.requires.measured c.requires.within c.requires.cut c.loop-piece-test.true (piece_is c.args.pieces.now c.loop-piece.piece-index c.loop-piece-test.true)
+    c.requires.measured c.requires.within c.requires.parted c.loop-piece-test.true (piece_is c.args.pieces.now c.loop-piece.piece-index c.loop-piece-test.true)
     c.loop-piece.invariant.rest c.loop-piece.invariant.bytes c.loop-piece.invariant.spots in
     step.inside
 
@@ -88,7 +88,7 @@ put_piece-requires-clause-spot c =
     c.loop-piece.piece-index
     (piece_of c.args.pieces.now c.loop-piece.piece-index) c.loop-piece.rest.now c.loop-piece.bytes.items c.loop-piece.spots.items
     (length-head latest c.args.number (c.args.size - 20) (length c.args.rows.now))
-    c.requires.measured c.requires.within c.requires.cut c.loop-piece-test.true (piece_is c.args.pieces.now c.loop-piece.piece-index c.loop-piece-test.true)
+    c.requires.measured c.requires.within c.requires.parted c.loop-piece-test.true (piece_is c.args.pieces.now c.loop-piece.piece-index c.loop-piece-test.true)
     c.loop-piece.invariant.rest c.loop-piece.invariant.bytes c.loop-piece.invariant.spots in
     step.spot
 
@@ -98,7 +98,7 @@ put_piece-requires-clause-within c =
     c.loop-piece.piece-index
     (piece_of c.args.pieces.now c.loop-piece.piece-index) c.loop-piece.rest.now c.loop-piece.bytes.items c.loop-piece.spots.items
     (length-head latest c.args.number (c.args.size - 20) (length c.args.rows.now))
-    c.requires.measured c.requires.within c.requires.cut c.loop-piece-test.true (piece_is c.args.pieces.now c.loop-piece.piece-index c.loop-piece-test.true)
+    c.requires.measured c.requires.within c.requires.parted c.loop-piece-test.true (piece_is c.args.pieces.now c.loop-piece.piece-index c.loop-piece-test.true)
     c.loop-piece.invariant.rest c.loop-piece.invariant.bytes c.loop-piece.invariant.spots in
     let within = step.within in
     omega (arith, ap (λ (l : List ℕ). length l) c.split_at.ensures.front)
@@ -109,7 +109,7 @@ put_piece-requires-clause-short c =
     c.loop-piece.piece-index
     (piece_of c.args.pieces.now c.loop-piece.piece-index) c.loop-piece.rest.now c.loop-piece.bytes.items c.loop-piece.spots.items
     (length-head latest c.args.number (c.args.size - 20) (length c.args.rows.now))
-    c.requires.measured c.requires.within c.requires.cut c.loop-piece-test.true (piece_is c.args.pieces.now c.loop-piece.piece-index c.loop-piece-test.true)
+    c.requires.measured c.requires.within c.requires.parted c.loop-piece-test.true (piece_is c.args.pieces.now c.loop-piece.piece-index c.loop-piece-test.true)
     c.loop-piece.invariant.rest c.loop-piece.invariant.bytes c.loop-piece.invariant.spots in
     let size = step.size in
     let is = c.requires.size in
@@ -122,7 +122,7 @@ loop-piece-preserved c =
     c.loop-piece.piece-index
     (piece_of c.args.pieces.now c.loop-piece.piece-index) c.loop-piece.rest.now c.loop-piece.bytes.items c.loop-piece.spots.items
     (length-head latest c.args.number (c.args.size - 20) (length c.args.rows.now))
-    c.requires.measured c.requires.within c.requires.cut c.loop-piece-test.true (piece_is c.args.pieces.now c.loop-piece.piece-index c.loop-piece-test.true)
+    c.requires.measured c.requires.within c.requires.parted c.loop-piece-test.true (piece_is c.args.pieces.now c.loop-piece.piece-index c.loop-piece-test.true)
     c.loop-piece.invariant.rest c.loop-piece.invariant.bytes c.loop-piece.invariant.spots in
     let block = (piece_of c.args.pieces.now c.loop-piece.piece-index).block in
     let at = get_or c.loop-piece.spots.items block 0 in

@@ -1,4 +1,4 @@
-use Rattle.bw_care.proofs.CutBoxes.{stopped_boxes}
+use Rattle.bw_care.proofs.ShortenedBoxes.{stopped_boxes}
 use Rattle.bw_care.proofs.laws.stopped_boxes_are_found.Goals as goal
 
 pub returns : goal.returns

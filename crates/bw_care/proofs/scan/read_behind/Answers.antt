@@ -6,7 +6,7 @@ use Rattle.bw_codec.specs.declared.block.FrameRead.TheVariants.{Whole, Tail}
 use Rattle.bw_codec.proofs.FrontFormat.{is_front}
 use Rattle.bw_log.specs.Segments.{entries_from}
 use Rattle.bw_care.specs.Scanning.{rest_of}
-use Rattle.bw_care.proofs.FrontsRead.{ends_parts, ends_cut, fits_there, read_more, ends_tail, ends_bad, tail_lawful}
+use Rattle.bw_care.proofs.FrontsRead.{ends_parts, ends_torn, fits_there, read_more, ends_tail, ends_bad, tail_lawful}
 use Rattle.bw_care.proofs.FrontsRead.{bad_there, tail_len, whole_from, tail_from, unseen_from, spelled_from, len_from, line_from}
 use Rattle.bw_care.proofs.scan.read_behind.Goals as goal
 
@@ -62,7 +62,7 @@ returns-in-Ok-Tail-clause-found c =
       laws = subst (AllByRecursion (IsFrameIn k.version k.m k.f)) e.frames c.frames.invariant.1.laws;
       parts = ends_parts k c.args.bytes.now c.frames.at c.frames.invariant.0 c.frames.lines.items c.frames.invariant.1 e
           ∙ ap (λ (fs : List Frame). flat_map (frame_bytes_in k.version) fs ++ rest_of k c.args.bytes.now) e.frames;
-      cut = ends_cut k c.args.bytes.now c.frames.at c.frames.invariant.0 e there;
+      torn = ends_torn k c.args.bytes.now c.frames.at c.frames.invariant.0 e there;
     }
 
 pub returns-in-Err-clause-fault : goal.returns-in-Err-clause-fault

@@ -1,16 +1,16 @@
 use Rattle.std.proofs.Common.{◌≡◌, ◌+◌, ◌∙◌, None, is_some, ap, sym, drop, lit<}
 use Rattle.std.specs.Prelude.{reverse}
 use Rattle.std.specs.Option.{unwrap_or}
-use Rattle.bw_leaf.specs.Links.{Chained, told, cut, from_mark, ground_of}
+use Rattle.bw_leaf.specs.Links.{Chained, told, trimmed, from_mark, ground_of}
 use Rattle.bw_leaf.specs.Marks.{mark_after}
-use Rattle.bw_leaf.proofs.Chains.{cut_at, Evicts, evicts, no_cut, stays}
+use Rattle.bw_leaf.proofs.Chains.{trimmed_at, Evicts, evicts, not_trimmed, stays}
 use Rattle.bw_leaf.proofs.chain.Chain.evict.Goals as goal
 
 -- the old links, as they stand in memory
 marks : (c : goal.Joined-self) → Evicts c.args.self.now (reverse (drop (c.in-Some.at + 1) c.self.inside.links.items)) c.in-Some.place
 marks c =
     evicts c.args.self.now _ _
-    (cut_at c.args.self.now c.self.inside.links.items c.in-Some.at c.in-Some.place (ap (λ (x : Chained). x.links) (sym c.self.view_is))
+    (trimmed_at c.args.self.now c.self.inside.links.items c.in-Some.at c.in-Some.place (ap (λ (x : Chained). x.links) (sym c.self.view_is))
     (c.in-Some.ensures.mark ∙ ap (mark_after 0 None) c.as_slice.ensures))
 
 left : (c : goal.Joined-self) → reverse c.drop-drain.new.self.0.items ≡ reverse (drop (c.in-Some.at + 1) c.self.inside.links.items)
@@ -32,9 +32,9 @@ pub returns-in-Some-clause-content : goal.returns-in-Some-clause-content
 returns-in-Some-clause-content c acts below =
     ap (λ links. told links (told (from_mark c.args.self.now.links) (ground_of c.args.self.now.end below))) (left c) ∙ (marks c).content below
 
-none : (c : goal.In-None) → cut c.args.self.now.links ≡ None
+none : (c : goal.In-None) → trimmed c.args.self.now.links ≡ None
 none c =
-    no_cut c.args.self.now c.self.inside.links.items (ap (λ (x : Chained). x.links) (sym c.self.view_is))
+    not_trimmed c.args.self.now c.self.inside.links.items (ap (λ (x : Chained). x.links) (sym c.self.view_is))
     (c.in-None.ensures.mark ∙ ap (mark_after 0 None) c.as_slice.ensures)
 
 pub returns-in-None-clause-flushed : goal.returns-in-None-clause-flushed

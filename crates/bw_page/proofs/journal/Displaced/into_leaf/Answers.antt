@@ -14,8 +14,8 @@ pub join-requires-clause-room : goal.join-requires-clause-room
 join-requires-clause-room c =
     let was = c.self.inside.was.value in
     let seen : was ≡ c.args.self.leaf = ap (λ (d : Displaced). d.leaf) c.self.view_is in
-    let cut : IsTrue c.args.self.is_cut = subst IsTrue (sym (ap is_parted c.in-Parted.is) ∙ ap (λ (d : Displaced). d.is_cut) c.self.view_is) refl in
-    let parts = c.requires cut in
+    let split : IsTrue c.args.self.is_split = subst IsTrue (sym (ap is_parted c.in-Parted.is) ∙ ap (λ (d : Displaced). d.is_split) c.self.view_is) refl in
+    let parts = c.requires split in
     let held = subst (λ (k : Kept). KeepsLeaf k was) c.in-Parted.is c.self.invariant in
     let at : c.in-Parted.page - 1 ≡ c.args.self.leaf.page - 1 = ap (λ n. n - 1) (held.0 ∙ ap (λ (l : Leaf). l.page) seen) in
     let lower = c.exchange-lower.ensures.was c.exchange-lower.result
@@ -32,8 +32,8 @@ pub returns-clause-leaf : goal.returns-clause-leaf
 returns-clause-leaf c =
     let was = c.self.inside.was.value in
     let seen : was ≡ c.args.self.leaf = ap (λ (d : Displaced). d.leaf) c.self.view_is in
-    let cut : IsTrue c.args.self.is_cut = subst IsTrue (sym (ap is_parted c.in-Parted.is) ∙ ap (λ (d : Displaced). d.is_cut) c.self.view_is) refl in
-    let parts = c.requires cut in
+    let split : IsTrue c.args.self.is_split = subst IsTrue (sym (ap is_parted c.in-Parted.is) ∙ ap (λ (d : Displaced). d.is_split) c.self.view_is) refl in
+    let parts = c.requires split in
     let held = subst (λ (k : Kept). KeepsLeaf k was) c.in-Parted.is c.self.invariant in
     let at : c.in-Parted.page - 1 ≡ c.args.self.leaf.page - 1 = ap (λ n. n - 1) (held.0 ∙ ap (λ (l : Leaf). l.page) seen) in
     let lower = c.exchange-lower.ensures.was c.exchange-lower.result

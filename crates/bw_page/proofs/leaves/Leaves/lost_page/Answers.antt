@@ -35,7 +35,7 @@ returns-then-removes-clause-leaf c =
     let fits : length (result_of c.args.self.now.leaves c.args.change.now).pairs ≤ c.args.self.now.m = omega arith in
     let whole : false ≡ not (nat_le (length (result_of c.args.self.now.leaves c.args.change.now).pairs) c.args.self.now.m) =
     sym (ap not (le-leb (length (result_of c.args.self.now.leaves c.args.change.now).pairs) c.args.self.now.m fits)) in
-    c.whole.ensures ∙ (λ i. record { leaf = leaf i; pages = c.count.ensures.value i; key = key i; is_cut = whole i })
+    c.whole.ensures ∙ (λ i. record { leaf = leaf i; pages = c.count.ensures.value i; key = key i; is_split = whole i })
 
 pub returns-then-removes-clause-kept : goal.returns-then-removes-clause-kept
 returns-then-removes-clause-kept c =

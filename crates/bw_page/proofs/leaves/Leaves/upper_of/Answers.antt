@@ -2,7 +2,8 @@ use Rattle.std.proofs.Common.{◌≡◌, ℕ, ◌+◌, ◌<◌, Bool, nat_le, if
 use Rattle.std.proofs.lemmas.Bool.{lt-leb}
 use Rattle.bw_record.specs.declared.leaf.Leaf.{Leaf}
 use Rattle.bw_leaf.specs.Changed.{changed, changed_pairs}
-use Rattle.bw_page.specs.Leaves.{home, result_of, upper_of}
+use Rattle.bw_page.specs.Leaves.{home, result_of}
+use Rattle.bw_leaf.specs.SplitRule.{upper_of}
 use Rattle.bw_page.specs.Batch.{upper_if}
 use Rattle.bw_page.specs.Shown.{Shown}
 use Rattle.bw_page.proofs.leaves.Leaves.upper_of.Goals as goal

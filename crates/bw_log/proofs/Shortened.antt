@@ -1,4 +1,4 @@
--- A segment that is cut at some length.
+-- A segment that is shortened to some length.
 
 use Rattle.std.proofs.Common.{◌≡◌, ℕ, zero, suc, ◌-◌, ◌≤◌, inl, inr, ◌==◌, true, List, [], ◌∷◌, ◌++◌, length, take}
 use Rattle.std.proofs.Common.{refl, sym, ap, subst, ◌∙◌, append_assoc, arith}
@@ -42,9 +42,9 @@ agrees_shorter (w ∷ ws) (b ∷ bs) (suc n) h = let two =
     and_parts (w == b) (agrees bs ws) h in and_from (w == b) (agrees (take n bs) ws) two.0 (agrees_shorter ws bs n two.1)
 
 -- a beginning of a tail is a tail
-pub tail_cut : (v f : ℕ) (cut : List ℕ) (n : ℕ) → IsTailIn v f cut → IsTailIn v f (take n cut)
-tail_cut v f cut n (inl short) = inl (omega (arith, take_less cut n, short.0), agrees_shorter (frame_word v) cut n short.1)
-tail_cut v f cut n (inr t) =
+pub tail_shortened : (v f : ℕ) (torn : List ℕ) (n : ℕ) → IsTailIn v f torn → IsTailIn v f (take n torn)
+tail_shortened v f torn n (inl short) = inl (omega (arith, take_less torn n, short.0), agrees_shorter (frame_word v) torn n short.1)
+tail_shortened v f torn n (inr t) =
     let head = t.0 in
     let rest = t.1 in
     let spelled = head_bytes_in v head.number head.body head.blocks in
@@ -52,7 +52,7 @@ tail_cut v f cut n (inr t) =
     let size : length spelled ≡ 20 = length-head v head.number head.body head.blocks in
     elim (cases_lt n 20) [
       | inl less ↦ inl (
-        omega (arith, take_short cut n),
+        omega (arith, take_short torn n),
         ap (λ (b : List ℕ). agrees (take n b) (frame_word v)) (t.4)
             ∙ agrees_shorter (frame_word v) (spelled ++ rest) n (agrees_whole (frame_word v) (numbers ++ rest)),
       )
@@ -66,19 +66,19 @@ tail_cut v f cut n (inr t) =
     ]
 
 -- so many whole frames, and a tail
-pub record Cut (v f : ℕ) (fs : List Frame) (bytes : List ℕ) : Type 0 where
+pub record Shortened (v f : ℕ) (fs : List Frame) (bytes : List ℕ) : Type 0 where
   pub count : ℕ
   pub rest : List ℕ
   pub tail : IsTailIn v f rest
   pub parts : bytes ≡ flat_map (frame_bytes_in v) (take count fs) ++ rest
 
-pub frames_cut : (v m f : ℕ) (fs : List Frame) (cut : List ℕ) (n : ℕ) → AllByRecursion (IsFrameIn v m f) fs → IsTailIn v f cut
-    → Cut v f fs (take n (flat_map (frame_bytes_in v) fs ++ cut))
-frames_cut v m f [] cut n laws tail = record { count = 0; rest = take n cut; tail = tail_cut v f cut n tail; parts = refl }
-frames_cut v m f (x ∷ fs) cut n laws tail =
+pub frames_shortened : (v m f : ℕ) (fs : List Frame) (torn : List ℕ) (n : ℕ) → AllByRecursion (IsFrameIn v m f) fs → IsTailIn v f torn
+    → Shortened v f fs (take n (flat_map (frame_bytes_in v) fs ++ torn))
+frames_shortened v m f [] torn n laws tail = record { count = 0; rest = take n torn; tail = tail_shortened v f torn n tail; parts = refl }
+frames_shortened v m f (x ∷ fs) torn n laws tail =
     let spelled = frame_bytes_in v x in
-    let others = flat_map (frame_bytes_in v) fs ++ cut in
-    let parts : flat_map (frame_bytes_in v) (x ∷ fs) ++ cut ≡ spelled ++ others = append_assoc spelled (flat_map (frame_bytes_in v) fs) cut in
+    let others = flat_map (frame_bytes_in v) fs ++ torn in
+    let parts : flat_map (frame_bytes_in v) (x ∷ fs) ++ torn ≡ spelled ++ others = append_assoc spelled (flat_map (frame_bytes_in v) fs) torn in
     elim (cases_lt n (length spelled)) [
       | inl less ↦ record {
         count = 0;
@@ -87,7 +87,7 @@ frames_cut v m f (x ∷ fs) cut n laws tail =
         parts = ap (take n) parts ∙ take_part spelled others n (omega arith);
       }
       | inr more ↦ (
-          let c = frames_cut v m f fs cut (n - length spelled) laws.1 tail in
+          let c = frames_shortened v m f fs torn (n - length spelled) laws.1 tail in
           record {
             count = suc c.count;
             rest = c.rest;
@@ -102,20 +102,20 @@ all_taken P zero xs all = tt
 all_taken P (suc n) [] all = tt
 all_taken P (suc n) (x ∷ xs) all = (all.0, all_taken P n xs all.1)
 
--- a live segment that is cut behind its header: live, with a beginning of its frames
-pub live_cut : (l : Limits) (number : ℕ) (bytes : List ℕ) (n : ℕ) → IsLive l number bytes → 24 ≤ n
+-- a live segment that is shortened behind its header: live, with a beginning of its frames
+pub live_shortened : (l : Limits) (number : ℕ) (bytes : List ℕ) (n : ℕ) → IsLive l number bytes → 24 ≤ n
     → (count : ℕ) × (segment_frames (take n bytes) ≡ take count (segment_frames bytes)) × IsLive l number (take n bytes)
-live_cut l number bytes n live some =
+live_shortened l number bytes n live some =
     let h : Header = header_in l number in
     let v = h.version in
     let w = live.whole in
     let fs = segment_frames bytes in
     let size : length (header_bytes h) ≡ 24 = length-header h in
-    let c = frames_cut v h.m h.f fs live.cut (n - 24) w.each w.tail in
+    let c = frames_shortened v h.m h.f fs live.torn (n - 24) w.each w.tail in
     let parts : take n bytes ≡ header_bytes h ++ (flat_map (frame_bytes_in v) (take c.count fs) ++ c.rest) =
-    ap (take n) w.parts ∙ take_past (header_bytes h) (flat_map (frame_bytes_in v) fs ++ live.cut) n (omega arith)
-    ∙ ap (λ (k : ℕ). header_bytes h ++ take (n - k) (flat_map (frame_bytes_in v) fs ++ live.cut)) size ∙ ap (λ (l : List ℕ). header_bytes h ++ l) c.parts in
+    ap (take n) w.parts ∙ take_past (header_bytes h) (flat_map (frame_bytes_in v) fs ++ live.torn) n (omega arith)
+    ∙ ap (λ (k : ℕ). header_bytes h ++ take (n - k) (flat_map (frame_bytes_in v) fs ++ live.torn)) size ∙ ap (λ (l : List ℕ). header_bytes h ++ l) c.parts in
     let whole : IsWhole (take n bytes) h (take c.count fs) c.rest =
     record { lawful = w.lawful; each = all_taken (IsFrameIn v h.m h.f) c.count fs w.each; tail = c.tail; parts = parts } in
     let read = segment_read (take n bytes) h (take c.count fs) c.rest whole in
-    (c.count, read, record { cut = c.rest; whole = subst (λ (gs : List Frame). IsWhole (take n bytes) h gs c.rest) (sym read) whole })
+    (c.count, read, record { torn = c.rest; whole = subst (λ (gs : List Frame). IsWhole (take n bytes) h gs c.rest) (sym read) whole })

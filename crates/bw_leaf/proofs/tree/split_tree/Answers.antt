@@ -1,6 +1,6 @@
 use Rattle.std.proofs.Common.{◌∙◌}
 use Rattle.bw_leaf.proofs.Trees.{popped}
-use Rattle.bw_leaf.proofs.tree.cut_tree.Goals as goal
+use Rattle.bw_leaf.proofs.tree.split_tree.Goals as goal
 
 pub down-preserved : goal.down-preserved
 down-preserved c =

@@ -1,4 +1,4 @@
--- The boxes of a log behind a cut of its newest segment, and behind an append that failed.
+-- The boxes of a log behind a newest segment that is shortened, and behind an append that failed.
 
 use Rattle.std.proofs.Common.{inl, inr, ◌≡◌, ◌⊎◌, ℕ, zero, suc, ◌+◌, ◌<◌, ◌≤◌, ◌==◌, nat_lt, Bool, true, false, if◌then◌else◌, Err, List, [], ◌∷◌, ◌++◌}
 use Rattle.std.proofs.Common.{length, map, take, drop, refl, sym, ap, ◌∙◌, subst, arith, append_assoc, append-nil, length-append, take_all, take-append-drop}
@@ -14,7 +14,7 @@ use Rattle.bw_record.specs.declared.leaf.Leaf.{Leaf}
 use Rattle.bw_codec.specs.declared.block.Frame.{Frame}
 use Rattle.bw_codec.specs.declared.block.Header.{Header}
 use Rattle.bw_codec.specs.declared.block.HeaderRead.TheVariants as heading
-use Rattle.bw_codec.proofs.FrontFormat.{agrees_cut}
+use Rattle.bw_codec.proofs.FrontFormat.{agrees_shortened}
 use Rattle.bw_codec.proofs.Heading.{length-header}
 use Rattle.bw_device.specs.Holding.{Holding}
 use Rattle.bw_page.specs.Standing.{Stand}
@@ -24,11 +24,11 @@ use Rattle.bw_log.specs.Places.{all_placed, bad_link, first_number, AreLinked}
 use Rattle.bw_log.specs.Segments.{Limits, version_at, header_with, segment_frames, frames_of, next_of, AreFrom, AreLive, IsLive}
 use Rattle.bw_log.specs.Segments as log
 use Rattle.bw_log.proofs.Adding.{frames_last, live_last, numbered_more}
-use Rattle.bw_log.proofs.Cut.{live_cut}
+use Rattle.bw_log.proofs.Shortened.{live_shortened}
 use Rattle.bw_log.proofs.GivenUp.{placed_more}
 use Rattle.bw_log.proofs.Links.{bad_link-append, neither}
 use Rattle.bw_log.proofs.Reread.{clean_is_new, header_is_clean, header_new, new_is_live}
-use Rattle.bw_care.specs.Laws.{AreSorted, IsFound, IsLoose, OwnCutsFound, OwnStopFound, cut_newest, frames_held, sorted_finding}
+use Rattle.bw_care.specs.Laws.{AreSorted, IsFound, IsLoose, OwnShortenedFound, OwnStopFound, shorten_newest, frames_held, sorted_finding}
 use Rattle.bw_care.specs.Recovery.{frames_in, last_number, recovery}
 use Rattle.bw_lines.specs.declared.cause.RecoverCause.TheVariants.{Empty}
 use Rattle.bw_care.proofs.OwnFound.{all_bounded, empty_boxes, frames_sorted, sorted_boxes, spares_loose}
@@ -101,7 +101,7 @@ part_of h bytes rest n version parts some short =
     let len = take_length n bytes long in
     let after = number_bytes 8 h.number ++ (number_bytes 2 h.m ++ (number_bytes 2 0 ++ number_bytes 4 h.f)) in
     let agree : agrees (take n bytes) word ≡ true =
-    ap (λ (b : List ℕ). agrees (take n b) word) (parts ∙ append_assoc word after rest) ∙ agrees_cut word (after ++ rest) n in
+    ap (λ (b : List ℕ). agrees (take n b) word) (parts ∙ append_assoc word after rest) ∙ agrees_shortened word (after ++ rest) n in
     part_is (take n bytes) (word_by (take n bytes) h.version (agrees (take n bytes) (segment_word 1)) refl version agree) (omega arith) (omega arith)
 
 no_frames_by : (bytes : List ℕ) → heading_of bytes ≡ heading.Part → segment_frames bytes ≡ []
@@ -135,22 +135,22 @@ linked_taken (suc k) (x ∷ xs) linked =
     (neither (bad_link x.number [] (all_placed ys)) (bad_link x.number (all_placed ys) (all_placed zs))
     (sym (bad_link-append x.number [] (all_placed ys) (all_placed zs)) ∙ ap (bad_link x.number []) (sym parts) ∙ linked)).0
 
--- ---- the newest segment is cut
+-- ---- the newest segment is shortened
 
 record Parted (z : Limits) (number n : ℕ) (hs : List Holding) : Type 0 where
   live : List Holding
   loose : List Holding
-  is : cut_newest n hs ≡ live ++ loose
+  is : shorten_newest n hs ≡ live ++ loose
   segments : AreLive z number (map (λ h. h.bytes) live)
   others : AllByRecursion (IsLoose z.f) loose
-  holds : frames_held live ≡ frames_held (cut_newest n hs)
+  holds : frames_held live ≡ frames_held (shorten_newest n hs)
 
 loose_by : (z : Limits) (number n : ℕ) (h : Holding) → IsLive z number h.bytes → (n ≡ 0 → IsRoomy z.f h) → n < 24
     → IsLoose z.f (record h { bytes = take n h.bytes }) × (segment_frames (take n h.bytes) ≡ [])
 loose_by z number zero h live roomy short = (inl (refl, (roomy refl).0), no_bytes_no_frames)
 loose_by z number (suc n) h live roomy short =
     let part = part_of (log.header_in z number) h.bytes
-    (flat_map (frame_bytes_in (version_at z.old_to number)) (segment_frames h.bytes) ++ live.cut) (suc n) live.whole.lawful.version live.whole.parts
+    (flat_map (frame_bytes_in (version_at z.old_to number)) (segment_frames h.bytes) ++ live.torn) (suc n) live.whole.lawful.version live.whole.parts
     (omega arith) short in
     (inr part, no_frames_by (take (suc n) h.bytes) part)
 
@@ -158,7 +158,7 @@ short_frames : (z : Limits) (number n : ℕ) (h : Holding) → IsLive z number h
 short_frames z number zero h live short = no_bytes_no_frames
 short_frames z number (suc n) h live short =
     no_frames_by (take (suc n) h.bytes) (part_of (log.header_in z number) h.bytes
-    (flat_map (frame_bytes_in (version_at z.old_to number)) (segment_frames h.bytes) ++ live.cut) (suc n) live.whole.lawful.version live.whole.parts
+    (flat_map (frame_bytes_in (version_at z.old_to number)) (segment_frames h.bytes) ++ live.torn) (suc n) live.whole.lawful.version live.whole.parts
     (omega arith) short)
 
 -- the frames of one segment are those of the row of it alone
@@ -176,16 +176,16 @@ parted_by : (z : Limits) (number n : ℕ) (hs : List Holding) → AreLive z numb
 parted_by z number n [] live roomy =
     record { live = []; loose = []; is = refl; segments = tt; others = tt; holds = refl }
 parted_by z number n (h ∷ []) live roomy =
-    let cut : Holding = record h { bytes = take n h.bytes } in
+    let shorter : Holding = record h { bytes = take n h.bytes } in
     elim (cases_lt n 24) [
       | inl short ↦ (
           let x = loose_by z number n h live.0 roomy short in
-          let none : frames_held (cut ∷ []) ≡ [] = one_segment cut ∙ x.1 in
-          record { live = []; loose = cut ∷ []; is = refl; segments = tt; others = (x.0, tt); holds = sym none })
+          let none : frames_held (shorter ∷ []) ≡ [] = one_segment shorter ∙ x.1 in
+          record { live = []; loose = shorter ∷ []; is = refl; segments = tt; others = (x.0, tt); holds = sym none })
       | inr more ↦ (
-          let x = live_cut z number h.bytes n live.0 more in
+          let x = live_shortened z number h.bytes n live.0 more in
           record {
-            live = cut ∷ [];
+            live = shorter ∷ [];
             loose = [];
             is = refl;
             segments = (x.2, tt);
@@ -204,22 +204,22 @@ parted_by z number n (h ∷ k ∷ hs) live roomy =
       holds = ap (λ (fs : List Frame). segment_frames h.bytes ++ fs) x.holds;
     }
 
--- a cut changes no room and no number of boxes
-cut_bounded : (n : ℕ) (hs : List Holding) → AllByRecursion IsBounded hs → AllByRecursion IsBounded (cut_newest n hs)
-cut_bounded n [] all = tt
-cut_bounded n (h ∷ []) all = (all.0, tt)
-cut_bounded n (h ∷ k ∷ hs) all = (all.0, cut_bounded n (k ∷ hs) all.1)
+-- shortening changes no room and no number of boxes
+shortened_bounded : (n : ℕ) (hs : List Holding) → AllByRecursion IsBounded hs → AllByRecursion IsBounded (shorten_newest n hs)
+shortened_bounded n [] all = tt
+shortened_bounded n (h ∷ []) all = (all.0, tt)
+shortened_bounded n (h ∷ k ∷ hs) all = (all.0, shortened_bounded n (k ∷ hs) all.1)
 
-cut_long : (n : ℕ) (hs : List Holding) → length (cut_newest n hs) ≡ length hs
-cut_long n [] = refl
-cut_long n (h ∷ []) = refl
-cut_long n (h ∷ k ∷ hs) = ap suc (cut_long n (k ∷ hs))
+shortened_long : (n : ℕ) (hs : List Holding) → length (shorten_newest n hs) ≡ length hs
+shortened_long n [] = refl
+shortened_long n (h ∷ []) = refl
+shortened_long n (h ∷ k ∷ hs) = ap suc (shortened_long n (k ∷ hs))
 
-cut_sorts : (c : Contents) (n : ℕ) (sound : IsSound c) → c.is_failed ≡ false → (n ≡ 0 → IfSome (last_of c.live) (IsRoomy c.f))
-    → SortsOut (limits_of (image c) sound.holds.live.0) (cut_newest n c.live ++ c.spares) (frames_held (cut_newest n c.live))
-cut_sorts c n sound works roomy =
+shortened_sorts : (c : Contents) (n : ℕ) (sound : IsSound c) → c.is_failed ≡ false → (n ≡ 0 → IfSome (last_of c.live) (IsRoomy c.f))
+    → SortsOut (limits_of (image c) sound.holds.live.0) (shorten_newest n c.live ++ c.spares) (frames_held (shorten_newest n c.live))
+shortened_sorts c n sound works roomy =
     let x = parted_by (limits_of (image c) sound.holds.live.0) c.number n c.live sound.holds.live.1 roomy in
-    let is : cut_newest n c.live ++ c.spares ≡ x.live ++ (x.loose ++ c.spares) =
+    let is : shorten_newest n c.live ++ c.spares ≡ x.live ++ (x.loose ++ c.spares) =
     ap (λ (l : List Holding). l ++ c.spares) x.is ∙ append_assoc x.live x.loose c.spares in
     let few = sound.few in
     let long = ap (λ (l : List Holding). length l) x.is in
@@ -232,21 +232,21 @@ cut_sorts c n sound works roomy =
         segments = x.segments;
         least = sound.holds.limits.2;
         others = all_append (IsLoose c.f) x.loose c.spares x.others (spares_loose c.f c.spares (sound.empty works));
-        few = omega (arith, few, long, cut_long n c.live, length-append x.live x.loose, length-append x.loose c.spares);
+        few = omega (arith, few, long, shortened_long n c.live, length-append x.live x.loose, length-append x.loose c.spares);
         bounds = subst (AllByRecursion IsBounded) is
-            (all_bounded c.f (cut_newest n c.live) c.spares (cut_bounded n c.live sound.bounds) sound.rooms);
+            (all_bounded c.f (shorten_newest n c.live) c.spares (shortened_bounded n c.live sound.bounds) sound.rooms);
       };
       holds = x.holds;
     }
 
 held_taken : (n : ℕ) (hs : List Holding) (z : Limits) (number : ℕ) → AreLive z number (map (λ h. h.bytes) hs)
-    → (count : ℕ) × (frames_held (cut_newest n hs) ≡ take count (frames_held hs))
+    → (count : ℕ) × (frames_held (shorten_newest n hs) ≡ take count (frames_held hs))
 held_taken n [] z number live = (0, refl)
 held_taken n (h ∷ []) z number live =
-    let cut : Holding = record h { bytes = take n h.bytes } in
+    let shorter : Holding = record h { bytes = take n h.bytes } in
     elim (cases_lt n 24) [
-      | inl short ↦ (0, one_segment cut ∙ short_frames z number n h live.0 short)
-      | inr more ↦ (let x = live_cut z number h.bytes n live.0 more in (x.0, one_segment cut ∙ x.1 ∙ ap (take x.0) (sym (one_segment h))))
+      | inl short ↦ (0, one_segment shorter ∙ short_frames z number n h live.0 short)
+      | inr more ↦ (let x = live_shortened z number h.bytes n live.0 more in (x.0, one_segment shorter ∙ x.1 ∙ ap (take x.0) (sym (one_segment h))))
     ]
 held_taken n (h ∷ k ∷ hs) z number live =
     let x = held_taken n (k ∷ hs) z (number + 1) live.1 in (
@@ -256,20 +256,20 @@ held_taken n (h ∷ k ∷ hs) z number live =
     )
 
 -- what is left of the counted frames
-pub cut_taken : (c : Contents) (n : ℕ) → IsSound c → c.is_failed ≡ false → (count : ℕ) × (frames_held (cut_newest n c.live) ≡ take count (counted c))
-cut_taken c n sound works =
+pub shortened_taken : (c : Contents) (n : ℕ) → IsSound c → c.is_failed ≡ false → (count : ℕ) × (frames_held (shorten_newest n c.live) ≡ take count (counted c))
+shortened_taken c n sound works =
     (let x = held_taken n c.live (limits_of (image c) sound.holds.live.0) c.number sound.holds.live.1
     in (x.0, x.1 ∙ ap (take x.0) (sym (sound.holds.every works))))
 
-pub cut_boxes : OwnCutsFound
-cut_boxes c n sound works roomy =
-    let x = cut_taken c n sound works in
-    let sorts = cut_sorts c n sound works roomy in
+pub shortened_boxes : OwnShortenedFound
+shortened_boxes c n sound works roomy =
+    let x = shortened_taken c n sound works in
+    let sorts = shortened_sorts c n sound works roomy in
     let frames = x.1 in (
-      λ leaves stand. sorted_found (limits_of (image c) sound.holds.live.0) (cut_newest n c.live ++ c.spares) (frames_held (cut_newest n c.live)) leaves sorts
+      λ leaves stand. sorted_found (limits_of (image c) sound.holds.live.0) (shorten_newest n c.live ++ c.spares) (frames_held (shorten_newest n c.live)) leaves sorts
           (subst (λ (fs : List Frame). AreFrom (first_number fs) fs) (sym frames) (numbered_taken x.0 (counted c) sound.holds.numbered))
           (subst AreLinked (sym frames) (linked_taken x.0 (counted c) sound.holds.linked)) stand,
-      λ none. sorted_empty (limits_of (image c) sound.holds.live.0) (cut_newest n c.live ++ c.spares) (frames_held (cut_newest n c.live)) sorts none,
+      λ none. sorted_empty (limits_of (image c) sound.holds.live.0) (shorten_newest n c.live ++ c.spares) (frames_held (shorten_newest n c.live)) sorts none,
     )
 
 -- ---- an append failed

@@ -4,9 +4,9 @@ use Rattle.std.specs.Prelude.{slice_set}
 use Rattle.bw_lows.specs.Rows.{Low, nothing}
 use Rattle.bw_lows.specs.LowRow.{IsRow}
 use Rattle.bw_lows.specs.Flat.{flat, firsts, block_at}
-use Rattle.bw_lows.proofs.Changed.{flat_cut}
-use Rattle.bw_lows.proofs.FirstHeads.{length-firsts, firsts_cut, firsts_inserted}
-use Rattle.bw_lows.proofs.blocks.Blocks.cut.Goals as goal
+use Rattle.bw_lows.proofs.Changed.{flat_halved}
+use Rattle.bw_lows.proofs.FirstHeads.{length-firsts, firsts_halved, firsts_inserted}
+use Rattle.bw_lows.proofs.blocks.Blocks.halve.Goals as goal
 
 pub invariant_of-self-2 : goal.invariant_of-self-2
 invariant_of-self-2 c =
@@ -16,7 +16,7 @@ invariant_of-self-2 c =
     let row : IsRow c.self.inside.begins.shared.items c.self.inside.begins.heads.items (firsts blocks) =
     subst (λ (bs : List (List Low)). IsRow c.self.inside.begins.shared.items c.self.inside.begins.heads.items (firsts bs)) (sym c.reserve.ensures.items) c.self.invariant in
     let lower : List Low = c.split.new.self in
-    let kept = firsts_cut _ _ blocks c.args.at row lower c.in_ok-upper.upper (c.in_ok-upper.ensures.all ∙ block) c.in_ok-upper.ensures.lower in
+    let kept = firsts_halved _ _ blocks c.args.at row lower c.in_ok-upper.upper (c.in_ok-upper.ensures.all ∙ block) c.in_ok-upper.ensures.lower in
     let long = length-firsts (slice_set blocks c.args.at lower) ∙ length-set blocks c.args.at lower ∙ ap length c.reserve.ensures.items
     ∙ ap length (sym c.as_slice-count.ensures.value) in
     subst (λ (bs : List (List Low)). IsRow c.mend.new.begins.shared.items c.mend.new.begins.heads.items (firsts bs)) c.as_slice.ensures.value
@@ -30,5 +30,5 @@ returns-clause-lows c =
     let inside : c.args.at < length blocks = omega (arith, c.requires.within, ap length c.self.view_is, ap length c.reserve.ensures.items) in
     let block : c.index_mut.result.now ≡ block_at blocks c.args.at = get_or_read blocks c.args.at c.index_mut.result.now inside c.index_mut.ensures.value [] in
     ap (λ (bs : List (List Low)). flat bs) c.in-Ok.ensures.items
-    ∙ flat_cut blocks c.args.at c.split.new.self c.in_ok-upper.upper inside (c.in_ok-upper.ensures.all ∙ block)
+    ∙ flat_halved blocks c.args.at c.split.new.self c.in_ok-upper.upper inside (c.in_ok-upper.ensures.all ∙ block)
     ∙ ap (λ (bs : List (List Low)). flat bs) (c.reserve.ensures.items ∙ c.self.view_is)

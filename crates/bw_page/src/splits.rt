@@ -1,71 +1,26 @@
-//! A leaf changed in its place, and a leaf cut in two by the split rule.
+//! A leaf changed in its place and split in two by the split rule, among all pages.
 
-ghost use Rattle.std.specs.Prelude.{◌≡◌, ◌<◌, ◌≤◌, ◌+◌, ◌/◌, ◌++◌, false, [], ◌∷◌, length, slice_set, slice_index_or, Some, Err, if◌then◌else◌, OnOk, OnErr, IfOk};
+ghost use Rattle.std.specs.Prelude.{◌≡◌, ◌<◌, ◌≤◌, ◌+◌, ◌++◌, false, [], ◌∷◌, length, slice_set, slice_index_or, Some, if◌then◌else◌, OnOk, OnErr, IfOk};
 ghost use Rattle.std.specs.Ordering.{eq_by_cmp};
 ghost use Rattle.bw_record.specs.Record.{key_of};
 ghost use Rattle.bw_record.specs.declared.leaf.Leaf.{Leaf as LeafValue};
-ghost use Rattle.bw_record.specs.declared.record.Record.TheVariants.{Put};
 ghost use Rattle.bw_leaf.specs.Changed.{Bytes, order, changed};
-ghost use Rattle.bw_page.specs.Leaves.{lower_of, upper_of};
-ghost use Rattle.bw_page.specs.Cutting.{changed_at};
+ghost use Rattle.bw_leaf.specs.SplitRule.{lower_of, upper_of};
+ghost use Rattle.bw_page.specs.Splitting.{changed_at};
 ghost use Rattle.bw_lows.specs.LowHeads.{page_of_low};
 ghost use Rattle.bw_page.specs.Seats.{is_among};
 ghost use Rattle.bw_leaf.specs.Seek.{seek_of, IsWithin, AddsOne};
 
 use crate::seats::Seats;
-use bw_codec::{Leaf, Low, Packed, Pair};
+use bw_codec::{Leaf, Low, Packed};
+use bw_leaf::{half_of, new_pair};
 use bw_lows::LowIndex;
 use std::alloc::{AllocError, Global};
-
-/// A leaf that was cut in two.
-#[derive(Drop)]
-pub struct Cut {
-    /// The part that stays.
-    pub lower: Leaf,
-    /// The part that becomes a new page.
-    pub upper: Leaf,
-}
-
-/// Cuts a leaf that has more than `m` pairs: the first (m + 1) / 2 stay, and the others become the
-/// page of this number. A refused growth is the only error; the leaf is then dropped.
-pub fn cut_in_two(alloc: Global, m: u16, leaf: Leaf, page: u32) -> Result<Cut, AllocError>
-    requires some { 1 ≤ m }
-    requires over { m < length leaf.pairs }
-    ensures lower { IfOk result (λ c. c.lower ≡ lower_of m leaf) }
-    ensures upper { IfOk result (λ c. c.upper ≡ upper_of m page leaf) }
-{
-    let mut lower = leaf;
-    let upper = take_upper(alloc, m, &mut lower, page)?;
-    Ok(Cut { lower, upper })
-}
-
-// How many pairs stay in a leaf that is cut.
-fn half_of(m: u16) -> usize
-    ensures { result ≡ (m + 1) / 2 }
-{
-    (usize::from(m) + 1) / 2
-}
-
-// Takes the part off a leaf that becomes a new page.
-fn take_upper(alloc: Global, m: u16, leaf: &mut Leaf, page: u32) -> Result<Leaf, AllocError>
-    requires some { 1 ≤ m }
-    requires over { m < length leaf.old.pairs }
-    ensures lower { OnOk result (leaf.new ≡ lower_of m leaf.old) }
-    ensures upper { IfOk result (λ upper. upper ≡ upper_of m page leaf.old) }
-{
-    let pairs = leaf.pairs.split_off(half_of(m))?;
-    let low = Vec::from_slice(alloc, pairs.as_slice()[0].key())?;
-    Ok(Leaf {
-        page,
-        low: Low::of(low),
-        pairs,
-    })
-}
 
 /// Changes a leaf by a record that adds one pair too many, where the search for its key ended so, and
 /// moves off the part that becomes a new page, whose low key goes into the index. A refusal changes
 /// nothing.
-pub(crate) fn cut_leaf(
+pub(crate) fn split_leaf(
     index: &mut LowIndex,
     m: u16,
     leaf: &mut Leaf,
@@ -94,20 +49,6 @@ pub(crate) fn cut_leaf(
             leaf.pairs.remove(at);
             Err(error)
         }
-    }
-}
-
-// The pair that a record adds, which shares the record's bytes, and where it goes.
-fn new_pair(found: Result<usize, usize>, item: &Packed) -> Result<(usize, Pair), AllocError>
-    requires adds { AddsOne item.now found }
-    ensures at { IfOk result (λ r. found ≡ Err r.0) }
-    ensures pair { IfOk result (λ r. item.now ≡ Put r.1.0 r.1.1) }
-{
-    match (found, item.pair()) {
-        (Err(at), Ok(pair)) => Ok((at, pair.copy()?)),
-        (Err(_), Err(_)) => unreachable!(),
-        (Ok(_), Ok(_)) => unreachable!(),
-        (Ok(_), Err(_)) => unreachable!(),
     }
 }
 
@@ -140,10 +81,10 @@ fn sever(index: &mut LowIndex, m: u16, leaf: &mut Leaf, page: u32) -> Result<Lea
     })
 }
 
-/// Cuts one of some leaves that has one pair too many after a record, in which the search for its key
+/// Splits one of some leaves that has one pair too many after a record, in which the search for its key
 /// ended so: the lower part stays in its place, the upper one stands last and in the index. A refusal
 /// changes nothing.
-pub(crate) fn cut_at(
+pub(crate) fn split_one(
     leaves: &mut Seats,
     index: &mut LowIndex,
     m: u16,
@@ -172,7 +113,7 @@ pub(crate) fn cut_at(
     ensures index_stays { OnErr result (index.new ≡ index.old) }
 {
     leaves.reserve(1)?;
-    let upper = leaves.cut(index, m, at, found, item, page)?;
+    let upper = leaves.split(index, m, at, found, item, page)?;
     match leaves.push(upper) {
         Ok(()) => Ok(()),
         Err(_) => unreachable!(),

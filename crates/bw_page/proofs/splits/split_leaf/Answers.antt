@@ -3,11 +3,11 @@ use Rattle.std.specs.Ordering.{eq_by_cmp}
 use Rattle.std.specs.Prelude.{remove}
 use Rattle.bw_record.specs.declared.leaf.Leaf.{Leaf}
 use Rattle.bw_leaf.specs.Changed.{order}
-use Rattle.bw_page.specs.Leaves.{lower_of, upper_of}
+use Rattle.bw_leaf.specs.SplitRule.{lower_of, upper_of}
 use Rattle.bw_lows.specs.LowHeads.{page_of_low}
 use Rattle.bw_leaf.specs.Seek.{IsWithin}
 use Rattle.bw_page.proofs.Parting.{remove_inserted, with_pair}
-use Rattle.bw_page.proofs.cuts.cut_leaf.Goals as goal
+use Rattle.bw_page.proofs.splits.split_leaf.Goals as goal
 
 pub sever-requires-clause-over : goal.sever-requires-clause-over
 sever-requires-clause-over c =
