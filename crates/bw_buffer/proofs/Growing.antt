@@ -16,9 +16,9 @@ use Rattle.bw_record.specs.Lawful.{IsOp}
 use Rattle.bw_codec.specs.Grammar.{op_bytes, block_bytes, body_bytes, IsBlock}
 use Rattle.bw_record.specs.declared.record.Record.{Record}
 use Rattle.bw_record.specs.declared.record.Record.TheVariants.{Put, Del}
-use Rattle.bw_codec.specs.declared.block.Place.{Place}
-use Rattle.bw_codec.specs.declared.block.Block.{Block}
-use Rattle.bw_codec.specs.declared.block.Block.TheVariants.{Delta, Base, Split}
+use Rattle.bw_record.specs.declared.block.Place.{Place}
+use Rattle.bw_record.specs.declared.block.Block.{Block}
+use Rattle.bw_record.specs.declared.block.Block.TheVariants.{Delta, Base, Split}
 use Rattle.bw_codec.proofs.Lengths.{length-delta}
 use Rattle.bw_buffer.specs.Joining.{open_after, open_from, last_delta, joins_of, with_ops, ops_added, joined_by, joined}
 use Rattle.bw_buffer.specs.Rows.{Parts, parts, pieces_length, bytes_at, AreRows, IsRow}

@@ -6,8 +6,8 @@ use Rattle.std.specs.List.{AllByRecursion as All, slice_get}
 use Rattle.bw_record.specs.Version.{latest}
 use Rattle.bw_codec.specs.Grammar.{block_bytes, body_bytes, head_bytes, frame_bytes, IsBlock}
 use Rattle.bw_codec.specs.Reading.{many_at, block_at}
-use Rattle.bw_codec.specs.declared.block.Block.{Block}
-use Rattle.bw_codec.specs.declared.block.Block.TheVariants.{Delta, Base, Split}
+use Rattle.bw_record.specs.declared.block.Block.{Block}
+use Rattle.bw_record.specs.declared.block.Block.TheVariants.{Delta, Base, Split}
 use Rattle.bw_codec.proofs.Lengths.{length-delta, length-base, length-split}
 use Rattle.bw_codec.proofs.BlockFormat.{many_again, block_format}
 use Rattle.bw_codec.proofs.FrontFormat.{length-head}

@@ -11,9 +11,9 @@ use Rattle.std.proofs.lemmas.Bool.{eq-eqb, ne_eqb}
 use Rattle.bw_codec.specs.Grammar.{op_bytes, block_bytes, body_bytes, place_bytes}
 use Rattle.bw_codec.specs.Bytes.{number_bytes}
 use Rattle.bw_record.specs.declared.record.Record.{Record}
-use Rattle.bw_codec.specs.declared.block.Place.{Place}
-use Rattle.bw_codec.specs.declared.block.Block.{Block}
-use Rattle.bw_codec.specs.declared.block.Block.TheVariants.{Delta, Base, Split}
+use Rattle.bw_record.specs.declared.block.Place.{Place}
+use Rattle.bw_record.specs.declared.block.Block.{Block}
+use Rattle.bw_record.specs.declared.block.Block.TheVariants.{Delta, Base, Split}
 use Rattle.bw_buffer.specs.Rows.{Parts, parts, pieces_length, bytes_at, front_by, front_of, laid, IsRow, AreRows}
 use Rattle.bw_buffer.specs.Marks.{mark_of}
 use Rattle.bw_buffer.specs.declared.mark.Mark.{Mark}

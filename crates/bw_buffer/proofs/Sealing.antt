@@ -6,8 +6,8 @@ use Rattle.std.specs.Vec.{vec_capacity}
 use Rattle.std.specs.declared.vec.Vec.{Vec}
 use Rattle.std.specs.declared.alloc.Global.{Global}
 use Rattle.bw_codec.specs.Grammar.{body_bytes, head_bytes, IsBlock}
-use Rattle.bw_codec.specs.declared.block.Block.{Block}
-use Rattle.bw_codec.specs.declared.block.Block.TheVariants.{Delta, Base, Split}
+use Rattle.bw_record.specs.declared.block.Block.{Block}
+use Rattle.bw_record.specs.declared.block.Block.TheVariants.{Delta, Base, Split}
 use Rattle.bw_buffer.specs.Rows.{Parts, bytes_at, IsRow, AreRows, IsFewBy, AreMeasured}
 use Rattle.bw_buffer.specs.Laid.{blocks_of, parts_of, body_of, Holds, IsLaid}
 use Rattle.bw_buffer.specs.declared.mark.Mark.{Mark}

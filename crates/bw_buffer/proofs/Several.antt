@@ -3,7 +3,7 @@
 use Rattle.std.proofs.Common.{◌≡◌, ℕ, ◌+◌, ◌-◌, ◌<◌, ◌≤◌, List, [], ◌∷◌, ◌++◌, length, take, drop, get_or, sym, ap, ◌∙◌, arith}
 use Rattle.std.proofs.lemmas.List.{take_more, take-append-drop}
 use Rattle.bw_codec.specs.Grammar.{body_bytes}
-use Rattle.bw_codec.specs.declared.block.Block.{Block}
+use Rattle.bw_record.specs.declared.block.Block.{Block}
 use Rattle.bw_buffer.specs.Filling.{Filling, size_of, with_all}
 use Rattle.bw_buffer.specs.Joining.{added}
 use Rattle.bw_buffer.proofs.Sizes.{added_longer, added_more, added_next}

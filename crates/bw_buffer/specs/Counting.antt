@@ -1,9 +1,9 @@
 -- How many records the last Delta of a page has when one more block is added, and how long its front is.
 
 use Rattle.std.specs.Prelude.{ℕ, ◌+◌, if◌then◌else◌, Option, Some, None, unwrap_or, length}
-use Rattle.bw_codec.specs.Touch.{touches}
-use Rattle.bw_codec.specs.declared.block.Block.{Block}
-use Rattle.bw_codec.specs.declared.block.Block.TheVariants.{Delta, Base, Split}
+use Rattle.bw_record.specs.Touch.{touches}
+use Rattle.bw_record.specs.declared.block.Block.{Block}
+use Rattle.bw_record.specs.declared.block.Block.TheVariants.{Delta, Base, Split}
 use Rattle.bw_buffer.specs.Joining.{takes}
 
 -- how many records a Delta has that so many join, or that begins with them

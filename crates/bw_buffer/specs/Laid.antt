@@ -8,7 +8,7 @@ use Rattle.bw_buffer.specs.Index.{index_at}
 use Rattle.bw_record.specs.Version.{latest}
 use Rattle.bw_codec.specs.Grammar.{body_bytes, head_bytes, IsBlock}
 use Rattle.bw_codec.specs.Reading.{Found, many_at, block_at}
-use Rattle.bw_codec.specs.declared.block.Block.{Block}
+use Rattle.bw_record.specs.declared.block.Block.{Block}
 use Rattle.bw_buffer.specs.Filling.{Filling}
 use Rattle.bw_buffer.specs.Joining.{last_delta}
 use Rattle.bw_buffer.specs.Rows.{Parts, parts, pieces_length, laid, AreRows}

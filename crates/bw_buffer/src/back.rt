@@ -8,7 +8,7 @@
 
 ghost use Rattle.std.specs.Prelude.{◌≡◌, ◌++◌, [], length, if◌then◌else◌, IfOk, OnOk};
 ghost use Rattle.bw_codec.specs.Grammar.{block_bytes, IsBlock};
-ghost use Rattle.bw_codec.specs.declared.block.Block.{Block as BlockValue};
+ghost use Rattle.bw_record.specs.declared.block.Block.{Block as BlockValue};
 ghost use Rattle.bw_buffer.specs.Filling.{SpellsBlock};
 ghost use Rattle.bw_buffer.specs.Rows.{bytes_at, front_of, parts, pieces_length, IsFewBy};
 

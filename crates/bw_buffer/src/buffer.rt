@@ -14,10 +14,10 @@ ghost use Rattle.std.specs.Prelude.{ℕ, nat_eq, is_some, Some, None, if◌then�
 ghost use Rattle.std.specs.List.{AllByRecursion, flat_map};
 ghost use Rattle.std.specs.Option.{option_map};
 ghost use Rattle.bw_codec.specs.Grammar.{op_bytes, block_bytes, frame_bytes, IsBlock};
-ghost use Rattle.bw_codec.specs.Touch.{touches};
+ghost use Rattle.bw_record.specs.Touch.{touches};
 ghost use Rattle.bw_record.specs.declared.leaf.Leaf.{Leaf};
-ghost use Rattle.bw_codec.specs.declared.block.Place.{Place as PlaceValue};
-ghost use Rattle.bw_codec.specs.declared.block.Block.TheVariants.{Delta, Base};
+ghost use Rattle.bw_record.specs.declared.block.Place.{Place as PlaceValue};
+ghost use Rattle.bw_record.specs.declared.block.Block.TheVariants.{Delta, Base};
 ghost use Rattle.std.specs.HashMap.{spare, hash_map_len};
 ghost use Rattle.bw_buffer.specs.Index.{index_at};
 ghost use Rattle.bw_buffer.specs.Filling.{frame_of, size_of, with_all, place_at, IsLawfulFrame, SpellsBase};

@@ -8,9 +8,9 @@ use Rattle.std.specs.List.{AllByRecursion}
 use Rattle.std.proofs.lemmas.Bool.{cases_lt}
 use Rattle.bw_codec.specs.Grammar.{block_bytes, body_bytes, frame_bytes, IsBase}
 use Rattle.bw_record.specs.declared.leaf.Leaf.{Leaf}
-use Rattle.bw_codec.specs.declared.block.Block.{Block}
-use Rattle.bw_codec.specs.declared.block.Block.TheVariants.{Base}
-use Rattle.bw_codec.specs.declared.block.Frame.{Frame}
+use Rattle.bw_record.specs.declared.block.Block.{Block}
+use Rattle.bw_record.specs.declared.block.Block.TheVariants.{Base}
+use Rattle.bw_record.specs.declared.block.Frame.{Frame}
 use Rattle.bw_codec.proofs.Wider.{block_wider}
 use Rattle.bw_leaf.specs.Forwards.{content, blocks_of}
 use Rattle.bw_page.specs.Standing.{Stand}

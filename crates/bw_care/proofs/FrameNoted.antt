@@ -11,10 +11,10 @@ use Rattle.bw_codec.specs.Reading.{version_in}
 use Rattle.bw_record.specs.Version.{latest}
 use Rattle.bw_codec.specs.Outline.{outline_of}
 use Rattle.bw_record.specs.declared.leaf.Leaf.{Leaf}
-use Rattle.bw_codec.specs.declared.block.Block.{Block}
-use Rattle.bw_codec.specs.declared.block.Block.TheVariants.{Delta, Base, Split}
-use Rattle.bw_codec.specs.declared.block.Frame.{Frame}
-use Rattle.bw_codec.specs.declared.block.Place.{Place}
+use Rattle.bw_record.specs.declared.block.Block.{Block}
+use Rattle.bw_record.specs.declared.block.Block.TheVariants.{Delta, Base, Split}
+use Rattle.bw_record.specs.declared.block.Frame.{Frame}
+use Rattle.bw_record.specs.declared.block.Place.{Place}
 use Rattle.bw_codec.specs.declared.outline.Outline.{Outline}
 use Rattle.bw_codec.proofs.FrontFormat.{length-head}
 use Rattle.bw_codec.proofs.Stepping.{length-outlined}

@@ -5,10 +5,10 @@ use Rattle.std.proofs.Common.{◌∙◌, subst}
 use Rattle.std.specs.List.{fold, AllByRecursion}
 use Rattle.std.proofs.lemmas.Bool.{and_parts, eqb-true}
 use Rattle.bw_codec.specs.Grammar.{IsBlock, IsBlockIn, IsFrameIn}
-use Rattle.bw_codec.specs.declared.block.Block.{Block}
-use Rattle.bw_codec.specs.declared.block.Header.{Header}
+use Rattle.bw_record.specs.declared.block.Block.{Block}
+use Rattle.bw_codec.specs.declared.head.Header.{Header}
 use Rattle.bw_codec.proofs.Versions.{old_may_be_written}
-use Rattle.bw_codec.specs.declared.block.Frame.{Frame}
+use Rattle.bw_record.specs.declared.block.Frame.{Frame}
 use Rattle.bw_device.specs.Holding.{Holding}
 use Rattle.bw_log.specs.Places.{first_number}
 use Rattle.bw_log.specs.Segments.{Limits, segment_frames, frames_of, AreFrom, following, next_of}

@@ -12,10 +12,10 @@ use Rattle.bw_codec.specs.Reading.{Says, Gives, front_at}
 use Rattle.bw_codec.specs.Checking.{seen_of, IsSeen}
 use Rattle.bw_codec.specs.declared.check.FrameSeen.{FrameSeen}
 use Rattle.bw_codec.specs.declared.check.FrameSeen.TheVariants as seen
-use Rattle.bw_codec.specs.declared.block.Frame.{Frame}
-use Rattle.bw_codec.specs.declared.block.FrameRead.{FrameRead}
-use Rattle.bw_codec.specs.declared.block.Header.{Header}
-use Rattle.bw_codec.specs.declared.block.FrameRead.TheVariants.{Whole, Tail}
+use Rattle.bw_record.specs.declared.block.Frame.{Frame}
+use Rattle.bw_codec.specs.declared.head.FrameRead.{FrameRead}
+use Rattle.bw_codec.specs.declared.head.Header.{Header}
+use Rattle.bw_codec.specs.declared.head.FrameRead.TheVariants.{Whole, Tail}
 use Rattle.bw_codec.specs.declared.fault.CodecFault.{CodecFault}
 use Rattle.bw_codec.specs.declared.fault.CodecFault.TheVariants.{NoMemory, BadBytes}
 use Rattle.bw_codec.proofs.FrontFormat.{is_front, front_is}

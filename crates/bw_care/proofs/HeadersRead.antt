@@ -8,9 +8,9 @@ use Rattle.bw_care.specs.declared.scan.Behind.{Behind}
 use Rattle.bw_record.specs.Keys.{IsBytes}
 use Rattle.bw_codec.specs.Grammar.{IsWhole, header_bytes, IsHeading}
 use Rattle.bw_codec.specs.Reading.{heading_of}
-use Rattle.bw_codec.specs.declared.block.Header.{Header}
-use Rattle.bw_codec.specs.declared.block.HeaderRead.{HeaderRead}
-use Rattle.bw_codec.specs.declared.block.HeaderRead.TheVariants as heading
+use Rattle.bw_codec.specs.declared.head.Header.{Header}
+use Rattle.bw_codec.specs.declared.head.HeaderRead.{HeaderRead}
+use Rattle.bw_codec.specs.declared.head.HeaderRead.TheVariants as heading
 use Rattle.bw_codec.proofs.Heading.{heading_is, header_again, length-header}
 use Rattle.bw_care.specs.Scanning.{rest_of, fault_in, fault_under, fault_behind, FaultIs}
 use Rattle.bw_care.specs.declared.scan.ScanFault.{ScanFault}

@@ -9,8 +9,8 @@ use Rattle.std.proofs.lemmas.List.{map-append}
 use Rattle.bw_codec.specs.Grammar.{IsHeader, IsWhole, frame_bytes_in}
 use Rattle.bw_codec.specs.Reading.{version_in}
 use Rattle.bw_record.specs.Version.{latest}
-use Rattle.bw_codec.specs.declared.block.Frame.{Frame}
-use Rattle.bw_codec.specs.declared.block.Header.{Header}
+use Rattle.bw_record.specs.declared.block.Frame.{Frame}
+use Rattle.bw_codec.specs.declared.head.Header.{Header}
 use Rattle.bw_device.specs.Holding.{Holding}
 use Rattle.bw_log.specs.Segments.{Limits, header_in, header_with, segment_frames, entry_of, entries_from, entries, IsLive, AreLive}
 use Rattle.bw_log.specs.Adopting.{in_segments, old_in}

@@ -9,8 +9,8 @@ use Rattle.bw_log.specs.Segments.{entries_from}
 use Rattle.bw_log.specs.declared.places.FrameAt.{FrameAt}
 use Rattle.bw_care.specs.Behind.{frames_behind}
 use Rattle.bw_codec.specs.Reading.{header_in}
-use Rattle.bw_codec.specs.declared.block.Frame.{Frame}
-use Rattle.bw_codec.specs.declared.block.Header.{Header}
+use Rattle.bw_record.specs.declared.block.Frame.{Frame}
+use Rattle.bw_codec.specs.declared.head.Header.{Header}
 use Rattle.bw_device.specs.Holding.{Holding}
 use Rattle.bw_log.specs.Segments.{segment_frames, frames_of}
 use Rattle.bw_care.specs.Scanning.{has_header, has_header_by, is_bare}

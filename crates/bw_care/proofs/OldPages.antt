@@ -6,11 +6,11 @@ use Rattle.std.specs.List.{fold, filter, list_any, AllByRecursion}
 use Rattle.std.proofs.lemmas.Bool.{eq-eqb, ltb-true, leb-false, false≢true, cases_lt, cases_Bool, or_left, or_right}
 use Rattle.std.proofs.lemmas.List.Folds.{list_any-append}
 use Rattle.std.proofs.lemmas.Grind.{fold-append}
-use Rattle.bw_codec.specs.Touch.{sets}
-use Rattle.bw_codec.specs.declared.block.Place.{Place}
-use Rattle.bw_codec.specs.declared.block.Block.{Block}
-use Rattle.bw_codec.specs.declared.block.Block.TheVariants.{Delta, Base, Split}
-use Rattle.bw_codec.specs.declared.block.Frame.{Frame}
+use Rattle.bw_record.specs.Touch.{sets}
+use Rattle.bw_record.specs.declared.block.Place.{Place}
+use Rattle.bw_record.specs.declared.block.Block.{Block}
+use Rattle.bw_record.specs.declared.block.Block.TheVariants.{Delta, Base, Split}
+use Rattle.bw_record.specs.declared.block.Frame.{Frame}
 use Rattle.bw_leaf.specs.Forwards.{blocks_of}
 use Rattle.bw_device.specs.Holding.{Holding}
 use Rattle.bw_log.specs.Places.{placed, all_placed, later, last_place, base_of}

@@ -8,10 +8,10 @@ use Rattle.std.proofs.lemmas.List.{map-append}
 use Rattle.std.proofs.lemmas.List.Folds.{list_any-append}
 use Rattle.bw_codec.specs.Grammar.{frame_bytes_in}
 use Rattle.bw_codec.specs.Reading.{version_in}
-use Rattle.bw_codec.specs.Touch.{sets, touches}
-use Rattle.bw_codec.specs.declared.block.Block.{Block}
-use Rattle.bw_codec.specs.declared.block.Frame.{Frame}
-use Rattle.bw_codec.specs.declared.block.Place.{Place}
+use Rattle.bw_record.specs.Touch.{sets, touches}
+use Rattle.bw_record.specs.declared.block.Block.{Block}
+use Rattle.bw_record.specs.declared.block.Frame.{Frame}
+use Rattle.bw_record.specs.declared.block.Place.{Place}
 use Rattle.bw_device.specs.Holding.{Holding}
 use Rattle.bw_leaf.specs.Forwards.{blocks_of}
 use Rattle.bw_log.specs.Contents.{Contents, counted, IsSound}

@@ -6,8 +6,8 @@ use Rattle.std.specs.List.{fold, list_any, AllByRecursion}
 use Rattle.std.proofs.lemmas.Bool.{le-ltb}
 use Rattle.bw_codec.specs.Reading.{header_in}
 use Rattle.bw_codec.specs.Grammar.{IsFrameIn}
-use Rattle.bw_codec.specs.declared.block.Frame.{Frame}
-use Rattle.bw_codec.specs.declared.block.Header.{Header}
+use Rattle.bw_record.specs.declared.block.Frame.{Frame}
+use Rattle.bw_codec.specs.declared.head.Header.{Header}
 use Rattle.bw_record.specs.declared.leaf.Leaf.{Leaf}
 use Rattle.bw_leaf.specs.Forwards.{blocks_of}
 use Rattle.bw_page.specs.Standing.{Stand}

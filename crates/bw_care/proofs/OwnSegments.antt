@@ -9,10 +9,10 @@ use Rattle.std.proofs.lemmas.List.{drop_at}
 use Rattle.bw_codec.specs.Grammar.{frame_bytes_in, header_bytes, IsHeader}
 use Rattle.bw_record.specs.Version.{latest}
 use Rattle.bw_codec.specs.Reading.{front_at, heading_of, header_in}
-use Rattle.bw_codec.specs.declared.block.Frame.{Frame}
-use Rattle.bw_codec.specs.declared.block.FrameRead.TheVariants.{Tail}
-use Rattle.bw_codec.specs.declared.block.Header.{Header}
-use Rattle.bw_codec.specs.declared.block.HeaderRead.TheVariants as heading
+use Rattle.bw_record.specs.declared.block.Frame.{Frame}
+use Rattle.bw_codec.specs.declared.head.FrameRead.TheVariants.{Tail}
+use Rattle.bw_codec.specs.declared.head.Header.{Header}
+use Rattle.bw_codec.specs.declared.head.HeaderRead.TheVariants as heading
 use Rattle.bw_codec.proofs.FrontFormat.{is_front}
 use Rattle.bw_codec.proofs.Heading.{header_again, length-header}
 use Rattle.bw_device.specs.Holding.{Holding}

@@ -7,8 +7,8 @@ use Rattle.std.specs.List.{AllByRecursion}
 use Rattle.std.proofs.lemmas.Bool.{cases_lt}
 use Rattle.std.proofs.lemmas.List.{map-append, length-map}
 use Rattle.bw_codec.specs.Grammar.{frame_bytes, IsBlock, IsFrame}
-use Rattle.bw_codec.specs.declared.block.Block.{Block}
-use Rattle.bw_codec.specs.declared.block.Frame.{Frame}
+use Rattle.bw_record.specs.declared.block.Block.{Block}
+use Rattle.bw_record.specs.declared.block.Frame.{Frame}
 use Rattle.bw_leaf.specs.Forwards.{content, blocks_of}
 use Rattle.bw_page.specs.Standing.{Stand}
 use Rattle.bw_buffer.proofs.Holding.{few_blocks}

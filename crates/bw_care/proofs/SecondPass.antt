@@ -4,11 +4,11 @@ use Rattle.std.proofs.Common.{◌≡◌, ℕ, zero, suc, ◌+◌, ◌-◌, ◌<�
 use Rattle.std.proofs.Common.{slice_get, get_or, IfSome, refl, sym, ap, subst, ◌∙◌, append_assoc, append-nil, arith}
 use Rattle.std.proofs.lemmas.List.{length-map}
 use Rattle.bw_codec.specs.Reading.{front_at, heading_of}
-use Rattle.bw_codec.specs.declared.block.Place.{Place}
-use Rattle.bw_codec.specs.declared.block.Block.{Block}
-use Rattle.bw_codec.specs.declared.block.Frame.{Frame}
-use Rattle.bw_codec.specs.declared.block.Header.{Header}
-use Rattle.bw_codec.specs.declared.block.HeaderRead.TheVariants as heading
+use Rattle.bw_record.specs.declared.block.Place.{Place}
+use Rattle.bw_record.specs.declared.block.Block.{Block}
+use Rattle.bw_record.specs.declared.block.Frame.{Frame}
+use Rattle.bw_codec.specs.declared.head.Header.{Header}
+use Rattle.bw_codec.specs.declared.head.HeaderRead.TheVariants as heading
 use Rattle.bw_device.specs.Holding.{Holding}
 use Rattle.bw_log.specs.Places.{all_placed, bad_link}
 use Rattle.bw_log.specs.Segments.{frames_at, segment_frames, frames_of}

@@ -11,9 +11,9 @@ use Rattle.bw_codec.specs.Bytes.{number_bytes}
 use Rattle.bw_codec.specs.Grammar.{agrees, segment_word, frame_bytes_in, header_bytes, is_header, IsHeader}
 use Rattle.bw_codec.specs.Reading.{version_in, header_in, heading_of}
 use Rattle.bw_record.specs.declared.leaf.Leaf.{Leaf}
-use Rattle.bw_codec.specs.declared.block.Frame.{Frame}
-use Rattle.bw_codec.specs.declared.block.Header.{Header}
-use Rattle.bw_codec.specs.declared.block.HeaderRead.TheVariants as heading
+use Rattle.bw_record.specs.declared.block.Frame.{Frame}
+use Rattle.bw_codec.specs.declared.head.Header.{Header}
+use Rattle.bw_codec.specs.declared.head.HeaderRead.TheVariants as heading
 use Rattle.bw_codec.proofs.FrontFormat.{agrees_shortened}
 use Rattle.bw_codec.proofs.Heading.{length-header}
 use Rattle.bw_device.specs.Holding.{Holding}

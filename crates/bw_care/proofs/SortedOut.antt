@@ -6,8 +6,8 @@ use Rattle.std.specs.List.{fold, filter}
 use Rattle.byteorder.specs.Endian.{little_number}
 use Rattle.bw_codec.specs.Grammar.{agrees, segment_word, is_header}
 use Rattle.bw_codec.specs.Reading.{version_in, header_in, heading_of}
-use Rattle.bw_codec.specs.declared.block.Header.{Header}
-use Rattle.bw_codec.specs.declared.block.HeaderRead.TheVariants as heading
+use Rattle.bw_codec.specs.declared.head.Header.{Header}
+use Rattle.bw_codec.specs.declared.head.HeaderRead.TheVariants as heading
 use Rattle.bw_device.specs.Holding.{Holding}
 use Rattle.bw_care.specs.Scanning.{has_header, has_header_by, is_bare}
 use Rattle.bw_care.specs.Scanned.{AreScans}

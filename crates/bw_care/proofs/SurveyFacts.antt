@@ -7,8 +7,8 @@ use Rattle.std.proofs.lemmas.Bool.{and_parts, eqb-true, le-ltb, ltb-false}
 use Rattle.std.proofs.lemmas.List.{length-map}
 use Rattle.bw_codec.specs.Grammar.{IsHeader}
 use Rattle.bw_record.specs.Version.{least_limit, greatest_limit}
-use Rattle.bw_codec.specs.declared.block.Header.{Header}
-use Rattle.bw_codec.specs.declared.block.Frame.{Frame}
+use Rattle.bw_codec.specs.declared.head.Header.{Header}
+use Rattle.bw_record.specs.declared.block.Frame.{Frame}
 use Rattle.bw_device.specs.Holding.{Holding}
 use Rattle.bw_leaf.specs.Forwards.{blocks_of}
 use Rattle.bw_log.specs.Places.{or_else, bad_link, first_number, all_placed}

@@ -3,7 +3,7 @@
 use Rattle.std.proofs.Common.{◌≡◌, ℕ, suc, ◌+◌, ◌==◌, ◌&&◌, Bool, false, Option, None, List, [], ◌∷◌, length, refl, sym, ap, ◌∙◌, arith}
 use Rattle.std.specs.List.{fold}
 use Rattle.bw_codec.specs.Reading.{heading_of}
-use Rattle.bw_codec.specs.declared.block.Header.{Header}
+use Rattle.bw_codec.specs.declared.head.Header.{Header}
 use Rattle.bw_device.specs.Holding.{Holding}
 use Rattle.std.proofs.lemmas.Bool.{ne_eqb}
 use Rattle.bw_care.specs.Scanning.{has_part, has_part_by, is_bare, rest_of, rest_in}

@@ -3,8 +3,8 @@
 use Rattle.std.specs.Prelude.{◌++◌, ℕ, ◌≡◌, None, List, length, drop, map}
 use Rattle.std.specs.List.{flat_map, AllByRecursion}
 use Rattle.bw_codec.specs.Grammar.{frame_bytes_in, IsFrameIn, IsTailIn}
-use Rattle.bw_codec.specs.declared.block.Frame.{Frame}
-use Rattle.bw_codec.specs.declared.block.Header.{Header}
+use Rattle.bw_record.specs.declared.block.Frame.{Frame}
+use Rattle.bw_codec.specs.declared.head.Header.{Header}
 use Rattle.bw_log.specs.Segments.{frames_at, entries_from}
 use Rattle.bw_care.specs.Scanning.{rest_of, fault_behind}
 use Rattle.bw_care.specs.declared.scan.Behind.{Behind}

@@ -1,11 +1,11 @@
 -- The forward reading of all segments: a second pass over their boxes.
 
 use Rattle.std.specs.Prelude.{ℕ, ◌≤◌, ◌≡◌, Some, List, [], ◌∷◌, length, slice_get}
-use Rattle.bw_codec.specs.declared.block.Place.{Place}
+use Rattle.bw_record.specs.declared.block.Place.{Place}
 use Rattle.bw_codec.specs.Reading.{heading_of}
-use Rattle.bw_codec.specs.declared.block.Block.{Block}
-use Rattle.bw_codec.specs.declared.block.Header.{Header}
-use Rattle.bw_codec.specs.declared.block.HeaderRead.TheVariants as heading
+use Rattle.bw_record.specs.declared.block.Block.{Block}
+use Rattle.bw_codec.specs.declared.head.Header.{Header}
+use Rattle.bw_codec.specs.declared.head.HeaderRead.TheVariants as heading
 use Rattle.bw_device.specs.Holding.{Holding}
 use Rattle.bw_log.specs.Places.{bad_link}
 use Rattle.bw_log.specs.Segments.{segment_frames}

@@ -3,8 +3,8 @@
 use Rattle.std.specs.Prelude.{ℕ, ◌+◌, ◌≡◌, ◌≤◌, ◌⊎◌, true, false, None, Ok, Err, IfSome, List, [], ◌++◌, length, map, take}
 use Rattle.std.specs.List.{AllByRecursion}
 use Rattle.bw_codec.specs.Reading.{heading_of}
-use Rattle.bw_codec.specs.declared.block.HeaderRead.TheVariants as heading
-use Rattle.bw_codec.specs.declared.block.Frame.{Frame}
+use Rattle.bw_codec.specs.declared.head.HeaderRead.TheVariants as heading
+use Rattle.bw_record.specs.declared.block.Frame.{Frame}
 use Rattle.bw_record.specs.declared.leaf.Leaf.{Leaf}
 use Rattle.bw_device.specs.Holding.{Holding}
 use Rattle.bw_leaf.specs.Forwards.{blocks_of}

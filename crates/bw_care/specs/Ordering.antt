@@ -2,7 +2,7 @@
 
 use Rattle.std.specs.Prelude.{ℕ, ◌+◌, ◌==◌, ◌&&◌, ◌||◌, not, nat_lt, ◌≡◌, Bool, true, false, Option, Some, None, List, [], ◌∷◌, ◌++◌, map}
 use Rattle.std.specs.Prelude.{slice_get}
-use Rattle.bw_codec.specs.declared.block.Header.{Header}
+use Rattle.bw_codec.specs.declared.head.Header.{Header}
 use Rattle.bw_device.specs.Holding.{Holding}
 use Rattle.bw_log.specs.Places.{or_else}
 use Rattle.bw_care.specs.Recovery.{pairs_of, limit_of, are_mixed, in_order, when}

@@ -5,9 +5,9 @@ use Rattle.std.specs.Prelude.{◌∷◌, length, map}
 use Rattle.std.specs.List.{fold, filter, list_any}
 use Rattle.bw_codec.specs.Reading.{header_in}
 use Rattle.bw_record.specs.declared.leaf.Leaf.{Leaf}
-use Rattle.bw_codec.specs.declared.block.Block.{Block}
-use Rattle.bw_codec.specs.declared.block.Frame.{Frame}
-use Rattle.bw_codec.specs.declared.block.Header.{Header}
+use Rattle.bw_record.specs.declared.block.Block.{Block}
+use Rattle.bw_record.specs.declared.block.Frame.{Frame}
+use Rattle.bw_codec.specs.declared.head.Header.{Header}
 use Rattle.bw_leaf.specs.Forwards.{blocks_of}
 use Rattle.bw_device.specs.Holding.{Holding}
 use Rattle.bw_log.specs.Places.{or_else, all_placed, bad_link, first_number}

@@ -3,7 +3,7 @@
 use Rattle.std.specs.Prelude.{ℕ, ◌≡◌, None, List, [], ◌∷◌}
 use Rattle.bw_codec.specs.Grammar.{IsHeading}
 use Rattle.bw_codec.specs.Reading.{heading_of}
-use Rattle.bw_codec.specs.declared.block.HeaderRead.TheVariants as heading
+use Rattle.bw_codec.specs.declared.head.HeaderRead.TheVariants as heading
 use Rattle.bw_device.specs.Holding.{Holding}
 use Rattle.bw_care.specs.Behind.{IsBehind}
 use Rattle.bw_care.specs.Scanning.{fault_in}

@@ -12,7 +12,7 @@ ghost use Rattle.std.specs.List.{AllByRecursion};
 ghost use Rattle.std.specs.BTreeMap as tree;
 ghost use Rattle.std.specs.Ordering.{nat_cmp};
 ghost use Rattle.bw_codec.specs.Grammar.{block_bytes, IsBlock};
-ghost use Rattle.bw_codec.specs.declared.block.Block.TheVariants.{Base};
+ghost use Rattle.bw_record.specs.declared.block.Block.TheVariants.{Base};
 ghost use Rattle.bw_record.specs.declared.leaf.Leaf.{Leaf as LeafValue};
 ghost use Rattle.bw_leaf.specs.Forwards.{blocks_of};
 ghost use Rattle.bw_log.specs.Contents.{counted};

@@ -6,8 +6,8 @@
 //! of its blocks changes the line of its page.
 
 ghost use Rattle.std.specs.Prelude.{◌≡◌, ◌≤◌, ◌<◌, ◌++◌, [], Some, List, length, map, slice_get, IfOk, IfErr, OnOk, IfSome};
-ghost use Rattle.bw_codec.specs.declared.block.Place.{Place as PlaceValue};
-ghost use Rattle.bw_codec.specs.declared.block.Block.{Block as BlockValue};
+ghost use Rattle.bw_record.specs.declared.block.Place.{Place as PlaceValue};
+ghost use Rattle.bw_record.specs.declared.block.Block.{Block as BlockValue};
 ghost use Rattle.bw_device.specs.Holding.{Holding};
 ghost use Rattle.bw_log.specs.Places.{all_placed, bad_link};
 ghost use Rattle.bw_log.specs.Segments.{segment_frames, frames_of};

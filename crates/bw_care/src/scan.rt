@@ -10,7 +10,7 @@ ghost use Rattle.std.specs.Prelude.{◌≡◌, ◌≤◌, ◌<◌, ◌^◌, ℕ,
 ghost use Rattle.bw_codec.specs.Grammar.{IsFront};
 ghost use Rattle.bw_codec.specs.Checking.{IsSeen};
 ghost use Rattle.bw_codec.specs.Reading.{Gives, front_at};
-ghost use Rattle.bw_codec.specs.declared.block.Frame.{Frame};
+ghost use Rattle.bw_record.specs.declared.block.Frame.{Frame};
 ghost use Rattle.bw_log.specs.Starts.{starts_of};
 ghost use Rattle.bw_care.specs.Scanning.{fault_behind, fault_in, FaultIs};
 ghost use Rattle.bw_care.specs.Scanned.{IsScan, AreScans};

@@ -7,7 +7,7 @@ use Rattle.bw_codec.specs.Grammar.{IsFront}
 use Rattle.bw_codec.specs.Reading.{Found, ◌>>=◌, Says, Gives, number_at, pair_at, pairs_at, many_at, front_at}
 use Rattle.bw_codec.specs.Skipping.{many_after}
 use Rattle.bw_codec.specs.Checking.{past, keyed, rising_after, led_by, seen_of, IsSeen}
-use Rattle.bw_codec.specs.declared.block.FrameRead.{FrameRead}
+use Rattle.bw_codec.specs.declared.head.FrameRead.{FrameRead}
 use Rattle.bw_codec.specs.declared.check.FrameSeen.{FrameSeen}
 use Rattle.bw_codec.specs.declared.fault.CodecFault.{CodecFault}
 use Rattle.bw_codec.specs.declared.fault.CodecFault.TheVariants.{NoMemory, BadBytes}

@@ -14,11 +14,11 @@ use Rattle.std.specs.Prelude.{Result, Ok, Err, IfOk}
 use Rattle.bw_codec.specs.declared.fault.CodecFault.{CodecFault}
 use Rattle.bw_codec.specs.Reading.{◌>>=◌, Gives, number_at, many_at, block_at, head_at, front_at}
 use Rattle.bw_codec.specs.Laws.{OneSpelling, BeginningsAreTails}
-use Rattle.bw_codec.specs.declared.block.Block.{Block}
-use Rattle.bw_codec.specs.declared.block.Frame.{Frame}
-use Rattle.bw_codec.specs.declared.block.Head.{Head}
-use Rattle.bw_codec.specs.declared.block.FrameRead.{FrameRead}
-use Rattle.bw_codec.specs.declared.block.FrameRead.TheVariants.{Whole, Tail}
+use Rattle.bw_record.specs.declared.block.Block.{Block}
+use Rattle.bw_record.specs.declared.block.Frame.{Frame}
+use Rattle.bw_codec.specs.declared.head.Head.{Head}
+use Rattle.bw_codec.specs.declared.head.FrameRead.{FrameRead}
+use Rattle.bw_codec.specs.declared.head.FrameRead.TheVariants.{Whole, Tail}
 use Rattle.bw_codec.proofs.Format.{Takes, bytes_after, bytes_before, found, takes_as, bind_some, held, then_parts, again_on, number_format}
 use Rattle.bw_codec.proofs.BlockFormat.{many_takes, many_again, block_format}
 

@@ -12,9 +12,9 @@ use Rattle.bw_record.specs.Keys.{IsBytes}
 use Rattle.bw_codec.specs.Grammar.{segment_word, header_bytes, agrees, is_header, AgreesIn, IsHeader, IsPart, IsHeading}
 use Rattle.bw_codec.specs.Laws.{OneHeaderSpelling}
 use Rattle.bw_codec.specs.Reading.{version_in, header_in, heading_of}
-use Rattle.bw_codec.specs.declared.block.Header.{Header}
-use Rattle.bw_codec.specs.declared.block.HeaderRead.{HeaderRead}
-use Rattle.bw_codec.specs.declared.block.HeaderRead.TheVariants as heading
+use Rattle.bw_codec.specs.declared.head.Header.{Header}
+use Rattle.bw_codec.specs.declared.head.HeaderRead.{HeaderRead}
+use Rattle.bw_codec.specs.declared.head.HeaderRead.TheVariants as heading
 use Rattle.bw_codec.proofs.Format.{bytes_after, then_parts, number_there, number_reads}
 use Rattle.bw_codec.proofs.FrontFormat.{agrees_begins, agrees_whole, length-number}
 

@@ -9,9 +9,9 @@ use Rattle.bw_codec.specs.Grammar.{op_bytes, pair_bytes, block_bytes, body_bytes
 use Rattle.bw_codec.specs.Sizes.{BlockLengths, LargestBlocks, LargestFit}
 use Rattle.bw_record.specs.declared.record.Record.{Record}
 use Rattle.bw_record.specs.declared.record.Record.TheVariants.{Put, Del}
-use Rattle.bw_codec.specs.declared.block.Header.{Header}
-use Rattle.bw_codec.specs.declared.block.Block.{Block}
-use Rattle.bw_codec.specs.declared.block.Block.TheVariants.{Delta, Base, Split}
+use Rattle.bw_codec.specs.declared.head.Header.{Header}
+use Rattle.bw_record.specs.declared.block.Block.{Block}
+use Rattle.bw_record.specs.declared.block.Block.TheVariants.{Delta, Base, Split}
 use Rattle.bw_codec.proofs.Lengths.{length-value, length-delta, length-base, length-split}
 
 short_op : (op : Record) → IsOp op → length (op_bytes op) ≤ 644

@@ -22,9 +22,9 @@ use Rattle.bw_codec.specs.Skipping.{split_after, block_after}
 use Rattle.bw_record.specs.declared.record.Record.{Record}
 use Rattle.bw_record.specs.declared.record.Record.TheVariants.{Put, Del}
 use Rattle.bw_record.specs.declared.leaf.Leaf.{Leaf}
-use Rattle.bw_codec.specs.declared.block.Place.{Place}
-use Rattle.bw_codec.specs.declared.block.Block.{Block}
-use Rattle.bw_codec.specs.declared.block.Block.TheVariants.{Delta, Base, Split}
+use Rattle.bw_record.specs.declared.block.Place.{Place}
+use Rattle.bw_record.specs.declared.block.Block.{Block}
+use Rattle.bw_record.specs.declared.block.Block.TheVariants.{Delta, Base, Split}
 use Rattle.bw_codec.specs.declared.outline.Outline.{Outline}
 use Rattle.bw_codec.proofs.Format.{found, again_on, number_format, number_reads, run_again, IsValue, value_sizes}
 use Rattle.bw_codec.proofs.FrontFormat.{length-number}

@@ -7,11 +7,11 @@ use Rattle.bw_codec.specs.Reading.{front_at, heading_of, text_at, value_at, op_a
 use Rattle.bw_codec.specs.Reading.{upper_at, split_at}
 use Rattle.bw_codec.specs.Reading.{block_at, head_at}
 use Rattle.bw_record.specs.declared.record.Record.TheVariants.{Put}
-use Rattle.bw_codec.specs.declared.block.Block.TheVariants.{Delta, Base, Split}
-use Rattle.bw_codec.specs.declared.block.Frame.{Frame}
-use Rattle.bw_codec.specs.declared.block.Header.{Header}
-use Rattle.bw_codec.specs.declared.block.FrameRead.TheVariants.{Whole}
-use Rattle.bw_codec.specs.declared.block.HeaderRead.TheVariants as heading
+use Rattle.bw_record.specs.declared.block.Block.TheVariants.{Delta, Base, Split}
+use Rattle.bw_record.specs.declared.block.Frame.{Frame}
+use Rattle.bw_codec.specs.declared.head.Header.{Header}
+use Rattle.bw_codec.specs.declared.head.FrameRead.TheVariants.{Whole}
+use Rattle.bw_codec.specs.declared.head.HeaderRead.TheVariants as heading
 
 -- ---- format 1
 

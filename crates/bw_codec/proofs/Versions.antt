@@ -9,7 +9,7 @@ use Rattle.bw_codec.specs.Laws.{OldMayBeWritten, NoFrameOfBoth}
 use Rattle.bw_record.specs.declared.record.Record.{Record}
 use Rattle.bw_record.specs.declared.record.Record.TheVariants.{Put, Del}
 use Rattle.bw_record.specs.declared.leaf.Leaf.{Leaf}
-use Rattle.bw_codec.specs.declared.block.Block.TheVariants.{Delta, Base, Split}
+use Rattle.bw_record.specs.declared.block.Block.TheVariants.{Delta, Base, Split}
 
 pair_newer : (p : List ℕ × List ℕ) → IsPairIn 1 p → IsPairIn latest p
 pair_newer p law = ((law.0.0, let k = law.0.1 in omega arith), let w = law.1 in omega arith)

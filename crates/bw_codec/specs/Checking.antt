@@ -3,8 +3,8 @@
 use Rattle.std.specs.Prelude.{ℕ, zero, suc, ◌≡◌, if◌then◌else◌, Option, Some, None, List, [], ◌∷◌}
 use Rattle.bw_record.specs.Keys.{is_below}
 use Rattle.bw_record.specs.declared.leaf.Leaf.{Leaf}
-use Rattle.bw_codec.specs.declared.block.FrameRead.{FrameRead}
-use Rattle.bw_codec.specs.declared.block.FrameRead.TheVariants.{Whole, Tail}
+use Rattle.bw_codec.specs.declared.head.FrameRead.{FrameRead}
+use Rattle.bw_codec.specs.declared.head.FrameRead.TheVariants.{Whole, Tail}
 use Rattle.bw_codec.specs.declared.check.FrameSeen.{FrameSeen}
 use Rattle.bw_codec.specs.declared.check.FrameSeen.TheVariants as seen
 use Rattle.bw_codec.specs.Grammar.{IsFront}

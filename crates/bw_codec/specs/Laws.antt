@@ -2,9 +2,9 @@
 
 use Rattle.std.specs.Prelude.{ℕ, ◌≡◌, ◌<◌, ◌^◌, List, ◌++◌, length, take}
 use Rattle.bw_codec.specs.Grammar.{frame_bytes_in, header_bytes, IsFrameIn, IsHeader, IsTailIn, IsBlock, IsBlockIn}
-use Rattle.bw_codec.specs.declared.block.Block.{Block}
-use Rattle.bw_codec.specs.declared.block.Frame.{Frame}
-use Rattle.bw_codec.specs.declared.block.Header.{Header}
+use Rattle.bw_record.specs.declared.block.Block.{Block}
+use Rattle.bw_record.specs.declared.block.Frame.{Frame}
+use Rattle.bw_codec.specs.declared.head.Header.{Header}
 
 -- a frame that is lawful in a format has one spelling there, and none begins another's
 abbrev pub OneSpelling : Type 0

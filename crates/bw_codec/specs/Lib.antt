@@ -2,7 +2,6 @@
 pub mod Bytes
 pub mod Checking
 pub mod Grammar
-pub mod Touch
 pub mod Outline
 pub mod Writing
 pub mod Sizes

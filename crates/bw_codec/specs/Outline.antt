@@ -2,9 +2,9 @@
 
 use Rattle.std.specs.Prelude.{ℕ, ◌≡◌, ◌==◌, ◌||◌, Bool, false, Option, Some, None, length}
 use Rattle.bw_codec.specs.Grammar.{block_bytes_in}
-use Rattle.bw_codec.specs.Touch.{touches}
-use Rattle.bw_codec.specs.declared.block.Block.{Block}
-use Rattle.bw_codec.specs.declared.block.Block.TheVariants.{Delta, Base, Split}
+use Rattle.bw_record.specs.Touch.{touches}
+use Rattle.bw_record.specs.declared.block.Block.{Block}
+use Rattle.bw_record.specs.declared.block.Block.TheVariants.{Delta, Base, Split}
 use Rattle.bw_codec.specs.declared.outline.Outline.{Outline}
 
 -- how many bytes a block has in a format, the page that it changes, sets or splits, and the page that it makes

@@ -10,15 +10,15 @@ use Rattle.bw_codec.specs.Grammar.{agrees, frame_word, segment_word, is_head, is
 use Rattle.bw_record.specs.declared.record.Record.{Record}
 use Rattle.bw_record.specs.declared.record.Record.TheVariants.{Put, Del}
 use Rattle.bw_record.specs.declared.leaf.Leaf.{Leaf}
-use Rattle.bw_codec.specs.declared.block.Place.{Place}
-use Rattle.bw_codec.specs.declared.block.Block.{Block}
-use Rattle.bw_codec.specs.declared.block.Block.TheVariants.{Delta, Base, Split}
-use Rattle.bw_codec.specs.declared.block.Head.{Head}
-use Rattle.bw_codec.specs.declared.block.Header.{Header}
-use Rattle.bw_codec.specs.declared.block.FrameRead.{FrameRead}
-use Rattle.bw_codec.specs.declared.block.FrameRead.TheVariants.{Whole, Tail}
-use Rattle.bw_codec.specs.declared.block.HeaderRead.{HeaderRead}
-use Rattle.bw_codec.specs.declared.block.HeaderRead.TheVariants as heading
+use Rattle.bw_record.specs.declared.block.Place.{Place}
+use Rattle.bw_record.specs.declared.block.Block.{Block}
+use Rattle.bw_record.specs.declared.block.Block.TheVariants.{Delta, Base, Split}
+use Rattle.bw_codec.specs.declared.head.Head.{Head}
+use Rattle.bw_codec.specs.declared.head.Header.{Header}
+use Rattle.bw_codec.specs.declared.head.FrameRead.{FrameRead}
+use Rattle.bw_codec.specs.declared.head.FrameRead.TheVariants.{Whole, Tail}
+use Rattle.bw_codec.specs.declared.head.HeaderRead.{HeaderRead}
+use Rattle.bw_codec.specs.declared.head.HeaderRead.TheVariants as heading
 use Rattle.bw_codec.specs.declared.fault.CodecFault.{CodecFault}
 use Rattle.bw_codec.specs.declared.fault.CodecFault.TheVariants.{NoMemory, BadBytes}
 

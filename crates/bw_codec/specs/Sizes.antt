@@ -5,10 +5,10 @@ use Rattle.bw_record.specs.Version.{latest}
 use Rattle.bw_codec.specs.Grammar.{block_bytes, body_bytes, IsBase, IsDelta, IsSplit, IsHeader}
 use Rattle.bw_record.specs.declared.record.Record.{Record}
 use Rattle.bw_record.specs.declared.leaf.Leaf.{Leaf}
-use Rattle.bw_codec.specs.declared.block.Place.{Place}
-use Rattle.bw_codec.specs.declared.block.Header.{Header}
-use Rattle.bw_codec.specs.declared.block.Block.{Block}
-use Rattle.bw_codec.specs.declared.block.Block.TheVariants.{Delta, Base, Split}
+use Rattle.bw_record.specs.declared.block.Place.{Place}
+use Rattle.bw_codec.specs.declared.head.Header.{Header}
+use Rattle.bw_record.specs.declared.block.Block.{Block}
+use Rattle.bw_record.specs.declared.block.Block.TheVariants.{Delta, Base, Split}
 
 -- blocks of at most so many bytes
 abbrev pub AreShort : ℕ → List Block → Type 0

@@ -7,17 +7,17 @@
 
 ghost use Rattle.std.specs.Prelude.{◌≡◌, Ok, Some, length, IfOk, IfErr};
 ghost use Rattle.std.specs.Option.{option_map};
-ghost use Rattle.bw_codec.specs.declared.block.FrameRead.{FrameRead};
+ghost use Rattle.bw_codec.specs.declared.head.FrameRead.{FrameRead};
 ghost use Rattle.bw_codec.specs.Grammar.{IsFront};
 ghost use Rattle.bw_codec.specs.Reading.{Gives, op_at, pair_at, pairs_at, many_at, delta_at, base_at, upper_at, split_at, block_at, front_at};
 ghost use Rattle.bw_codec.specs.Checking.{past, keyed, rising_after, led_by, paged, seen_of, IsSeen};
 
-use crate::block::Header;
 use crate::decoder::{begins_as, head_of};
 use crate::fault::CodecFault;
+use crate::head::Header;
 use crate::limits::HEAD_LEN;
 use crate::parts::{four_of, key_at, low_at, page_of, place_of, two_of, value_at};
-use crate::version::frame_word;
+use crate::words::frame_word;
 use bw_record::is_before;
 
 /// What stands at the front of the bytes behind a header or a frame, in short.

@@ -1,19 +1,19 @@
 //! Blocks, frames and headers, read from the front of bytes.
 
 ghost use Rattle.std.specs.Prelude.{◌≡◌, ◌≤◌, IfOk, IfErr, Some, length};
-ghost use Rattle.bw_codec.specs.declared.block.FrameRead.{FrameRead};
-ghost use Rattle.bw_codec.specs.declared.block.Block.{Block};
+ghost use Rattle.bw_codec.specs.declared.head.FrameRead.{FrameRead};
+ghost use Rattle.bw_record.specs.declared.block.Block.{Block};
 ghost use Rattle.bw_codec.specs.Grammar.{agrees, IsFirst, IsFront, IsHeading};
 ghost use Rattle.bw_codec.specs.Reading.{Gives, delta_at, base_at, upper_at, split_at, block_at, many_at, head_at, front_at, heading_of, version_in, is_led};
 
-use crate::block::{Block, Blocks, Frame, FrameRead, Head, Header, HeaderRead};
 use crate::fault::CodecFault;
+use crate::head::{FrameRead, Head, Header, HeaderRead};
 use crate::limits::{HEAD_LEN, HEADER_LEN, MIN_BLOCK};
 use crate::parts::{
     eight_of, four_of, low_of, page_of, pairs_of, place_of, room_for, some_ops, two_of,
 };
-use crate::version::{frame_word, segment_word};
-use bw_record::Leaf;
+use crate::words::{frame_word, segment_word};
+use bw_record::{Block, Blocks, Frame, Leaf};
 use byteorder::{ByteOrder, LittleEndian};
 use std::alloc::Global;
 

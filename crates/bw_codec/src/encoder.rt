@@ -9,9 +9,9 @@ ghost use Rattle.bw_record.specs.declared.record.Record.TheVariants.{Put, Del};
 ghost use Rattle.bw_codec.specs.Grammar.{op_bytes, pair_bytes, place_bytes, pairs_bytes, ops_bytes, delta_front, upper_bytes, block_bytes, head_bytes, header_bytes, IsBase, IsBlock};
 ghost use Rattle.bw_codec.specs.Writing.{HasRoom, Adds};
 
-use crate::block::{Block, Header, Place};
+use crate::head::Header;
 use crate::limits::{HEAD_LEN, HEADER_LEN};
-use bw_record::{Leaf, Packed, Pair, Record};
+use bw_record::{Block, Leaf, Packed, Pair, Place, Record};
 use byteorder::{ByteOrder, LittleEndian};
 use std::alloc::AllocError;
 

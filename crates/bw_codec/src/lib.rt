@@ -16,20 +16,20 @@
 //! each with its own limits, and format 2 alone is written.
 #![tactic(auto)]
 
-mod block;
 mod check;
 mod decoder;
 mod encoder;
 mod fault;
+mod head;
 pub mod laws;
 pub mod limits;
 mod outline;
 mod parts;
-mod version;
+mod words;
 
-pub use block::{Block, Blocks, Frame, FrameRead, Head, Header, HeaderRead, Place};
 pub use bw_record::{
-    Key, Leaf, LengthError, Low, Ops, Packed, Pair, Pairs, Record, Value, ascend, is_before,
+    Block, Blocks, Frame, Key, Leaf, LengthError, Low, Ops, Packed, Pair, Pairs, Place, Record,
+    Value, ascend, is_before,
 };
 pub use check::{FrameSeen, check_frame};
 pub use decoder::{read_block, read_frame, read_header};
@@ -38,4 +38,5 @@ pub use encoder::{
     header_cells, ops_length, record_length, write_block, write_delta_head, write_ops,
 };
 pub use fault::CodecFault;
+pub use head::{FrameRead, Head, Header, HeaderRead};
 pub use outline::Outline;

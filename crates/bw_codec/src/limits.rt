@@ -2,31 +2,16 @@
 //! contracts of `Key::new`, `Value::new`, `Header::is_lawful` and `Head::is_lawful` tie them to the
 //! grammar.
 
-pub use bw_record::limits::{MAX_KEY, MAX_VALUE};
+pub use bw_record::limits::{
+    MAX_FRAME, MAX_KEY, MAX_VALUE, MIN_FRAME, OLD_MAX_FRAME, OLD_MAX_KEY, OLD_MAX_VALUE,
+    OLD_MIN_FRAME,
+};
 
 /// The least page limit that a segment may have, in pairs.
 pub const MIN_PAIRS: u16 = 4;
 
 /// The greatest page limit that a segment may have, in pairs.
 pub const MAX_PAIRS: u16 = 32;
-
-/// The least frame limit that a segment may have, in bytes of the whole frame.
-pub const MIN_FRAME: u32 = 65_536;
-
-/// The greatest frame limit that a segment may have, in bytes of the whole frame.
-pub const MAX_FRAME: u32 = 262_144;
-
-/// The greatest length of a key in format 1.
-pub const OLD_MAX_KEY: usize = 64;
-
-/// The greatest length of a value in format 1.
-pub const OLD_MAX_VALUE: usize = 128;
-
-/// The least frame limit of a segment in format 1.
-pub const OLD_MIN_FRAME: u32 = 16_384;
-
-/// The greatest frame limit of a segment in format 1.
-pub const OLD_MAX_FRAME: u32 = 65_536;
 
 /// The format that is written; 1 is read beside it.
 pub const LATEST: u16 = 2;

@@ -4,7 +4,7 @@
 ghost use Rattle.std.specs.Prelude.{◌≡◌, ◌+◌, ◌^◌, ◌<◌, ◌++◌, ℕ, List, Some, IfErr};
 ghost use Rattle.bw_codec.specs.Grammar.{block_bytes_in, IsBlockIn};
 ghost use Rattle.bw_codec.specs.Reading.{Gives};
-ghost use Rattle.bw_codec.specs.declared.block.Block.{Block};
+ghost use Rattle.bw_record.specs.declared.block.Block.{Block};
 ghost use Rattle.bw_codec.specs.Outline.{outline_of, outline_touches};
 ghost use Rattle.bw_codec.specs.Skipping.{run_after, value_after, pair_after, op_after, many_after, counted_after, delta_after, base_after, upper_after, split_after, block_after};
 

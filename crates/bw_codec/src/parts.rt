@@ -7,11 +7,10 @@ ghost use Rattle.std.specs.Vec.{vec_capacity};
 ghost use Rattle.bw_record.specs.Version.{key_limit, value_width};
 ghost use Rattle.bw_codec.specs.Reading.{Gives, number_at, run_at, text_at, value_at, op_at, pair_at, many_at, place_at, page_at, pairs_at};
 
-use crate::block::Place;
 use crate::fault::CodecFault;
 use crate::limits::{MIN_OP, MIN_PAIR};
-use crate::version::{key_limit, value_limit};
-use bw_record::{Low, Ops, Packed, Pair, Pairs, ascend};
+use bw_record::version::{key_limit, value_limit};
+use bw_record::{Low, Ops, Packed, Pair, Pairs, Place, ascend};
 use byteorder::{ByteOrder, LittleEndian};
 use std::alloc::{AllocError, Global};
 

@@ -8,9 +8,9 @@ use Rattle.std.proofs.lemmas.Grind.{fold-append}
 use Rattle.bw_record.specs.Lawful.{IsOp}
 use Rattle.bw_record.specs.declared.record.Record.{Record}
 use Rattle.bw_record.specs.declared.leaf.Leaf.{Leaf}
-use Rattle.bw_codec.specs.declared.block.Place.{Place}
-use Rattle.bw_codec.specs.declared.block.Block.{Block}
-use Rattle.bw_codec.specs.declared.block.Block.TheVariants.{Delta, Split}
+use Rattle.bw_record.specs.declared.block.Place.{Place}
+use Rattle.bw_record.specs.declared.block.Block.{Block}
+use Rattle.bw_record.specs.declared.block.Block.TheVariants.{Delta, Split}
 use Rattle.bw_page.specs.Leaves.{applied, directed_at, AreLeaves}
 use Rattle.bw_leaf.specs.SplitRule.{upper_of}
 use Rattle.bw_buffer.specs.Counting.{grown}

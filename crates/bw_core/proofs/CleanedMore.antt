@@ -5,8 +5,8 @@ use Rattle.std.proofs.Common.{length, drop, refl, sym, ap, ◌∙◌, subst, ari
 use Rattle.std.specs.Prelude.{IfSome, IfOk, IfErr, if◌then◌else◌}
 use Rattle.std.specs.List.{slice_get, AllByRecursion as All}
 use Rattle.bw_record.specs.declared.leaf.Leaf.{Leaf}
-use Rattle.bw_codec.specs.declared.block.Place.{Place}
-use Rattle.bw_codec.specs.declared.block.Frame.{Frame}
+use Rattle.bw_record.specs.declared.block.Place.{Place}
+use Rattle.bw_record.specs.declared.block.Frame.{Frame}
 use Rattle.bw_page.specs.Leaves.{pages}
 use Rattle.bw_leaf.specs.Forwards.{blocks_of}
 use Rattle.bw_page.specs.Standing.{Stand}

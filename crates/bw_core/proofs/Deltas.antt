@@ -8,9 +8,9 @@ use Rattle.bw_record.specs.Lawful.{IsOp}
 use Rattle.bw_record.specs.declared.record.Record.{Record}
 use Rattle.bw_record.specs.declared.leaf.Leaf.{Leaf}
 use Rattle.bw_codec.specs.Grammar.{body_bytes}
-use Rattle.bw_codec.specs.declared.block.Place.{Place}
-use Rattle.bw_codec.specs.declared.block.Block.{Block}
-use Rattle.bw_codec.specs.declared.block.Block.TheVariants.{Delta}
+use Rattle.bw_record.specs.declared.block.Place.{Place}
+use Rattle.bw_record.specs.declared.block.Block.{Block}
+use Rattle.bw_record.specs.declared.block.Block.TheVariants.{Delta}
 use Rattle.bw_codec.proofs.Lengths.{length-delta}
 use Rattle.bw_codec.proofs.Sizing.{largest_blocks}
 use Rattle.bw_page.specs.Leaves.{directed_at, result_of}

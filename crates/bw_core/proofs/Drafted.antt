@@ -11,8 +11,8 @@ use Rattle.bw_codec.specs.Grammar.{IsBlock}
 use Rattle.bw_record.specs.Record.{key_of}
 use Rattle.bw_record.specs.declared.record.Record.{Record}
 use Rattle.bw_record.specs.declared.leaf.Leaf.{Leaf}
-use Rattle.bw_codec.specs.declared.block.Place.{Place}
-use Rattle.bw_codec.specs.declared.block.Block.{Block}
+use Rattle.bw_record.specs.declared.block.Place.{Place}
+use Rattle.bw_record.specs.declared.block.Block.{Block}
 use Rattle.bw_codec.proofs.Wider.{blocks_wider}
 use Rattle.bw_page.specs.Leaves.{directed_at, HasPage, AreLeaves}
 use Rattle.bw_page.proofs.Indexed.{home_within}

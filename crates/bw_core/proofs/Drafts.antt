@@ -5,7 +5,7 @@ use Rattle.std.proofs.Common.{map, refl, sym, ap, ◌∙◌, arith, append-nil, 
 use Rattle.std.specs.List.{fold}
 use Rattle.std.proofs.lemmas.Grind.{fold-append}
 use Rattle.bw_record.specs.declared.record.Record.{Record}
-use Rattle.bw_codec.specs.declared.block.Block.{Block}
+use Rattle.bw_record.specs.declared.block.Block.{Block}
 use Rattle.bw_page.specs.Leaves.{pages}
 use Rattle.bw_buffer.specs.Filling.{Filling, with_all, size_of}
 use Rattle.bw_buffer.specs.Joining.{joined, added}

@@ -6,7 +6,7 @@ use Rattle.std.specs.Prelude.{IfSome, slice_get}
 use Rattle.std.specs.List.{AllByRecursion as All}
 use Rattle.std.proofs.lemmas.List.{length-map}
 use Rattle.bw_codec.specs.Grammar.{frame_bytes, header_bytes}
-use Rattle.bw_codec.specs.declared.block.Frame.{Frame}
+use Rattle.bw_record.specs.declared.block.Frame.{Frame}
 use Rattle.bw_leaf.proofs.Sorted.{all-map}
 use Rattle.bw_device.specs.Holding.{Holding, appended}
 use Rattle.bw_device.specs.declared.memory.TheConstants.{MAX_CAPACITY}

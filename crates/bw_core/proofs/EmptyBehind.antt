@@ -7,11 +7,11 @@ use Rattle.std.specs.List.{AllByRecursion as All, slice_get}
 use Rattle.std.proofs.lemmas.Bool.{leb-true, leb-false}
 use Rattle.std.proofs.lemmas.Option.{slice_get_past}
 use Rattle.bw_codec.specs.Grammar.{IsPlace}
-use Rattle.bw_codec.specs.Touch.{touches}
+use Rattle.bw_record.specs.Touch.{touches}
 use Rattle.bw_record.specs.declared.leaf.Leaf.{Leaf}
-use Rattle.bw_codec.specs.declared.block.Place.{Place}
-use Rattle.bw_codec.specs.declared.block.Block.{Block}
-use Rattle.bw_codec.specs.declared.block.Frame.{Frame}
+use Rattle.bw_record.specs.declared.block.Place.{Place}
+use Rattle.bw_record.specs.declared.block.Block.{Block}
+use Rattle.bw_record.specs.declared.block.Frame.{Frame}
 use Rattle.bw_page.specs.Standing.{Stand}
 use Rattle.bw_buffer.specs.Filling.{Filling, frame_of}
 use Rattle.bw_log.specs.Contents as logs

@@ -10,13 +10,13 @@ use Rattle.std.proofs.lemmas.List.Folds.{list_any-append}
 use Rattle.bw_record.specs.Keys.{ascends}
 use Rattle.bw_codec.specs.Grammar.{IsBase}
 use Rattle.bw_record.specs.Record.{key_of}
-use Rattle.bw_codec.specs.Touch.{touches}
+use Rattle.bw_record.specs.Touch.{touches}
 use Rattle.bw_record.specs.declared.record.Record.{Record}
 use Rattle.bw_record.specs.declared.leaf.Leaf.{Leaf}
-use Rattle.bw_codec.specs.declared.block.Place.{Place}
-use Rattle.bw_codec.specs.declared.block.Block.{Block}
-use Rattle.bw_codec.specs.declared.block.Block.TheVariants.{Delta, Split}
-use Rattle.bw_codec.specs.declared.block.Frame.{Frame}
+use Rattle.bw_record.specs.declared.block.Place.{Place}
+use Rattle.bw_record.specs.declared.block.Block.{Block}
+use Rattle.bw_record.specs.declared.block.Block.TheVariants.{Delta, Split}
+use Rattle.bw_record.specs.declared.block.Frame.{Frame}
 use Rattle.std.specs.FinMap as finite
 use Rattle.std.specs.FinMap.Entries.{find}
 use Rattle.bw_leaf.specs.Changed.{Bytes, Map, order, all_changed}

@@ -6,11 +6,11 @@ use Rattle.std.specs.Prelude.{nat_le, nat_lt, IfSome}
 use Rattle.std.specs.List.{AllByRecursion as All, fold, slice_get}
 use Rattle.std.proofs.lemmas.Bool.{leb-true, leb-false, ltb-true, ltb-false}
 use Rattle.bw_codec.specs.Grammar.{IsFrameIn, IsPlace}
-use Rattle.bw_codec.specs.Touch.{touches}
+use Rattle.bw_record.specs.Touch.{touches}
 use Rattle.bw_record.specs.declared.leaf.Leaf.{Leaf}
-use Rattle.bw_codec.specs.declared.block.Place.{Place}
-use Rattle.bw_codec.specs.declared.block.Block.{Block}
-use Rattle.bw_codec.specs.declared.block.Frame.{Frame}
+use Rattle.bw_record.specs.declared.block.Place.{Place}
+use Rattle.bw_record.specs.declared.block.Block.{Block}
+use Rattle.bw_record.specs.declared.block.Frame.{Frame}
 use Rattle.bw_codec.proofs.Format.{held, found}
 use Rattle.bw_page.specs.Leaves.{leaf_at}
 use Rattle.bw_leaf.specs.Forwards.{blocks_of}

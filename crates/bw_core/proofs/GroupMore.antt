@@ -9,8 +9,8 @@ use Rattle.bw_record.specs.Lawful.{IsOp}
 use Rattle.bw_record.specs.Record.{key_of}
 use Rattle.bw_record.specs.declared.record.Record.{Record}
 use Rattle.bw_record.specs.declared.leaf.Leaf.{Leaf}
-use Rattle.bw_codec.specs.declared.block.Place.{Place}
-use Rattle.bw_codec.specs.declared.block.Block.{Block}
+use Rattle.bw_record.specs.declared.block.Place.{Place}
+use Rattle.bw_record.specs.declared.block.Block.{Block}
 use Rattle.bw_page.specs.Batch.{AreHere, SomeIsSpent}
 use Rattle.bw_page.specs.Leaves.{applied, directed_at, pages, HasPages, AreLeaves}
 use Rattle.bw_leaf.specs.SplitRule.{upper_of}

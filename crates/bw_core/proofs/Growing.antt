@@ -9,12 +9,12 @@ use Rattle.std.proofs.lemmas.Bool.{eq-eqb, ne_eqb, leb-true, leb-false}
 use Rattle.bw_record.specs.Lawful.{IsOp}
 use Rattle.bw_codec.specs.Grammar.{IsBlock, IsPlace, IsDelta}
 use Rattle.bw_record.specs.Record.{key_of}
-use Rattle.bw_codec.specs.Touch.{touches}
+use Rattle.bw_record.specs.Touch.{touches}
 use Rattle.bw_record.specs.declared.record.Record.{Record}
 use Rattle.bw_record.specs.declared.leaf.Leaf.{Leaf}
-use Rattle.bw_codec.specs.declared.block.Place.{Place}
-use Rattle.bw_codec.specs.declared.block.Block.TheVariants.{Delta, Split}
-use Rattle.bw_codec.specs.declared.block.Frame.{Frame}
+use Rattle.bw_record.specs.declared.block.Place.{Place}
+use Rattle.bw_record.specs.declared.block.Block.TheVariants.{Delta, Split}
+use Rattle.bw_record.specs.declared.block.Frame.{Frame}
 use Rattle.bw_buffer.specs.Joining.{joins}
 use Rattle.bw_page.specs.Leaves.{directed_at, leaf_at, applied, HasPage, AreLeaves}
 use Rattle.bw_leaf.specs.SplitRule.{upper_of}

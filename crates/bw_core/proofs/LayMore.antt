@@ -10,7 +10,7 @@ use Rattle.bw_record.specs.Lawful.{IsOp}
 use Rattle.bw_codec.specs.Grammar.{IsBlock}
 use Rattle.bw_record.specs.declared.record.Record.{Record}
 use Rattle.bw_record.specs.declared.leaf.Leaf.{Leaf}
-use Rattle.bw_codec.specs.declared.block.Block.{Block}
+use Rattle.bw_record.specs.declared.block.Block.{Block}
 use Rattle.bw_page.specs.declared.leaves.batch.Step.{Step}
 use Rattle.bw_page.specs.Batch.{step_of, steps_of}
 use Rattle.bw_page.specs.Leaves.{applied, pages, HasPage, HasPages}

@@ -63,10 +63,10 @@ pub may_follow_at : {s : Kept} → IsSound s → s.log.next ≡ Some s.making.fr
     → (b : Filling) → b ≡ record s.making { is_sealed = true } → MayFollow s.log (frame_of b)
 may_follow_at {s} sound next some fits b is =
     let g : Goes s = record { sound = sound; next = next; some = some; fits = fits } in
-    subst (λ (f : Rattle.bw_codec.specs.declared.block.Frame.Frame). MayFollow s.log f) (sym (sealed_frame s b is)) (may_follow s g)
+    subst (λ (f : Rattle.bw_record.specs.declared.block.Frame.Frame). MayFollow s.log f) (sym (sealed_frame s b is)) (may_follow s g)
 
 -- the log's next number behind a frame
-next_after : (old : logs.Contents) (f : Rattle.bw_codec.specs.declared.block.Frame.Frame) (new : logs.Contents) → logs.IsSound new → Appended old f new
+next_after : (old : logs.Contents) (f : Rattle.bw_record.specs.declared.block.Frame.Frame) (new : logs.Contents) → logs.IsSound new → Appended old f new
     → new.next ≡ following f.number
 next_after old f new sound added = sound.holds.follows ∙ ap next_of added.frames
     ∙ fold-append (λ was g. following g.number) (Some 1) (logs.counted old) (f ∷ [])
@@ -88,7 +88,7 @@ pub flushed_at : {s : Kept} → IsSound s → s.log.next ≡ Some s.making.frame
     → cuts ≡ s.cuts ++ end ∷ [] → end ≡ length s.entries
     → IsSound (record s { cuts = cuts; durable = s.durable + 1; making = fresh; log = new })
 flushed_at {s} sound next works fresh b new cuts end is begun whole added same more at =
-    let added_as = subst (λ (f : Rattle.bw_codec.specs.declared.block.Frame.Frame). Appended s.log f new) (sealed_frame s b is) added in
+    let added_as = subst (λ (f : Rattle.bw_record.specs.declared.block.Frame.Frame). Appended s.log f new) (sealed_frame s b is) added in
     let n = next_of_sealed s b fresh is begun in
     let number = following_is (s.before + s.durable) s.making.frame (sym sound.next ∙ next) in
     let later = next_after s.log (frame_of s.making) new whole added_as in
@@ -104,7 +104,7 @@ appended_now {s} fresh b new cuts end is begun added same more at = record {
   log = new;
   is = appended_is s fresh new cuts end more at;
   empty = begun.empty;
-  added = subst (λ (f : Rattle.bw_codec.specs.declared.block.Frame.Frame). Appended s.log f new) (sealed_frame s b is) added;
+  added = subst (λ (f : Rattle.bw_record.specs.declared.block.Frame.Frame). Appended s.log f new) (sealed_frame s b is) added;
   same = same;
 }
 
@@ -127,7 +127,7 @@ stopped_at {s} sound next works b new cuts end (log.Device lease) Q is whole sam
     (subst (λ (cs : List ℕ). IsSound (record s { cuts = cs; making = record s.making { is_sealed = true }; log = new }))
     (sym (more ∙ ap (λ (n : ℕ). s.cuts ++ n ∷ []) at))
     (stopped_sound s sound works new next number whole
-    (subst (λ (f : Rattle.bw_codec.specs.declared.block.Frame.Frame). Stopped s.log f new) (sealed_frame s b is) on.1) same))
+    (subst (λ (f : Rattle.bw_record.specs.declared.block.Frame.Frame). Stopped s.log f new) (sealed_frame s b is) on.1) same))
 stopped_at sound next works b new cuts end log.NoMemory Q is whole same only on more at = absurd only
 stopped_at sound next works b new cuts end log.BadConfig Q is whole same only on more at = absurd only
 stopped_at sound next works b new cuts end log.NoSegment Q is whole same only on more at = absurd only

@@ -7,8 +7,8 @@ use Rattle.std.proofs.lemmas.Grind.{fold-append}
 use Rattle.bw_record.specs.Lawful.{IsOp}
 use Rattle.bw_record.specs.declared.record.Record.{Record}
 use Rattle.bw_record.specs.declared.leaf.Leaf.{Leaf}
-use Rattle.bw_codec.specs.declared.block.Place.{Place}
-use Rattle.bw_codec.specs.declared.block.Block.{Block}
+use Rattle.bw_record.specs.declared.block.Place.{Place}
+use Rattle.bw_record.specs.declared.block.Block.{Block}
 use Rattle.bw_leaf.specs.Changed.{Map, empty_leaf, changed_map}
 use Rattle.bw_page.specs.Leaves.{pages, applied, union, plain}
 use Rattle.bw_page.proofs.Law.{applied-plain}

@@ -11,8 +11,8 @@ use Rattle.bw_record.specs.Lawful.{IsOp}
 use Rattle.bw_record.specs.Record.{key_of}
 use Rattle.bw_record.specs.declared.record.Record.{Record}
 use Rattle.bw_record.specs.declared.leaf.Leaf.{Leaf}
-use Rattle.bw_codec.specs.declared.block.Place.{Place}
-use Rattle.bw_codec.specs.declared.block.Block.TheVariants.{Delta, Split}
+use Rattle.bw_record.specs.declared.block.Place.{Place}
+use Rattle.bw_record.specs.declared.block.Block.TheVariants.{Delta, Split}
 use Rattle.bw_leaf.specs.Changed.{changed}
 use Rattle.bw_page.specs.Leaves.{directed_at, leaf_at, applied, AreLeaves}
 use Rattle.bw_leaf.specs.SplitRule.{lower_of, upper_of}

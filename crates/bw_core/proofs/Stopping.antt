@@ -9,7 +9,7 @@ use Rattle.std.proofs.Math.Seq.{take-length}
 use Rattle.std.proofs.lemmas.List.{take_all}
 use Rattle.std.proofs.lemmas.List.Elements.{filter-append}
 use Rattle.bw_record.specs.declared.leaf.Leaf.{Leaf}
-use Rattle.bw_codec.specs.declared.block.Frame.{Frame}
+use Rattle.bw_record.specs.declared.block.Frame.{Frame}
 use Rattle.bw_page.specs.Standing.{Stand}
 use Rattle.bw_device.specs.Holding.{Holding}
 use Rattle.bw_log.specs.Appends.{last_of}

@@ -1,7 +1,7 @@
 -- What a cleaning leaves.
 
 use Rattle.std.specs.Prelude.{ℕ, ◌+◌, ◌<◌, ◌≤◌, ◌≡◌, Result, Ok, Err, [], ◌++◌, length, replicate, drop}
-use Rattle.bw_codec.specs.declared.block.Place.{Place}
+use Rattle.bw_record.specs.declared.block.Place.{Place}
 use Rattle.std.specs.Prelude.{List}
 use Rattle.bw_buffer.specs.Filling.{Filling}
 use Rattle.bw_log.specs.Contents as logs

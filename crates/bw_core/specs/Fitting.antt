@@ -2,8 +2,8 @@
 
 use Rattle.std.specs.Prelude.{◌≤◌, List}
 use Rattle.bw_record.specs.declared.record.Record.{Record}
-use Rattle.bw_codec.specs.declared.block.Place.{Place}
-use Rattle.bw_codec.specs.declared.block.Block.{Block}
+use Rattle.bw_record.specs.declared.block.Place.{Place}
+use Rattle.bw_record.specs.declared.block.Block.{Block}
 use Rattle.bw_page.specs.Leaves.{directed_at}
 use Rattle.bw_buffer.specs.Filling.{frame_of, size_of, with_all}
 use Rattle.bw_making.specs.Adding.{Drawn, blocks_for, blocks_all, back_in, here_for, last_for}

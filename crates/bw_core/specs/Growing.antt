@@ -4,8 +4,8 @@ use Rattle.std.specs.Prelude.{ℕ, nat_le, ◌-◌, ◌≡◌, ◌≤◌, List, 
 use Rattle.std.specs.List.{AllByRecursion, filter}
 use Rattle.bw_codec.specs.Grammar.{IsBlock, IsPlace}
 use Rattle.bw_record.specs.declared.leaf.Leaf.{Leaf}
-use Rattle.bw_codec.specs.declared.block.Place.{Place}
-use Rattle.bw_codec.specs.declared.block.Frame.{Frame}
+use Rattle.bw_record.specs.declared.block.Place.{Place}
+use Rattle.bw_record.specs.declared.block.Frame.{Frame}
 use Rattle.bw_page.specs.Standing.{Stand}
 use Rattle.bw_log.specs.Places.{place_of, AreLinked}
 

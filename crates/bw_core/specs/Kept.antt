@@ -5,9 +5,9 @@ use Rattle.std.specs.List.{AllByRecursion}
 use Rattle.bw_record.specs.Lawful.{IsOp}
 use Rattle.bw_record.specs.declared.record.Record.{Record}
 use Rattle.bw_record.specs.declared.leaf.Leaf.{Leaf}
-use Rattle.bw_codec.specs.declared.block.Place.{Place}
-use Rattle.bw_codec.specs.declared.block.Block.{Block}
-use Rattle.bw_codec.specs.declared.block.Frame.{Frame}
+use Rattle.bw_record.specs.declared.block.Place.{Place}
+use Rattle.bw_record.specs.declared.block.Block.{Block}
+use Rattle.bw_record.specs.declared.block.Frame.{Frame}
 use Rattle.bw_page.specs.Leaves.{pages, union, plain}
 use Rattle.bw_page.specs.Standing.{Stand}
 use Rattle.bw_page.specs.Shown.{Shown}

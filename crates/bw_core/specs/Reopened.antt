@@ -1,7 +1,7 @@
 -- A store that was just opened again.
 
 use Rattle.std.specs.Prelude.{ℕ, ◌+◌, ◌-◌, Option, Some, None, List, [], length, slice_get}
-use Rattle.bw_codec.specs.declared.block.Place.{Place}
+use Rattle.bw_record.specs.declared.block.Place.{Place}
 use Rattle.bw_page.specs.Shown.{Shown}
 use Rattle.bw_buffer.specs.Filling.{Filling}
 use Rattle.bw_ring.specs.Ends.{Ring}

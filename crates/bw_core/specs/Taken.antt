@@ -2,7 +2,7 @@
 
 use Rattle.std.specs.Prelude.{ℕ, false, List, [], ◌∷◌}
 use Rattle.bw_record.specs.declared.record.Record.{Record}
-use Rattle.bw_codec.specs.declared.block.Place.{Place}
+use Rattle.bw_record.specs.declared.block.Place.{Place}
 use Rattle.bw_page.specs.Leaves.{applied}
 use Rattle.bw_ring.specs.Marks.{Marked}
 use Rattle.bw_making.specs.Adding.{blocks_for, places_after}

@@ -9,7 +9,7 @@
 
 ghost use Rattle.std.specs.Prelude.{ℕ, ◌≡◌, ◌≤◌, ◌==◌, ◌↔◌, ◌&&◌, not, true, false, None, Some, length, if◌then◌else◌, List, IfOk, IfErr, IsErrOf, MatchOption, MatchResult, OnErr, OnOk};
 ghost use Rattle.std.specs.List.{list_any};
-ghost use Rattle.bw_codec.specs.Touch.{touches};
+ghost use Rattle.bw_record.specs.Touch.{touches};
 ghost use Rattle.bw_page.specs.Leaves.{home, leaf_at};
 ghost use Rattle.bw_page.specs.Shown.{IsHere};
 ghost use Rattle.bw_log.specs.Contents.{counted};

@@ -8,7 +8,7 @@ use Rattle.std.specs.List.{list_any}
 use Rattle.std.specs.Option.{option_map, IfSome}
 use Rattle.std.proofs.lemmas.List.{reverse-append, drop-append-le, drop_all, drop_more, take-append-drop}
 use Rattle.std.proofs.lemmas.Bool.{false≢true}
-use Rattle.bw_codec.specs.declared.block.Place.{Place}
+use Rattle.bw_record.specs.declared.block.Place.{Place}
 use Rattle.bw_record.specs.declared.leaf.Leaf.{Leaf}
 use Rattle.bw_record.specs.declared.record.Record.{Record}
 use Rattle.bw_leaf.specs.declared.chain.Link.{Link}

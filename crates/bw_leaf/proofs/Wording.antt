@@ -7,12 +7,12 @@ use Rattle.std.specs.Ordering.{eq_by_cmp}
 use Rattle.std.specs.FinMap.Entries.{find}
 use Rattle.bw_record.specs.Keys.{is_below}
 use Rattle.bw_record.specs.Record.{key_of}
-use Rattle.bw_codec.specs.Touch.{sets}
+use Rattle.bw_record.specs.Touch.{sets}
 use Rattle.bw_record.specs.declared.leaf.Leaf.{Leaf}
 use Rattle.bw_record.specs.declared.record.Record.{Record}
 use Rattle.bw_record.specs.declared.record.Record.TheVariants.{Put, Del}
-use Rattle.bw_codec.specs.declared.block.Block.{Block}
-use Rattle.bw_codec.specs.declared.block.Block.TheVariants.{Delta, Base, Split}
+use Rattle.bw_record.specs.declared.block.Block.{Block}
+use Rattle.bw_record.specs.declared.block.Block.TheVariants.{Delta, Base, Split}
 use Rattle.bw_leaf.specs.Changed.{Bytes, Pairs, order, changed, changed_pairs, all_changed}
 use Rattle.bw_leaf.specs.Forwards.{after, kept_below}
 use Rattle.bw_leaf.specs.Words.{newer, told_by, word_of, said, record_word, records_word, split_word, block_word, blocks_word, value_on, HasOrder}

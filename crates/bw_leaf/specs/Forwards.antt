@@ -5,9 +5,9 @@ use Rattle.std.specs.List.{fold, filter, flat_map}
 use Rattle.std.specs.Option.{option_map}
 use Rattle.bw_record.specs.Keys.{is_below}
 use Rattle.bw_record.specs.declared.leaf.Leaf.{Leaf}
-use Rattle.bw_codec.specs.declared.block.Block.{Block}
-use Rattle.bw_codec.specs.declared.block.Block.TheVariants.{Delta, Base, Split}
-use Rattle.bw_codec.specs.declared.block.Frame.{Frame}
+use Rattle.bw_record.specs.declared.block.Block.{Block}
+use Rattle.bw_record.specs.declared.block.Block.TheVariants.{Delta, Base, Split}
+use Rattle.bw_record.specs.declared.block.Frame.{Frame}
 use Rattle.bw_leaf.specs.Changed.{Bytes, all_changed}
 
 -- a leaf without the pairs from a separator on

@@ -1,7 +1,7 @@
 -- The newest flushed link of links that stand oldest first.
 
 use Rattle.std.specs.Prelude.{ℕ, ◌+◌, Option, Some, List, [], ◌∷◌}
-use Rattle.bw_codec.specs.declared.block.Place.{Place}
+use Rattle.bw_record.specs.declared.block.Place.{Place}
 use Rattle.bw_leaf.specs.declared.chain.Link.{Link}
 use Rattle.bw_leaf.specs.declared.chain.Link.TheVariants.{Delta, Flushed}
 

@@ -5,10 +5,10 @@ use Rattle.std.proofs.Common.{List, [], ◌∷◌, length, slice_get, refl, sym,
 use Rattle.std.specs.List.{AllByRecursion}
 use Rattle.std.proofs.lemmas.Bool.{eqb-true}
 use Rattle.bw_codec.specs.Grammar.{IsBlock}
-use Rattle.bw_codec.specs.Touch.{touches}
-use Rattle.bw_codec.specs.declared.block.Block.{Block}
-use Rattle.bw_codec.specs.declared.block.Block.TheVariants.{Delta, Base, Split}
-use Rattle.bw_codec.specs.declared.block.Frame.{Frame}
+use Rattle.bw_record.specs.Touch.{touches}
+use Rattle.bw_record.specs.declared.block.Block.{Block}
+use Rattle.bw_record.specs.declared.block.Block.TheVariants.{Delta, Base, Split}
+use Rattle.bw_record.specs.declared.block.Frame.{Frame}
 use Rattle.bw_buffer.specs.Marks.{mark_of}
 use Rattle.bw_page.specs.Leaves.{leaf_at}
 use Rattle.bw_leaf.specs.Forwards.{content, blocks_of}

@@ -6,11 +6,11 @@ use Rattle.std.specs.List.{fold}
 use Rattle.std.specs.BTreeMap as tree
 use Rattle.std.specs.Ordering.{nat_cmp}
 use Rattle.std.proofs.lemmas.Grind.{fold-append}
-use Rattle.bw_codec.specs.Touch.{sets, touches}
+use Rattle.bw_record.specs.Touch.{sets, touches}
 use Rattle.bw_record.specs.declared.record.Record.{Record}
-use Rattle.bw_codec.specs.declared.block.Block.{Block}
-use Rattle.bw_codec.specs.declared.block.Block.TheVariants.{Delta}
-use Rattle.bw_codec.specs.declared.block.Place.{Place}
+use Rattle.bw_record.specs.declared.block.Block.{Block}
+use Rattle.bw_record.specs.declared.block.Block.TheVariants.{Delta}
+use Rattle.bw_record.specs.declared.block.Place.{Place}
 use Rattle.bw_log.specs.PageTable.{changed_line, set_line}
 use Rattle.bw_log.specs.declared.places.PageAt.{PageAt}
 use Rattle.bw_log.specs.Places.{placed, later, last_place, is_back, fault_at, fault_of, or_else, bad_link}

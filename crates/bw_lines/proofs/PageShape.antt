@@ -11,8 +11,8 @@ use Rattle.bw_codec.specs.Grammar.{IsPage, IsBase, IsBlock}
 use Rattle.bw_record.specs.declared.record.Record.{Record}
 use Rattle.bw_record.specs.declared.record.Record.TheVariants.{Put, Del}
 use Rattle.bw_record.specs.declared.leaf.Leaf.{Leaf}
-use Rattle.bw_codec.specs.declared.block.Block.{Block}
-use Rattle.bw_codec.specs.declared.block.Block.TheVariants.{Delta, Base, Split}
+use Rattle.bw_record.specs.declared.block.Block.{Block}
+use Rattle.bw_record.specs.declared.block.Block.TheVariants.{Delta, Base, Split}
 use Rattle.bw_leaf.specs.Changed.{Bytes, Pairs, changed, all_changed}
 use Rattle.bw_leaf.specs.Forwards.{after, content, kept_below}
 use Rattle.bw_leaf.proofs.Order.{Below}

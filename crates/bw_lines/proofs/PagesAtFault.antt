@@ -7,10 +7,10 @@ use Rattle.std.proofs.lemmas.Bool.{or_parts, eqb-true, eq-eqb, ltb-false, lt-ltb
 use lib.Pointwise.{bytes_decides}
 use Rattle.bw_record.specs.Keys.{is_below}
 use Rattle.bw_codec.specs.Grammar.{IsBase, IsBlock}
-use Rattle.bw_codec.specs.Touch.{sets}
+use Rattle.bw_record.specs.Touch.{sets}
 use Rattle.bw_record.specs.declared.leaf.Leaf.{Leaf}
-use Rattle.bw_codec.specs.declared.block.Block.{Block}
-use Rattle.bw_codec.specs.declared.block.Block.TheVariants.{Delta, Base, Split}
+use Rattle.bw_record.specs.declared.block.Block.{Block}
+use Rattle.bw_record.specs.declared.block.Block.TheVariants.{Delta, Base, Split}
 use Rattle.bw_leaf.specs.Changed.{Bytes}
 use Rattle.bw_page.specs.Leaves.{AreNumbered, BeginsEmpty, AreLeaves}
 use Rattle.bw_page.specs.Laws.{LiesBetween}

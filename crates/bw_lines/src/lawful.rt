@@ -8,7 +8,7 @@ ghost use Rattle.bw_record.specs.Keys.{is_below, IsKey};
 ghost use Rattle.bw_leaf.specs.Changed.{Bytes, order};
 ghost use Rattle.bw_lines.specs.Lawful.{HasLawful, is_bad_leaf, is_bad_page};
 ghost use Rattle.bw_lines.specs.Paging.{IsNext, is_past, has_low, taken_before, IsLows, IsShortIf, IsIndex, first_wrong, Rise, leaves_in, at_line, AreOf, IsMapOf, HasFrames, IsRight, PageFaultIs, fault_among};
-ghost use Rattle.bw_codec.specs.declared.block.Frame.{Frame as FrameValue};
+ghost use Rattle.bw_record.specs.declared.block.Frame.{Frame as FrameValue};
 ghost use Rattle.bw_record.specs.declared.leaf.Leaf.{Leaf as LeafValue};
 
 use crate::cause::RecoverCause;

@@ -10,11 +10,11 @@ ghost use Rattle.std.specs.BTreeMap as tree;
 ghost use Rattle.std.specs.Ordering.{nat_cmp};
 ghost use Rattle.bw_leaf.specs.Changed.{all_changed};
 ghost use Rattle.bw_leaf.specs.Forwards.{kept_below};
-ghost use Rattle.bw_codec.specs.declared.block.Block.TheVariants.{Base as BlockBase, Split as BlockSplit};
+ghost use Rattle.bw_record.specs.declared.block.Block.TheVariants.{Base as BlockBase, Split as BlockSplit};
 ghost use Rattle.bw_log.specs.Places.{is_place, is_back, fault_at, fault_of, placed, all_placed, bad_link};
 ghost use Rattle.bw_lines.specs.Reading.{place_in, at_in, leaf_in, changed_by, line_after, AreLines, IsRead, LinkFaultIs, IsUnlinked};
-ghost use Rattle.bw_codec.specs.declared.block.Place.{Place as PlaceValue};
-ghost use Rattle.bw_codec.specs.declared.block.Block.{Block as BlockValue};
+ghost use Rattle.bw_record.specs.declared.block.Place.{Place as PlaceValue};
+ghost use Rattle.bw_record.specs.declared.block.Block.{Block as BlockValue};
 
 use bw_codec::{Block, Leaf, Packed, Place};
 use bw_log::PageAt;

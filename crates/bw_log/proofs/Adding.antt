@@ -10,7 +10,7 @@ use Rattle.bw_record.specs.Version.{latest}
 use Rattle.bw_codec.specs.Grammar.{frame_bytes, frame_bytes_in, IsFrame}
 use Rattle.bw_codec.specs.Reading.{version_in}
 use Rattle.bw_record.specs.declared.leaf.Leaf.{Leaf}
-use Rattle.bw_codec.specs.declared.block.Frame.{Frame}
+use Rattle.bw_record.specs.declared.block.Frame.{Frame}
 use Rattle.bw_codec.proofs.Format.{held, found}
 use Rattle.bw_page.specs.Standing.{Stand}
 use Rattle.bw_log.specs.Places.{first_number, AreLinked}

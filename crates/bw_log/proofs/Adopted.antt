@@ -10,7 +10,7 @@ use Rattle.std.proofs.lemmas.Grind.{fold-append}
 use Rattle.std.specs.List.{filter, AllByRecursion}
 use Rattle.bw_codec.specs.Grammar.{frame_bytes_in}
 use Rattle.bw_codec.specs.Reading.{version_in}
-use Rattle.bw_codec.specs.declared.block.Frame.{Frame}
+use Rattle.bw_record.specs.declared.block.Frame.{Frame}
 use Rattle.bw_log.specs.Segments.{Limits, segment_frames, entries_from, entries, following, AreLive, is_before_next}
 use Rattle.bw_log.specs.Adopting.{next_in, in_segments, old_in, Numbering}
 use Rattle.bw_log.specs.declared.places.FrameAt.{FrameAt}

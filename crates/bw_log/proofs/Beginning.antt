@@ -7,8 +7,8 @@ use Rattle.std.specs.List.{filter, flat_map}
 use Rattle.bw_record.specs.Version.{latest}
 use Rattle.bw_codec.specs.Grammar.{frame_bytes, header_bytes, IsHeader}
 use Rattle.bw_codec.specs.Reading.{version_in}
-use Rattle.bw_codec.specs.declared.block.Frame.{Frame}
-use Rattle.bw_codec.specs.declared.block.Header.{Header}
+use Rattle.bw_record.specs.declared.block.Frame.{Frame}
+use Rattle.bw_codec.specs.declared.head.Header.{Header}
 use Rattle.bw_log.specs.Segments.{segment_frames, frames_of, header_with, entry_of, entries_from, entries, is_before_next, next_of, AreFrom}
 use Rattle.bw_log.specs.Places.{first_number, AreLinked}
 use Rattle.bw_page.specs.Standing.{Stand}

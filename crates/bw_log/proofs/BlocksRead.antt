@@ -8,8 +8,8 @@ use Rattle.std.proofs.lemmas.List.{drop_at, take_at, take_all, drop-drop, drop-t
 use Rattle.std.proofs.lemmas.Grind.{flat_map-append}
 use Rattle.std.proofs.lemmas.Option.{slice_get-get_or, get_or_from_slice_get}
 use Rattle.bw_codec.specs.Grammar.{block_bytes_in, body_bytes_in, head_bytes_in, frame_bytes_in, IsBlockIn, IsFrameIn}
-use Rattle.bw_codec.specs.declared.block.Block.{Block}
-use Rattle.bw_codec.specs.declared.block.Frame.{Frame}
+use Rattle.bw_record.specs.declared.block.Block.{Block}
+use Rattle.bw_record.specs.declared.block.Frame.{Frame}
 use Rattle.bw_codec.proofs.FrontFormat.{length-head}
 use Rattle.bw_device.specs.Holding.{Holding}
 use Rattle.bw_log.specs.Starts.{starts_from, starts_of, end_of, IsSpan}
@@ -17,7 +17,7 @@ use Rattle.bw_log.specs.Segments.{version_at}
 use Rattle.bw_log.specs.Contents.{Contents, counted, IsSound}
 use Rattle.bw_log.specs.BlockBytes.{IsSpelled, IsSpelledAt, BlockAt, IsSpot}
 use Rattle.bw_log.specs.declared.blocks.Spot.{Spot}
-use Rattle.bw_codec.specs.declared.block.Place.{Place}
+use Rattle.bw_record.specs.declared.block.Place.{Place}
 use Rattle.bw_log.specs.Places.{all_placed}
 use Rattle.bw_log.specs.Walking.{PlacedAt}
 use Rattle.bw_log.proofs.Walked.{numbered_at}

@@ -6,8 +6,8 @@ use Rattle.std.specs.List.{filter, flat_map, AllByRecursion}
 use Rattle.std.proofs.lemmas.List.{map-append, length-map, get_or_at}
 use Rattle.bw_codec.specs.Grammar.{frame_bytes_in, IsFrameIn}
 use Rattle.bw_codec.specs.Reading.{version_in}
-use Rattle.bw_codec.specs.declared.block.Frame.{Frame}
-use Rattle.bw_codec.specs.declared.block.Header.{Header}
+use Rattle.bw_record.specs.declared.block.Frame.{Frame}
+use Rattle.bw_codec.specs.declared.head.Header.{Header}
 use Rattle.bw_log.specs.Starts.{starts_of}
 use Rattle.bw_log.specs.Segments.{Limits, header_in, version_at, limit_at, segment_frames, frames_of, entries_from, entries, AreLive, IsLive, is_before_next}
 use Rattle.bw_log.specs.Contents.{Contents, Image, image, limits_of, IsImage, IsSound, counted, counted_in}

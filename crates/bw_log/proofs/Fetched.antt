@@ -20,7 +20,7 @@ use Rattle.bw_log.specs.declared.fault.LogFault.{LogFault}
 use Rattle.bw_log.specs.declared.fault.LogFault.TheVariants.{NoMemory, BadConfig, NoSegment, Device, Failed, Spent, NoPage}
 use Rattle.bw_codec.specs.Grammar.{frame_bytes_in, IsFrameIn}
 use Rattle.bw_log.specs.Segments.{version_at, limit_at}
-use Rattle.bw_codec.specs.declared.block.Frame.{Frame}
+use Rattle.bw_record.specs.declared.block.Frame.{Frame}
 use Rattle.bw_log.proofs.Entries.{line_at}
 
 -- the list of live segments alone changed

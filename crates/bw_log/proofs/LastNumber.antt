@@ -7,7 +7,7 @@ use Rattle.std.specs.List.Sorted.{IsPartitionedBy, IsPartitionPoint}
 use Rattle.std.proofs.lemmas.Bool.{true≢false, cases_lt}
 use Rattle.std.proofs.lemmas.List.{get_or_append_left, get_or-append-add}
 use Rattle.bw_codec.specs.Grammar.{frame_bytes_in}
-use Rattle.bw_codec.specs.declared.block.Frame.{Frame}
+use Rattle.bw_record.specs.declared.block.Frame.{Frame}
 use Rattle.bw_log.specs.Segments.{entries_from}
 use Rattle.bw_log.specs.declared.places.FrameAt.{FrameAt}
 

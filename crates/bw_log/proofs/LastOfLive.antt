@@ -12,7 +12,7 @@ use Rattle.std.proofs.lemmas.List.{map-append, length-map, get_or-append-add}
 use Rattle.std.proofs.lemmas.List.Elements.{filter-append}
 use Rattle.bw_codec.specs.Reading.{version_in}
 use Rattle.bw_codec.specs.Grammar.{frame_bytes_in}
-use Rattle.bw_codec.specs.declared.block.Frame.{Frame}
+use Rattle.bw_record.specs.declared.block.Frame.{Frame}
 use Rattle.bw_device.specs.Holding.{Holding}
 use Rattle.bw_log.specs.Segments.{segment_frames, entries_from, entries, is_before_next}
 use Rattle.bw_log.specs.Contents.{Contents, IsSound}

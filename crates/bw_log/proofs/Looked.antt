@@ -8,9 +8,9 @@ use Rattle.std.proofs.lemmas.List.{drop_at}
 use Rattle.bw_codec.specs.Grammar.{block_bytes_in, body_bytes_in, head_bytes_in, frame_bytes_in, IsBlockIn, IsFrameIn}
 use Rattle.bw_codec.specs.Outline.{outline_of}
 use Rattle.bw_codec.specs.Reading.{Says}
-use Rattle.bw_codec.specs.declared.block.Block.{Block}
-use Rattle.bw_codec.specs.declared.block.Block.TheVariants.{Delta, Base, Split}
-use Rattle.bw_codec.specs.declared.block.Frame.{Frame}
+use Rattle.bw_record.specs.declared.block.Block.{Block}
+use Rattle.bw_record.specs.declared.block.Block.TheVariants.{Delta, Base, Split}
+use Rattle.bw_record.specs.declared.block.Frame.{Frame}
 use Rattle.bw_codec.specs.declared.fault.CodecFault.{CodecFault}
 use Rattle.bw_codec.specs.declared.fault.CodecFault.TheVariants.{NoMemory, BadBytes}
 use Rattle.bw_codec.specs.declared.outline.Outline.{Outline}

@@ -12,10 +12,10 @@ use Rattle.bw_codec.specs.Bytes.{number_bytes}
 use Rattle.bw_codec.specs.Grammar.{segment_word, body_bytes, body_bytes_in, head_bytes_in, frame_bytes_in, frame_bytes, header_bytes, IsFrameIn}
 use Rattle.bw_codec.specs.Grammar.{IsFrame, IsHeader, IsTailIn, IsWhole}
 use Rattle.bw_codec.specs.Reading.{front_at, heading_of, version_in}
-use Rattle.bw_codec.specs.declared.block.Frame.{Frame}
-use Rattle.bw_codec.specs.declared.block.Header.{Header}
-use Rattle.bw_codec.specs.declared.block.FrameRead.TheVariants.{Whole, Tail}
-use Rattle.bw_codec.specs.declared.block.HeaderRead.TheVariants as heading
+use Rattle.bw_record.specs.declared.block.Frame.{Frame}
+use Rattle.bw_codec.specs.declared.head.Header.{Header}
+use Rattle.bw_codec.specs.declared.head.FrameRead.TheVariants.{Whole, Tail}
+use Rattle.bw_codec.specs.declared.head.HeaderRead.TheVariants as heading
 use Rattle.bw_codec.proofs.FrontFormat.{is_front, beginnings_are_tails, length-head}
 use Rattle.bw_codec.proofs.Heading.{header_again, length-header}
 use Rattle.bw_log.specs.Segments.{Limits, frames_at, segment_frames, header_with, header_in, version_at, limit_at, IsLive, IsClean}

@@ -6,8 +6,8 @@ use Rattle.std.specs.List.{flat_map, AllByRecursion}
 use Rattle.std.proofs.lemmas.Bool.{and_parts, and_from, cases_lt}
 use Rattle.bw_codec.specs.Bytes.{number_bytes}
 use Rattle.bw_codec.specs.Grammar.{agrees, frame_word, frame_bytes_in, head_bytes_in, header_bytes, IsFrameIn, IsTailIn, IsWhole}
-use Rattle.bw_codec.specs.declared.block.Frame.{Frame}
-use Rattle.bw_codec.specs.declared.block.Header.{Header}
+use Rattle.bw_record.specs.declared.block.Frame.{Frame}
+use Rattle.bw_codec.specs.declared.head.Header.{Header}
 use Rattle.bw_codec.proofs.FrontFormat.{agrees_whole, beginnings_are_tails, length-head}
 use Rattle.bw_codec.proofs.Heading.{length-header}
 use Rattle.bw_log.specs.Segments.{Limits, header_in, segment_frames, IsLive}

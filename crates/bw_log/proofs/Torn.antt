@@ -17,7 +17,7 @@ use Rattle.bw_log.specs.declared.places.PageAt.{PageAt}
 use Rattle.std.proofs.lemmas.List.{length-map}
 use Rattle.bw_record.specs.Version.{latest}
 use Rattle.bw_codec.specs.Grammar.{header_bytes, frame_bytes}
-use Rattle.bw_codec.specs.declared.block.Frame.{Frame}
+use Rattle.bw_record.specs.declared.block.Frame.{Frame}
 use Rattle.bw_log.specs.Contents.{Contents}
 use Rattle.bw_log.specs.Appending.{SpareTorn, FramePut, FrameTorn, with_frame, length_of}
 use Rattle.bw_log.specs.Appends.{header_of, with_first, with_last, torn, last_of, Rose}

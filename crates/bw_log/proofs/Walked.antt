@@ -5,11 +5,11 @@ use Rattle.std.proofs.Common.{Result, Ok, Err, IsErrAnd, List, []}
 use Rattle.std.proofs.Common.{◌∷◌, ◌++◌, length, get_or, slice_get, reverse, refl, sym, ap, subst, ◌∙◌, arith, length-append}
 use Rattle.std.specs.List.{fold, list_any}
 use Rattle.std.proofs.lemmas.Bool.{eqb-true, or_left, or_right}
-use Rattle.bw_codec.specs.Touch.{sets, touches}
+use Rattle.bw_record.specs.Touch.{sets, touches}
 use Rattle.bw_record.specs.declared.leaf.Leaf.{Leaf}
-use Rattle.bw_codec.specs.declared.block.Place.{Place}
-use Rattle.bw_codec.specs.declared.block.Block.{Block}
-use Rattle.bw_codec.specs.declared.block.Frame.{Frame}
+use Rattle.bw_record.specs.declared.block.Place.{Place}
+use Rattle.bw_record.specs.declared.block.Block.{Block}
+use Rattle.bw_record.specs.declared.block.Frame.{Frame}
 use Rattle.bw_page.specs.Leaves.{leaf_at}
 use Rattle.bw_leaf.specs.Forwards.{after, content, blocks_of}
 use Rattle.bw_log.specs.Places.{all_placed, first_number}

@@ -7,7 +7,7 @@ use Rattle.std.proofs.lemmas.List.{length-map}
 use Rattle.std.proofs.lemmas.Bool.{ltb-false, leb-true, leb-false, or_parts, and_parts, cases_Bool, not-false}
 use Rattle.std.specs.List.{slice_get}
 use Rattle.bw_codec.specs.Grammar.{frame_bytes, header_bytes}
-use Rattle.bw_codec.specs.declared.block.Frame.{Frame}
+use Rattle.bw_record.specs.declared.block.Frame.{Frame}
 use Rattle.bw_page.specs.Standing.{Stand}
 use Rattle.bw_device.specs.Holding.{Holding, appended}
 use Rattle.bw_buffer.proofs.Holding.{few_blocks}

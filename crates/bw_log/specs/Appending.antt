@@ -3,7 +3,7 @@
 use Rattle.std.specs.Prelude.{ℕ, ◌+◌, ◌-◌, ◌^◌, ◌<◌, ◌≤◌, ◌≡◌, true, Option, Some, None, IfSome, slice_get, [], ◌∷◌, ◌++◌, length}
 use Rattle.bw_record.specs.Version.{latest}
 use Rattle.bw_codec.specs.Grammar.{frame_bytes, header_bytes}
-use Rattle.bw_codec.specs.declared.block.Frame.{Frame}
+use Rattle.bw_record.specs.declared.block.Frame.{Frame}
 use Rattle.bw_device.specs.Holding.{Holding, appended}
 use Rattle.bw_log.specs.Segments.{following, entry_of}
 use Rattle.bw_log.specs.Contents.{Contents, boxes}

@@ -5,8 +5,8 @@ use Rattle.std.specs.Prelude.{Some}
 use Rattle.std.specs.Prelude.{None, Result, Ok, Err, List, [], ◌∷◌, ◌++◌, length, slice_get}
 use Rattle.bw_codec.specs.Grammar.{frame_bytes, header_bytes, IsFrame}
 use Rattle.bw_record.specs.declared.leaf.Leaf.{Leaf}
-use Rattle.bw_codec.specs.declared.block.Frame.{Frame}
-use Rattle.bw_codec.specs.declared.block.Header.{Header}
+use Rattle.bw_record.specs.declared.block.Frame.{Frame}
+use Rattle.bw_codec.specs.declared.head.Header.{Header}
 use Rattle.bw_page.specs.Standing.{Stand}
 use Rattle.bw_device.specs.Holding.{Holding, appended, torn_at}
 use Rattle.bw_log.specs.Places.{AreLinked}

@@ -5,8 +5,8 @@ use Rattle.std.specs.Prelude.{map, take, slice_get}
 use Rattle.std.specs.List.{filter, AllByRecursion}
 use Rattle.bw_codec.specs.Grammar.{header_bytes}
 use Rattle.bw_record.specs.declared.leaf.Leaf.{Leaf}
-use Rattle.bw_codec.specs.declared.block.Place.{Place}
-use Rattle.bw_codec.specs.declared.block.Frame.{Frame}
+use Rattle.bw_record.specs.declared.block.Place.{Place}
+use Rattle.bw_record.specs.declared.block.Frame.{Frame}
 use Rattle.bw_page.specs.Standing.{Stand}
 use Rattle.bw_device.specs.Boxes.{HasRoomOf, IsSpareOf}
 use Rattle.bw_device.specs.Holding.{Holding}

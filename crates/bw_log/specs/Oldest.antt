@@ -2,7 +2,7 @@
 
 use Rattle.std.specs.Prelude.{ℕ, ◌<◌, Option, Some, None, List, [], ◌∷◌, length}
 use Rattle.std.specs.List.{fold, filter}
-use Rattle.bw_codec.specs.declared.block.Place.{Place}
+use Rattle.bw_record.specs.declared.block.Place.{Place}
 use Rattle.bw_device.specs.Holding.{Holding}
 use Rattle.bw_log.specs.Places.{base_of}
 use Rattle.bw_log.specs.Segments.{segment_frames, is_before_next}

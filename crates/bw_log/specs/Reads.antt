@@ -3,8 +3,8 @@
 use Rattle.std.specs.Prelude.{ℕ, ◌+◌, ◌-◌, ◌^◌, ◌≤◌, ◌≡◌, nat_le, if◌then◌else◌, Option, Some, None, Result, Ok, Err, List, length}
 use Rattle.std.specs.Prelude.{map, slice_get, slice_set, true}
 use Rattle.std.specs.List.{list_any}
-use Rattle.bw_codec.specs.declared.block.Frame.{Frame}
-use Rattle.bw_codec.specs.Touch.{touches}
+use Rattle.bw_record.specs.declared.block.Frame.{Frame}
+use Rattle.bw_record.specs.Touch.{touches}
 use Rattle.bw_device.specs.Holding.{Holding, failed_once}
 use Rattle.bw_log.specs.Contents.{Contents, image, roster, counted}
 use Rattle.bw_log.specs.Walking.{StandsAt}

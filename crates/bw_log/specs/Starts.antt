@@ -2,8 +2,8 @@
 
 use Rattle.std.specs.Prelude.{ℕ, ◌+◌, ◌≡◌, Option, Some, None, List, [], ◌∷◌, length, slice_get}
 use Rattle.bw_codec.specs.Grammar.{block_bytes_in}
-use Rattle.bw_codec.specs.declared.block.Block.{Block}
-use Rattle.bw_codec.specs.declared.block.Frame.{Frame}
+use Rattle.bw_record.specs.declared.block.Block.{Block}
+use Rattle.bw_record.specs.declared.block.Frame.{Frame}
 
 -- where blocks of a format begin, the first of them here
 abbrev pub starts_from : ℕ → ℕ → List Block → List ℕ

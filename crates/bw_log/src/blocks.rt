@@ -4,7 +4,7 @@
 //! block's bytes are read alone.
 
 ghost use Rattle.std.specs.Prelude.{◌≡◌, ◌≢◌, ◌+◌, ◌-◌, ◌<◌, ◌≤◌, ◌++◌, length, map, take, drop, slice_get, Err, IfOk, IfErr, OnOk, OnErr, IfSome};
-ghost use Rattle.bw_codec.specs.declared.block.Block.{Block};
+ghost use Rattle.bw_record.specs.declared.block.Block.{Block};
 ghost use Rattle.bw_log.specs.Places.{all_placed, first_number};
 ghost use Rattle.bw_log.specs.Contents.{counted};
 ghost use Rattle.bw_log.specs.Reads.{IsLineIn, ReadStops};

@@ -7,7 +7,7 @@
 
 ghost use Rattle.std.specs.Prelude.{◌≡◌, ◌≢◌, ◌↔◌, ◌∷◌, ◌++◌, [], Some, None, Err, true, false, reverse, IfOk, OnErr, MatchOption};
 ghost use Rattle.std.specs.List.{fold};
-ghost use Rattle.bw_codec.specs.Touch.{sets};
+ghost use Rattle.bw_record.specs.Touch.{sets};
 ghost use Rattle.bw_leaf.specs.Forwards.{after, content, blocks_of};
 ghost use Rattle.bw_log.specs.Places.{all_placed};
 ghost use Rattle.bw_log.specs.Contents.{counted};

@@ -8,7 +8,7 @@ ghost use Rattle.std.specs.Prelude.{◌≡◌, ◌<◌, ◌≤◌, ◌^◌, ℕ,
 ghost use Rattle.bw_record.specs.Version.{latest};
 ghost use Rattle.bw_codec.specs.Grammar.{frame_bytes_in, IsFrameIn};
 ghost use Rattle.bw_codec.specs.Reading.{Gives};
-ghost use Rattle.bw_codec.specs.declared.block.Frame.{Frame};
+ghost use Rattle.bw_record.specs.declared.block.Frame.{Frame};
 ghost use Rattle.bw_buffer.specs.Filling.{frame_of};
 ghost use Rattle.bw_log.specs.Starts.{starts_of, IsSpan};
 

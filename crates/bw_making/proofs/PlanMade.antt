@@ -6,9 +6,9 @@ use Rattle.std.specs.Prelude.{nat_le}
 use Rattle.bw_record.specs.Record.{key_of}
 use Rattle.bw_record.specs.declared.record.Record.{Record}
 use Rattle.bw_record.specs.declared.leaf.Leaf.{Leaf}
-use Rattle.bw_codec.specs.declared.block.Place.{Place}
-use Rattle.bw_codec.specs.declared.block.Block.{Block}
-use Rattle.bw_codec.specs.declared.block.Block.TheVariants.{Delta, Split}
+use Rattle.bw_record.specs.declared.block.Place.{Place}
+use Rattle.bw_record.specs.declared.block.Block.{Block}
+use Rattle.bw_record.specs.declared.block.Block.TheVariants.{Delta, Split}
 use Rattle.bw_leaf.specs.Changed.{changed}
 use Rattle.bw_page.specs.Leaves.{home, directed_at, leaf_at, result_of, HasPage, AreLeaves}
 use Rattle.bw_leaf.specs.SplitRule.{upper_of}

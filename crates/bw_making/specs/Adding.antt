@@ -4,10 +4,10 @@ use Rattle.std.specs.Prelude.{ℕ, ◌+◌, ◌-◌, nat_le, if◌then◌else◌
 use Rattle.bw_record.specs.Record.{key_of}
 use Rattle.bw_record.specs.declared.record.Record.{Record}
 use Rattle.bw_record.specs.declared.leaf.Leaf.{Leaf}
-use Rattle.bw_codec.specs.declared.block.Place.{Place}
-use Rattle.bw_codec.specs.declared.block.Block.{Block}
-use Rattle.bw_codec.specs.declared.block.Block.TheVariants.{Delta, Split}
-use Rattle.bw_codec.specs.declared.block.Frame.{Frame}
+use Rattle.bw_record.specs.declared.block.Place.{Place}
+use Rattle.bw_record.specs.declared.block.Block.{Block}
+use Rattle.bw_record.specs.declared.block.Block.TheVariants.{Delta, Split}
+use Rattle.bw_record.specs.declared.block.Frame.{Frame}
 use Rattle.bw_leaf.specs.Changed.{changed}
 use Rattle.bw_page.specs.Leaves.{home, directed_at, applied}
 use Rattle.bw_leaf.specs.SplitRule.{upper_of}

@@ -1,9 +1,9 @@
 -- The frame in the making, as it begins.
 
 use Rattle.std.specs.Prelude.{ℕ, ◌≡◌, ◌⊎◌, Some, None, false, [], ◌∷◌}
-use Rattle.bw_codec.specs.declared.block.Place.{Place}
-use Rattle.bw_codec.specs.declared.block.Block.TheVariants.{Base}
-use Rattle.bw_codec.specs.declared.block.Frame.{Frame}
+use Rattle.bw_record.specs.declared.block.Place.{Place}
+use Rattle.bw_record.specs.declared.block.Block.TheVariants.{Base}
+use Rattle.bw_record.specs.declared.block.Frame.{Frame}
 use Rattle.bw_leaf.specs.Changed.{empty_leaf}
 use Rattle.bw_buffer.specs.Filling.{Filling}
 use Rattle.bw_log.specs.Segments.{following}

@@ -2,8 +2,8 @@
 
 use Rattle.std.specs.Prelude.{ℕ, ◌==◌, ◌||◌, Bool, false, List}
 use Rattle.std.specs.List.{list_any}
-use Rattle.bw_codec.specs.declared.block.Block.{Block}
-use Rattle.bw_codec.specs.declared.block.Block.TheVariants.{Delta, Base, Split}
+use Rattle.bw_record.specs.declared.block.Block.{Block}
+use Rattle.bw_record.specs.declared.block.Block.TheVariants.{Delta, Base, Split}
 use Rattle.bw_buffer.specs.declared.mark.Mark.{Mark}
 use Rattle.bw_buffer.specs.declared.mark.Mark.TheVariants.{Changes, Sets, Splits}
 

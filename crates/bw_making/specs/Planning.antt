@@ -1,7 +1,7 @@
 -- What one record adds where it splits its page: its blocks as a list, and why they are not planned.
 
 use Rattle.std.specs.Prelude.{ℕ, ◌<◌, ◌≤◌, ◌-◌, ◌^◌, List}
-use Rattle.bw_codec.specs.declared.block.Block.{Block}
+use Rattle.bw_record.specs.declared.block.Block.{Block}
 use Rattle.bw_page.specs.declared.fault.ApplyError.{ApplyError}
 use Rattle.bw_page.specs.declared.fault.ApplyError.TheVariants.{NoMemory, Spent}
 use Rattle.bw_making.specs.declared.blocks.Blocks.{Blocks}

@@ -3,7 +3,7 @@
 ghost use Rattle.std.specs.Prelude.{◌≡◌, ◌≤◌, ◌∷◌, [], length, true, false, IfOk, IfSome};
 ghost use Rattle.std.specs.List.{AllByRecursion};
 ghost use Rattle.bw_codec.specs.Grammar.{IsBlock};
-ghost use Rattle.bw_codec.specs.declared.block.Block.TheVariants.{Base};
+ghost use Rattle.bw_record.specs.declared.block.Block.TheVariants.{Base};
 ghost use Rattle.bw_buffer.specs.Filling.{size_of, with_all};
 ghost use Rattle.bw_leaf.specs.Changed.{empty_leaf};
 ghost use Rattle.bw_making.specs.Begun.{first_making, IsNext};

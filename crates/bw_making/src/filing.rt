@@ -7,7 +7,7 @@ ghost use Rattle.std.specs.Prelude.{◌≡◌, ◌≤◌, ◌<◌, ◌+◌, ◌-
 ghost use Rattle.std.specs.List.{AllByRecursion, fold};
 ghost use Rattle.std.specs.Vec.{vec_capacity};
 ghost use Rattle.bw_codec.specs.Grammar.{IsBlock};
-ghost use Rattle.bw_codec.specs.declared.block.Block.TheVariants.{Delta};
+ghost use Rattle.bw_record.specs.declared.block.Block.TheVariants.{Delta};
 ghost use Rattle.bw_buffer.specs.Filling.{frame_of, size_of, with_all};
 ghost use Rattle.bw_making.specs.Adding.{here_for, last_for, noted};
 ghost use Rattle.bw_making.specs.Drafting.{AreIn, count_by, set_row};

@@ -7,11 +7,11 @@ use Rattle.std.specs.Prelude.{Option, if◌then◌else◌}
 use Rattle.std.proofs.lemmas.Bool.{cases_lt}
 use Rattle.std.proofs.lemmas.List.{same_lists}
 use Rattle.std.proofs.lemmas.Option.{slice_get-get_or}
-use Rattle.bw_codec.specs.Touch.{touches}
+use Rattle.bw_record.specs.Touch.{touches}
 use Rattle.bw_record.specs.declared.leaf.Leaf.{Leaf}
-use Rattle.bw_codec.specs.declared.block.Block.{Block}
-use Rattle.bw_codec.specs.declared.block.Block.TheVariants.{Delta, Base, Split}
-use Rattle.bw_codec.specs.declared.block.Frame.{Frame}
+use Rattle.bw_record.specs.declared.block.Block.{Block}
+use Rattle.bw_record.specs.declared.block.Block.TheVariants.{Delta, Base, Split}
+use Rattle.bw_record.specs.declared.block.Frame.{Frame}
 use Rattle.bw_leaf.specs.Changed.{empty_leaf}
 use Rattle.bw_page.specs.Leaves.{leaf_at}
 use Rattle.bw_leaf.specs.Forwards.{after, content, blocks_of}

@@ -6,8 +6,8 @@ use Rattle.std.specs.Prelude.{codes, ◌==◌}
 use Rattle.bw_record.specs.declared.leaf.Leaf.{Leaf}
 use Rattle.bw_record.specs.declared.record.Record.{Record}
 use Rattle.bw_record.specs.declared.record.Record.TheVariants.{Put, Del}
-use Rattle.bw_codec.specs.declared.block.Block.TheVariants.{Delta, Base}
-use Rattle.bw_codec.specs.declared.block.Frame.{Frame}
+use Rattle.bw_record.specs.declared.block.Block.TheVariants.{Delta, Base}
+use Rattle.bw_record.specs.declared.block.Frame.{Frame}
 use Rattle.bw_leaf.specs.Changed.{Bytes, empty_leaf}
 use Rattle.bw_page.specs.Leaves.{directed_at, pages, leaf_at}
 use Rattle.bw_leaf.specs.Forwards.{content, blocks_of}

@@ -6,7 +6,7 @@ use Rattle.bw_record.specs.Keys.{is_below, ascends}
 use Rattle.bw_record.specs.Lawful.{IsOp}
 use Rattle.bw_codec.specs.Grammar.{IsBase}
 use Rattle.bw_record.specs.Record.{key_of}
-use Rattle.bw_codec.specs.declared.block.Frame.{Frame}
+use Rattle.bw_record.specs.declared.block.Frame.{Frame}
 use Rattle.bw_record.specs.declared.leaf.Leaf.{Leaf}
 use Rattle.bw_record.specs.declared.record.Record.{Record}
 use Rattle.bw_leaf.specs.declared.chain.Link.{Link}

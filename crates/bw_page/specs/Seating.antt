@@ -4,7 +4,7 @@ use Rattle.std.specs.Prelude.{ℕ, ◌+◌, ◌-◌, ◌≡◌, List, [], ◌∷
 use Rattle.std.specs.Vec.{vec_len, vec_capacity}
 use Rattle.bw_codec.specs.Grammar.{block_bytes}
 use Rattle.bw_record.specs.declared.leaf.Leaf.{Leaf}
-use Rattle.bw_codec.specs.declared.block.Block.TheVariants.{Base}
+use Rattle.bw_record.specs.declared.block.Block.TheVariants.{Base}
 use Rattle.bw_page.specs.declared.seats.Seat.TheInside.{Inside as SeatInside}
 use Rattle.bw_page.specs.declared.seats.Seats.TheInside.{Inside as SeatsInside}
 use Rattle.bw_page.specs.Seats.{Seated, Seating}

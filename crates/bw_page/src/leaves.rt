@@ -10,7 +10,7 @@ ghost use Rattle.std.specs.FinMap.Entries.{find};
 ghost use Rattle.bw_record.specs.Keys.{ascends};
 ghost use Rattle.bw_codec.specs.Grammar.{block_bytes};
 ghost use Rattle.bw_record.specs.Record.{key_of};
-ghost use Rattle.bw_codec.specs.declared.block.Block.TheVariants.{Base};
+ghost use Rattle.bw_record.specs.declared.block.Block.TheVariants.{Base};
 ghost use Rattle.bw_leaf.specs.Changed.{order, empty_leaf, changed_map};
 ghost use Rattle.bw_page.specs.Leaves.{home, leaf_at, directed_at, result_of, AreLeaves, union};
 ghost use Rattle.bw_page.specs.Shown.{TakesKey, IsSpent, after_record, is_evicted_page, leaf_here, IsHere, applied_by};

@@ -5,7 +5,7 @@
 ghost use Rattle.std.specs.Prelude.{ℕ, ◌≡◌, ◌==◌, ◌<◌, ◌≤◌, ◌+◌, ◌-◌, ◌++◌, ◌^◌, [], ◌∷◌, true, false, None, Some, length, take, slice_get, slice_set, slice_index_or, if◌then◌else◌, IfSome, IsOk, IfOk, OnOk, OnErr, IsTrue};
 ghost use Rattle.std.specs.List.{AllByRecursion};
 ghost use Rattle.bw_codec.specs.Grammar.{block_bytes, IsBase};
-ghost use Rattle.bw_codec.specs.declared.block.Block.TheVariants.{Base};
+ghost use Rattle.bw_record.specs.declared.block.Block.TheVariants.{Base};
 ghost use Rattle.std.specs.Option.{option_copied};
 ghost use Rattle.bw_record.specs.declared.leaf.Leaf.{Leaf as LeafValue};
 ghost use Rattle.std.specs.FinMap.Entries.{find};

@@ -1,7 +1,7 @@
 -- A store that was just opened, over empty segments or over what was recovered.
 
 use Rattle.std.specs.Prelude.{ℕ, ◌≤◌, List}
-use Rattle.bw_codec.specs.declared.block.Place.{Place}
+use Rattle.bw_record.specs.declared.block.Place.{Place}
 use Rattle.bw_page.specs.Shown.{Shown}
 use Rattle.bw_buffer.specs.Filling.{Filling}
 use Rattle.bw_device.specs.Holding.{Holding}

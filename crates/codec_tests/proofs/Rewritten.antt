@@ -9,8 +9,8 @@ use Rattle.bw_codec.specs.Grammar.{IsBaseIn, IsBlockIn, IsBlock}
 use Rattle.bw_record.specs.declared.record.Record.{Record}
 use Rattle.bw_record.specs.declared.record.Record.TheVariants.{Put, Del}
 use Rattle.bw_record.specs.declared.leaf.Leaf.{Leaf}
-use Rattle.bw_codec.specs.declared.block.Block.{Block}
-use Rattle.bw_codec.specs.declared.block.Block.TheVariants.{Delta, Base, Split}
+use Rattle.bw_record.specs.declared.block.Block.{Block}
+use Rattle.bw_record.specs.declared.block.Block.TheVariants.{Delta, Base, Split}
 
 less_of : (old : Bool) (x y : ℕ) → x ≤ y → (if old then x else y) ≤ y
 less_of true x y less = less

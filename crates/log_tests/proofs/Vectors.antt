@@ -6,8 +6,8 @@ use Rattle.bw_codec.specs.Bytes.{number_bytes}
 use Rattle.bw_codec.specs.Reading.{front_at, heading_of, text_at, value_at, op_at, pair_at, many_at, place_at, page_at, pairs_at, delta_at, base_at}
 use Rattle.bw_codec.specs.Reading.{upper_at, split_at}
 use Rattle.bw_codec.specs.Reading.{block_at, head_at}
-use Rattle.bw_codec.specs.declared.block.Block.TheVariants.{Delta}
-use Rattle.bw_codec.specs.declared.block.Frame.{Frame}
+use Rattle.bw_record.specs.declared.block.Block.TheVariants.{Delta}
+use Rattle.bw_record.specs.declared.block.Frame.{Frame}
 use Rattle.bw_device.specs.Holding.{Holding}
 use Rattle.bw_log.specs.Places.{place_of, base_of, bad_link, all_placed, first_number, AreLinked}
 use Rattle.bw_log.specs.Segments.{segment_frames, frames_at, frames_of, next_of}

@@ -3,7 +3,7 @@
 use Rattle.std.proofs.Common.{◌≡◌, ℕ, suc, ◌+◌, Bool, true, Some, ap, ◌∙◌, Result, Ok, Err, List, [], ◌∷◌, ◌++◌, length, take, drop, refl}
 use Rattle.std.specs.List.{AllByRecursion}
 use Rattle.bw_record.specs.declared.leaf.Leaf.{Leaf}
-use Rattle.bw_codec.specs.declared.block.Block.TheVariants.{Base}
+use Rattle.bw_record.specs.declared.block.Block.TheVariants.{Base}
 use Rattle.bw_codec.specs.Bytes.{number_bytes}
 use Rattle.bw_codec.specs.Reading.{front_at, heading_of, text_at, value_at, op_at, pair_at, many_at, place_at, page_at, pairs_at, delta_at, base_at}
 use Rattle.bw_codec.specs.Reading.{upper_at, split_at}

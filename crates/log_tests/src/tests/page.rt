@@ -2,7 +2,7 @@
 
 ghost use Rattle.std.specs.Prelude.{◌≡◌, ◌≤◌, ◌∷◌, [], true, IfSome, OnOk, OnSome};
 ghost use Rattle.bw_codec.specs.Grammar.{IsBlock};
-ghost use Rattle.bw_codec.specs.declared.block.Block.TheVariants.{Delta};
+ghost use Rattle.bw_record.specs.declared.block.Block.TheVariants.{Delta};
 ghost use Rattle.bw_record.specs.declared.record.Record.TheVariants.{Put};
 ghost use Rattle.bw_buffer.specs.Filling.{frame_of};
 ghost use Rattle.bw_log.specs.Appends.{MayFollow, AfterAppend};

@@ -1,7 +1,7 @@
 use Rattle.std.proofs.Common.{◌+◌, List, [], ◌∷◌, ◌++◌, subst}
 use Rattle.std.proofs.lemmas.Result.{err_from_is_err_and}
-use Rattle.bw_codec.specs.declared.block.Block.{Block}
-use Rattle.bw_codec.specs.declared.block.Frame.{Frame}
+use Rattle.bw_record.specs.declared.block.Block.{Block}
+use Rattle.bw_record.specs.declared.block.Frame.{Frame}
 use Rattle.bw_log.specs.Places.{placed, all_placed, bad_link}
 use Rattle.bw_care.specs.Behind.{frames_behind}
 use Rattle.bw_lines.specs.Reading.{IsRead, LinkFaultIs}

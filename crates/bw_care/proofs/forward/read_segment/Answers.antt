@@ -1,7 +1,7 @@
 use Rattle.std.proofs.Common.{[], ◌++◌, ◌∙◌, List, IfErr, OnOk, sym, ap, subst}
-use Rattle.bw_codec.specs.declared.block.Frame.{Frame}
-use Rattle.bw_codec.specs.declared.block.Header.{Header}
-use Rattle.bw_codec.specs.declared.block.HeaderRead.TheVariants as heading
+use Rattle.bw_record.specs.declared.block.Frame.{Frame}
+use Rattle.bw_codec.specs.declared.head.Header.{Header}
+use Rattle.bw_codec.specs.declared.head.HeaderRead.TheVariants as heading
 use Rattle.bw_log.specs.Places.{all_placed, bad_link}
 use Rattle.bw_care.specs.Behind.{frames_behind, EndsInTail}
 use Rattle.bw_lines.specs.Reading.{IsRead, LinkFaultIs}

@@ -1,8 +1,8 @@
 use Rattle.std.proofs.Common.{List, [], ◌∷◌, ◌++◌, ◌≡◌, ◌<◌, ◌^◌, map, arith, rules, subst, ◌∙◌, ap}
 use Rattle.std.specs.List.{flat_map, AllByRecursion}
 use Rattle.bw_codec.specs.Grammar.{frame_bytes_in, IsFrameIn}
-use Rattle.bw_codec.specs.declared.block.Frame.{Frame}
-use Rattle.bw_codec.specs.declared.block.FrameRead.TheVariants.{Whole, Tail}
+use Rattle.bw_record.specs.declared.block.Frame.{Frame}
+use Rattle.bw_codec.specs.declared.head.FrameRead.TheVariants.{Whole, Tail}
 use Rattle.bw_codec.proofs.FrontFormat.{is_front}
 use Rattle.bw_log.specs.Segments.{entries_from}
 use Rattle.bw_care.specs.Scanning.{rest_of}

@@ -1,5 +1,5 @@
 use Rattle.std.proofs.Common.{◌-◌, List, length}
-use Rattle.bw_codec.specs.declared.block.Frame.{Frame}
+use Rattle.bw_record.specs.declared.block.Frame.{Frame}
 use Rattle.bw_care.proofs.FrontsRead.{IsReadTo}
 use Rattle.bw_care.proofs.scan.read_behind.Given as goal
 

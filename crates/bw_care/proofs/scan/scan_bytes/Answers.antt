@@ -1,7 +1,7 @@
 use Rattle.std.proofs.Common.{◌≡◌, sym, ap, ◌∙◌, length, List, ℕ}
 use Rattle.std.proofs.lemmas.Bool.{true≢false, eq-eqb}
 use Rattle.std.proofs.lemmas.Result.{err_from_is_err_and}
-use Rattle.bw_codec.specs.declared.block.HeaderRead.TheVariants as heading
+use Rattle.bw_codec.specs.declared.head.HeaderRead.TheVariants as heading
 use Rattle.bw_care.proofs.HeadersRead.{header_long, heading_told, fault_told, fault_whole, fault_part, fault_same}
 use Rattle.bw_care.proofs.scan.scan_bytes.Goals as goal
 

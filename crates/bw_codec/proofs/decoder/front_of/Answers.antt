@@ -1,7 +1,7 @@
 use Rattle.std.proofs.Common.{◌≡◌, ◌==◌, ◌≤◌, ℕ, false, Some, None, List, length, take, refl, sym, ◌∙◌}
 use Rattle.std.proofs.lemmas.Bool.{le-ltb}
 use Rattle.bw_codec.specs.Reading.{many_at, block_at, head_at, front_at}
-use Rattle.bw_codec.specs.declared.block.Block.{Block}
+use Rattle.bw_record.specs.declared.block.Block.{Block}
 use Rattle.bw_codec.proofs.decoder.front_of.Goals as goal
 
 -- blocks with bytes behind them are no body

@@ -2,10 +2,10 @@ use Rattle.std.proofs.Common.{◌≡◌, ◌==◌, ◌<◌, ℕ, true, false, Li
 use Rattle.std.proofs.lemmas.Bool.{lt-ltb, eqb-false}
 use Rattle.std.proofs.lemmas.List.{take_rest}
 use Rattle.byteorder.specs.Endian.{little_number}
-use Rattle.bw_codec.specs.declared.block.Header.{Header}
+use Rattle.bw_codec.specs.declared.head.Header.{Header}
 use Rattle.bw_codec.specs.Grammar.{agrees, segment_word}
 use Rattle.bw_codec.specs.Reading.{version_in, header_in, heading_of}
-use Rattle.bw_codec.specs.declared.block.HeaderRead.TheVariants.{Part}
+use Rattle.bw_codec.specs.declared.head.HeaderRead.TheVariants.{Part}
 use Rattle.bw_codec.proofs.Heading.{no_header_there, header_told}
 use Rattle.bw_codec.proofs.decoder.heading.Goals as goal
 

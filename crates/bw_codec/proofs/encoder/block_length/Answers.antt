@@ -1,7 +1,7 @@
 use Rattle.std.proofs.Common.{◌≡◌, ◌+◌, length, arith, ap, subst, sym}
 use Rattle.std.specs.List.{flat_map}
 use Rattle.bw_codec.specs.Grammar.{op_bytes, pair_bytes, block_bytes}
-use Rattle.bw_codec.specs.declared.block.Block.{Block}
+use Rattle.bw_record.specs.declared.block.Block.{Block}
 use Rattle.bw_codec.proofs.Lengths.{length-delta, length-base, length-split}
 use Rattle.bw_codec.proofs.encoder.block_length.Goals as goal
 

@@ -2,7 +2,7 @@ use Rattle.std.proofs.Common.{[], ◌∷◌, ◌++◌, length, arith, subst, sym
 use Rattle.bw_codec.specs.Bytes.{number_bytes}
 use Rattle.bw_codec.specs.Grammar.{place_bytes, upper_bytes, block_bytes}
 use Rattle.bw_codec.specs.Writing.{HasRoom, Adds}
-use Rattle.bw_codec.specs.declared.block.Block.{Block}
+use Rattle.bw_record.specs.declared.block.Block.{Block}
 use Rattle.bw_codec.proofs.Adding.{adds_then}
 use Rattle.bw_codec.proofs.FrontFormat.{length-number}
 use Rattle.bw_codec.proofs.Lengths.{length-delta, length-base, length-split}

@@ -1,5 +1,5 @@
 use Rattle.std.proofs.Common.{◌≡◌, ℕ, Some, List, refl}
-use Rattle.bw_codec.specs.declared.block.Place.{Place}
+use Rattle.bw_record.specs.declared.block.Place.{Place}
 use Rattle.bw_codec.specs.Reading.{page_at, place_at}
 use Rattle.bw_codec.specs.Skipping.{upper_after, split_after}
 use Rattle.bw_codec.proofs.outline.skip_split.Goals as goal

@@ -1,7 +1,7 @@
 use Rattle.std.proofs.Common.{refl}
 use Rattle.std.specs.BTreeMap as tree
 use Rattle.std.specs.Ordering.{nat_cmp}
-use Rattle.bw_codec.specs.declared.block.Block.TheVariants.{Base}
+use Rattle.bw_record.specs.declared.block.Block.TheVariants.{Base}
 use Rattle.bw_lines.proofs.LinesAfter.{base_told}
 use Rattle.bw_lines.proofs.page_lines.read_base.Goals as goal
 

@@ -1,6 +1,6 @@
 use Rattle.std.proofs.Common.{◌≡◌, List, ◌++◌, take}
-use Rattle.bw_codec.specs.declared.block.Place.{Place}
-use Rattle.bw_codec.specs.declared.block.Block.{Block}
+use Rattle.bw_record.specs.declared.block.Place.{Place}
+use Rattle.bw_record.specs.declared.block.Block.{Block}
 use Rattle.bw_log.specs.Places.{placed}
 use Rattle.bw_lines.specs.Reading.{IsRead}
 use Rattle.bw_lines.proofs.page_lines.read_blocks_linked.Given as goal

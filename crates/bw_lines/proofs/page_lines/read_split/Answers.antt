@@ -1,7 +1,7 @@
 use Rattle.std.proofs.Common.{refl}
 use Rattle.std.specs.BTreeMap as tree
 use Rattle.std.specs.Ordering.{nat_cmp}
-use Rattle.bw_codec.specs.declared.block.Block.TheVariants.{Split}
+use Rattle.bw_record.specs.declared.block.Block.TheVariants.{Split}
 use Rattle.bw_lines.proofs.LinesAfter.{split_told}
 use Rattle.bw_lines.proofs.page_lines.read_split.Goals as goal
 

@@ -1,6 +1,6 @@
 use Rattle.std.proofs.Common.{◌≡◌, ◌≤◌, ◌<◌, ◌^◌, ℕ, length}
 use Rattle.bw_codec.specs.Grammar.{frame_bytes_in, IsFrameIn}
-use Rattle.bw_codec.specs.declared.block.Frame.{Frame}
+use Rattle.bw_record.specs.declared.block.Frame.{Frame}
 use Rattle.bw_log.proofs.Looked.{Passed}
 use Rattle.bw_log.proofs.starts.starts_in.Given as goal
 

@@ -1,5 +1,5 @@
 use Rattle.std.proofs.Common.{ap}
-use Rattle.bw_codec.specs.declared.block.Place.{Place}
+use Rattle.bw_record.specs.declared.block.Place.{Place}
 use Rattle.bw_making.proofs.Filed.{filed_two, first_here, last_here}
 use Rattle.bw_making.proofs.filing.file.Goals as goal
 

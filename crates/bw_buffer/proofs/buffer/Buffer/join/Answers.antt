@@ -1,7 +1,7 @@
 use Rattle.std.proofs.Common.{◌∙◌, ◌+◌, ◌∷◌, ℕ, [], length, refl, ap, arith}
 use Rattle.std.specs.List.{flat_map}
 use Rattle.bw_codec.specs.Grammar.{op_bytes}
-use Rattle.bw_codec.specs.declared.block.Block.TheVariants.{Delta}
+use Rattle.bw_record.specs.declared.block.Block.TheVariants.{Delta}
 use Rattle.bw_buffer.specs.Filling.{Filling, with_all}
 use Rattle.bw_buffer.specs.Joining.{joins_of, joined}
 use Rattle.bw_buffer.specs.Laid.{blocks_of, Holds}

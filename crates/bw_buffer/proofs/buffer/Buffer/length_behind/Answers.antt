@@ -1,7 +1,7 @@
 use Rattle.std.proofs.Common.{ℕ, ◌≡◌, true, refl, ap, arith, length, if◌then◌else◌}
 use Rattle.bw_codec.specs.Grammar.{block_bytes}
-use Rattle.bw_codec.specs.declared.block.Block.{Block}
-use Rattle.bw_codec.specs.declared.block.Block.TheVariants.{Delta}
+use Rattle.bw_record.specs.declared.block.Block.{Block}
+use Rattle.bw_record.specs.declared.block.Block.TheVariants.{Delta}
 use Rattle.bw_codec.proofs.Lengths.{length-delta}
 use Rattle.bw_buffer.specs.Joining.{open_records, takes, added}
 use Rattle.bw_buffer.proofs.Sizes.{joined_size, more_for}

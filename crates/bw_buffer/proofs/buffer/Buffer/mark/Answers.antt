@@ -1,7 +1,7 @@
 use Rattle.std.proofs.Common.{◌≡◌, Option, Some, None, length, ap, ◌∙◌, arith}
 use Rattle.std.specs.Prelude.{IfSome}
 use Rattle.std.specs.List.{slice_get}
-use Rattle.bw_codec.specs.declared.block.Block.{Block}
+use Rattle.bw_record.specs.declared.block.Block.{Block}
 use Rattle.bw_buffer.specs.Filling.{Filling}
 use Rattle.bw_buffer.specs.Laid.{blocks_of, parts_of}
 use Rattle.bw_buffer.specs.Marks.{mark_of}

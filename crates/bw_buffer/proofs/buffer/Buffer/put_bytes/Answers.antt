@@ -2,7 +2,7 @@ use Rattle.std.proofs.Common.{◌≡◌, ◌∙◌, ◌+◌, ◌∷◌, ◌++◌
 use Rattle.std.specs.Prelude.{◌==◌}
 use Rattle.bw_codec.specs.Grammar.{block_bytes, IsBlock}
 use Rattle.bw_record.specs.declared.leaf.Leaf.{Leaf}
-use Rattle.bw_codec.specs.declared.block.Block.TheVariants.{Base}
+use Rattle.bw_record.specs.declared.block.Block.TheVariants.{Base}
 use Rattle.bw_buffer.specs.Filling.{Filling}
 use Rattle.bw_buffer.specs.Index.{index_at}
 use Rattle.bw_buffer.specs.Laid.{blocks_of, Holds}

@@ -2,8 +2,8 @@ use Rattle.std.proofs.Common.{◌≡◌, ◌∙◌, ◌+◌, ◌∷◌, ◌++◌
 use Rattle.std.specs.Prelude.{◌==◌}
 use Rattle.std.specs.List.{flat_map}
 use Rattle.bw_codec.specs.Grammar.{op_bytes, block_bytes}
-use Rattle.bw_codec.specs.declared.block.Block.{Block}
-use Rattle.bw_codec.specs.declared.block.Block.TheVariants.{Delta}
+use Rattle.bw_record.specs.declared.block.Block.{Block}
+use Rattle.bw_record.specs.declared.block.Block.TheVariants.{Delta}
 use Rattle.bw_codec.proofs.Lengths.{length-delta}
 use Rattle.bw_buffer.specs.Filling.{Filling}
 use Rattle.bw_buffer.specs.Index.{index_at}

@@ -1,7 +1,7 @@
 use Rattle.std.proofs.Common.{◌≡◌, ◌∙◌, ◌+◌, ◌∷◌, ◌++◌, ℕ, List, [], None, Option, false, length, refl, ap, arith, if◌then◌else◌}
 use Rattle.bw_codec.specs.Grammar.{block_bytes}
-use Rattle.bw_codec.specs.declared.block.Block.{Block}
-use Rattle.bw_codec.specs.declared.block.Block.TheVariants.{Delta, Base, Split}
+use Rattle.bw_record.specs.declared.block.Block.{Block}
+use Rattle.bw_record.specs.declared.block.Block.TheVariants.{Delta, Base, Split}
 use Rattle.bw_buffer.specs.Filling.{Filling}
 use Rattle.bw_buffer.specs.Joining.{joined, is_delta, open_after}
 use Rattle.bw_buffer.specs.Index.{index_at}

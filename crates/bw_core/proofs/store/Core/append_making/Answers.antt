@@ -1,5 +1,5 @@
 use Rattle.std.proofs.Common.{ℕ, List, ap, refl, ◌∙◌, arith, rules}
-use Rattle.bw_codec.specs.declared.block.Block.{Block}
+use Rattle.bw_record.specs.declared.block.Block.{Block}
 use Rattle.bw_making.specs.Overlay.{is_made}
 use Rattle.bw_core.specs.Views.{kept_by}
 use Rattle.bw_history.specs.History.{are_whole}

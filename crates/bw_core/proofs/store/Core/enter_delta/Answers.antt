@@ -1,7 +1,7 @@
 use Rattle.std.proofs.Common.{◌≡◌, [], ◌∷◌, ◌∙◌, ◌+◌, ◌++◌, ◌-◌, ℕ, refl, List, true, length, map, ap, subst, sym, arith, rules}
 use Rattle.bw_record.specs.declared.record.Record.{Record}
 use Rattle.bw_codec.specs.Grammar.{IsBlock}
-use Rattle.bw_codec.specs.declared.block.Block.TheVariants.{Delta}
+use Rattle.bw_record.specs.declared.block.Block.TheVariants.{Delta}
 use Rattle.bw_buffer.specs.Filling.{Filling, frame_of, with_all}
 use Rattle.bw_buffer.proofs.Holding.{got}
 use Rattle.bw_page.specs.Seats.{is_among}

@@ -1,7 +1,7 @@
 use Rattle.std.proofs.Common.{◌+◌, List, length, sym, subst, ap, ◌∙◌, arith}
 use Rattle.std.specs.List.{AllByRecursion}
 use Rattle.bw_codec.specs.Grammar.{IsBlock}
-use Rattle.bw_codec.specs.declared.block.Place.{Place}
+use Rattle.bw_record.specs.declared.block.Place.{Place}
 use Rattle.bw_making.specs.Drafting.{Added}
 use Rattle.bw_core.specs.Views.{kept_by}
 use Rattle.bw_core.proofs.LayMore.{lay_inside, lay_few, lay_ahead, lay_stands, draft_room, draft_full, length_steps}
