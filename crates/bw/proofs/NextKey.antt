@@ -3,10 +3,10 @@
 use Rattle.std.proofs.Common.{◌≡◌, ℕ, suc, ◌+◌, ◌-◌, ◌<◌, ◌≤◌, Some, None, [], ◌∷◌, ◌++◌, length, take, get_or, refl, sym, ap, ◌∙◌, arith}
 use Rattle.std.proofs.lemmas.List.{append_assoc, append-nil, length-take-le, take_all, take_more}
 use Rattle.bw_record.specs.Keys.{is_below, IsBytes}
+use Rattle.bw_record.proofs.Order.{Below, not_both, must_not, below-upto, below_first}
 use Rattle.bw_leaf.specs.Changed.{Bytes}
-use Rattle.bw_leaf.proofs.Order.{Below, not_both, must_not, below-upto}
 use Rattle.bw_walks.specs.Back.{IsNextBelow}
-use Rattle.bw_walks.proofs.Backwards.{below_first, filled, front_next, filled_next}
+use Rattle.bw_walks.proofs.Backwards.{filled, front_next, filled_next}
 use Rattle.bw.specs.Keys.{IsAfter}
 
 -- where a key is the greatest below another, the other is the least above it

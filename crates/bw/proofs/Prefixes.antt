@@ -10,10 +10,9 @@ use Rattle.std.specs.Cmp.Lexicographic.{slice_cmp}
 use Rattle.std.specs.FinMap as finite
 use Rattle.std.specs.declared.cmp.Ordering.TheVariants.{Less, Equal, Greater}
 use Rattle.bw_record.specs.Keys.{is_below, IsBytes, IsKey}
+use Rattle.bw_record.proofs.Order.{Below, UpTo, not_both, upto_empty, upto-trans, below_upto, below_first, same_first}
 use Rattle.bw_leaf.specs.Changed.{Bytes, Map}
-use Rattle.bw_leaf.proofs.Order.{Below, UpTo, not_both, upto_empty, upto-trans, below_upto}
 use Rattle.bw_page.specs.Ahead.{IsFirst, IsFirstPair}
-use Rattle.bw_walks.proofs.Backwards.{below_first, same_first}
 use Rattle.bw_core.specs.Following.{Follows}
 use Rattle.bw_core.specs.Kept.{Kept}
 use Rattle.bw_core.proofs.FollowMore.{stays_on}

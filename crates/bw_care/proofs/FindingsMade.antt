@@ -25,7 +25,7 @@ use Rattle.bw_care.specs.Parting.{parted}
 use Rattle.bw_care.specs.Ordering.{number_found, sorted, follow_from, AreFound, oldest_number, is_clean_from}
 use Rattle.bw_lines.specs.declared.cause.RecoverCause.TheVariants.{BadConfig}
 use Rattle.bw_care.specs.declared.order.Found.{Found}
-use Rattle.bw_lines.specs.declared.lawful.Pages.{Pages}
+use Rattle.bw_lines.specs.declared.pages.Pages.{Pages}
 use Rattle.bw_care.specs.declared.boxes.Kind.{Kind}
 use Rattle.bw_care.specs.declared.steps.Survey.{Survey}
 use Rattle.bw_care.specs.declared.steps.Findings.{Findings}

@@ -17,8 +17,8 @@ use Rattle.bw_care.specs.Behind.{frames_behind, EndsInTail}
 use Rattle.bw_care.specs.Forward.{IsFramed, AreReady, ForwardStops}
 use Rattle.bw_care.specs.Planned.{as_cause}
 use Rattle.bw_lines.specs.Reading.{LinkFaultIs}
-use Rattle.bw_lines.specs.declared.page_lines.ReadFault.{ReadFault}
-use Rattle.bw_lines.specs.declared.page_lines.ReadFault.TheVariants as read
+use Rattle.bw_lines.specs.declared.links.ReadFault.{ReadFault}
+use Rattle.bw_lines.specs.declared.links.ReadFault.TheVariants as read
 use Rattle.bw_lines.specs.declared.cause.RecoverCause.{RecoverCause}
 use Rattle.bw_care.proofs.FrontsRead.{IsReadTo, ends_bad, bad_there}
 use Rattle.bw_lines.proofs.FramesJoined.{placed_join}

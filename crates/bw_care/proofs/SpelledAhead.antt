@@ -31,7 +31,7 @@ use Rattle.bw_care.specs.Forward.{IsFramed}
 use Rattle.bw_care.specs.Cleaning.{is_old, oldest_last}
 use Rattle.bw_lines.specs.Reading.{IsRead, leaf_in, line_of}
 use Rattle.bw_care.specs.declared.copies.Spot.{Spot}
-use Rattle.bw_lines.specs.declared.page_lines.Line.{Line}
+use Rattle.bw_lines.specs.declared.links.Line.{Line}
 use Rattle.bw_care.proofs.BasesFound.{above}
 use Rattle.bw_care.proofs.BasesLeave.{page_read}
 use Rattle.bw_lines.proofs.LinesTaken.{leaf_is}

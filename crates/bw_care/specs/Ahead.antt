@@ -17,7 +17,7 @@ use Rattle.bw_log.specs.Walking.{StandsAt}
 use Rattle.bw_log.specs.declared.places.FrameAt.{FrameAt}
 use Rattle.bw_lines.specs.Reading.{leaf_in}
 use Rattle.bw_care.specs.declared.copies.Spot.{Spot}
-use Rattle.bw_lines.specs.declared.page_lines.Line.{Line}
+use Rattle.bw_lines.specs.declared.links.Line.{Line}
 
 -- this leaf is the page, as the counted frames leave it
 pub record PageRead (c : Contents) (p : ℕ) (leaf : Leaf) : Type 0 where

@@ -17,8 +17,8 @@ use Rattle.bw_care.specs.declared.scan.Scan.{Scan}
 use Rattle.bw_care.specs.declared.steps.Survey.{Survey}
 use Rattle.bw_care.specs.Parting.{parted}
 use Rattle.bw_care.specs.declared.steps.Findings.{Findings}
-use Rattle.bw_lines.specs.declared.page_lines.ReadFault.{ReadFault}
-use Rattle.bw_lines.specs.declared.page_lines.ReadFault.TheVariants as read
+use Rattle.bw_lines.specs.declared.links.ReadFault.{ReadFault}
+use Rattle.bw_lines.specs.declared.links.ReadFault.TheVariants as read
 use Rattle.bw_lines.specs.declared.cause.RecoverCause.{RecoverCause}
 use Rattle.bw_lines.specs.declared.cause.RecoverCause.TheVariants.{NoMemory, BadConfig, Device, Spent, Empty, BadBytes, Gap, Mixed, BadLink, Unlawful}
 

@@ -10,11 +10,11 @@ use Rattle.std.specs.FinMap.Entries.{find}
 use Rattle.std.proofs.lemmas.List.{take_more}
 use Rattle.std.proofs.lemmas.List.Concat.{flat_map-append}
 use Rattle.bw_record.specs.declared.leaf.Leaf.{Leaf}
+use Rattle.bw_record.proofs.Order.{Below, order-total, apart, upto-refl, not_both}
 use Rattle.bw_codec.specs.Grammar.{IsBase}
 use Rattle.bw_leaf.specs.Changed.{Bytes, Pairs, order, empty_leaf}
 use Rattle.bw_page.specs.Leaves.{home, union, AreLeaves, AreNumbered, AtHome, leaf_at}
 use Rattle.bw_page.specs.Shown.{Shown}
-use Rattle.bw_leaf.proofs.Order.{Below, order-total, apart, upto-refl, not_both}
 use Rattle.bw_leaf.proofs.Sorted.{all-map, Rises, ascends_rises}
 
 -- none of the pairs has the key

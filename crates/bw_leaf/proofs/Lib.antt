@@ -1,4 +1,3 @@
-pub mod Order
 pub mod Seeking
 pub mod Sorted
 pub mod Skipping

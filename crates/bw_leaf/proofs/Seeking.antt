@@ -9,12 +9,9 @@ use Rattle.std.specs.declared.cmp.Ordering.TheVariants.{Less, Equal, Greater}
 use Rattle.bw_record.specs.declared.leaf.Leaf.{Leaf}
 use Rattle.bw_record.specs.declared.record.Record.{Record}
 use Rattle.bw_record.specs.declared.record.Record.TheVariants.{Put, Del}
+use Rattle.bw_record.proofs.Order.{order-same}
 use Rattle.bw_leaf.specs.Changed.{Bytes, Pairs, order, without, changed}
 use Rattle.bw_leaf.specs.Seek.{seek_of, passed, IsWithin}
-
--- only equal keys tie
-pub order-same : (x y : Bytes) → order x y ≡ Equal → x ≡ y
-order-same x y e = slice_cmp-IsAntisymmetric nat_cmp-IsAntisymmetric x y e
 
 -- where a search ended: what a put and a delete make there
 abbrev pub Sought : Bytes → Pairs → (Bytes → Pairs) → Pairs → Result ℕ ℕ → Type 0

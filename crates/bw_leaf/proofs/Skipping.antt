@@ -7,9 +7,9 @@ use Rattle.std.specs.FinMap.Entries.{by_order}
 use Rattle.std.specs.declared.cmp.Ordering.{Ordering}
 use Rattle.std.specs.declared.cmp.Ordering.TheVariants.{Less, Equal, Greater}
 use Rattle.bw_record.specs.Heads.{AreBelow, BeginAbove}
+use Rattle.bw_record.proofs.Order.{is_less, greater_is_below}
 use Rattle.bw_leaf.specs.Changed.{Bytes, Pairs, order}
 use Rattle.bw_leaf.specs.Seek.{seek_of, passed}
-use Rattle.bw_leaf.proofs.Order.{greater_is_below}
 
 above : (r : Ordering) → is_gt r ≡ true → r ≡ Greater
 above Less h = cc
@@ -37,14 +37,9 @@ skipped_search key (p ∷ ps) (suc n) within below =
     passed_again n (seek_of key (drop n ps)) ∙ ap (passed 1) (skipped_search key ps n (omega arith) below.1)
     ∙ sym (ap (λ (o : Ordering). by_order o (Err 0) (Ok 0) (passed 1 (seek_of key ps))) first)
 
-under : (r : Ordering) → is_lt r ≡ true → r ≡ Less
-under Less h = refl
-under Equal h = cc
-under Greater h = cc
-
 first_above : (key : Bytes) (pairs : Pairs) → BeginAbove key pairs → seek_of key pairs ≡ Err 0
 first_above key [] above = absurd above
-first_above key (p ∷ ps) above = ap (λ (o : Ordering). by_order o (Err 0) (Ok 0) (passed 1 (seek_of key ps))) (under (order key p.0) above)
+first_above key (p ∷ ps) above = ap (λ (o : Ordering). by_order o (Err 0) (Ok 0) (passed 1 (seek_of key ps))) (is_less (order key p.0) above)
 
 -- where the first pair that is not skipped is above the key, the key stands before it
 pub above_search : (key : Bytes) (pairs : Pairs) (n : ℕ) → n ≤ length pairs → AreBelow key (take n pairs) → BeginAbove key (drop n pairs)

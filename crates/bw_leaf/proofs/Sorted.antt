@@ -14,9 +14,8 @@ use Rattle.bw_codec.specs.Grammar.{first_key}
 use Rattle.bw_record.specs.Record.{key_of}
 use Rattle.bw_record.specs.declared.record.Record.{Record}
 use Rattle.bw_record.specs.declared.record.Record.TheVariants.{Put, Del}
+use Rattle.bw_record.proofs.Order.{order-same, Below, UpTo, order-total, below-trans, below_upto, below-upto, upto-refl, below_apart, above_apart}
 use Rattle.bw_leaf.specs.Changed.{Bytes, Pairs, Map, order, without, changed_pairs, changed_map}
-use Rattle.bw_leaf.proofs.Seeking.{order-same}
-use Rattle.bw_leaf.proofs.Order.{Below, UpTo, order-total, below-trans, below_upto, below-upto, upto-refl, below_apart, above_apart}
 
 -- ---- each element of a list
 

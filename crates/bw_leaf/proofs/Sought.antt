@@ -9,10 +9,10 @@ use Rattle.std.specs.FinMap.Entries.{find, by_order}
 use Rattle.std.specs.declared.cmp.Ordering.TheVariants.{Less, Equal, Greater}
 use Rattle.std.proofs.lemmas.List.{length-drop, take_min}
 use Rattle.bw_record.specs.Keys.{is_below}
+use Rattle.bw_record.proofs.Order.{Below, UpTo, itself, greater_is_below, below-upto, below-trans, below_apart, above_apart}
 use Rattle.bw_leaf.specs.Changed.{Bytes, Pairs, order}
 use Rattle.bw_leaf.specs.Above.{pair_above, pairs_above}
 use Rattle.bw_leaf.specs.Seek.{seek_of, passed, end_of}
-use Rattle.bw_leaf.proofs.Order.{Below, UpTo, itself, greater_is_below, below-upto, below-trans, below_apart, above_apart}
 use Rattle.bw_leaf.proofs.Sorted.{all-map, Rises, find-none}
 
 pub end_passed : (s : Result ℕ ℕ) → end_of (passed 1 s) ≡ suc (end_of s)

@@ -13,8 +13,8 @@ use Rattle.std.specs.Ordering.{is_lt, is_eq, match_ordering}
 use Rattle.std.specs.FinMap.Entries.{put, by_order}
 use Rattle.std.specs.declared.cmp.Ordering.TheVariants.{Less, Equal, Greater}
 use Rattle.bw_record.specs.Keys.{is_below, ascends}
+use Rattle.bw_record.proofs.Order.{Below, UpTo, below-trans, upto-below, below_apart}
 use Rattle.bw_leaf.specs.Changed.{Bytes, Pairs, order, without}
-use Rattle.bw_leaf.proofs.Order.{Below, UpTo, below-trans, upto-below, below_apart}
 use Rattle.bw_leaf.proofs.Sorted.{Rises, ascends_rises, all-map}
 
 -- ---- a put

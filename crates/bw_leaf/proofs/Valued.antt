@@ -7,9 +7,8 @@ use Rattle.std.specs.FinMap.Entries.{find, by_order}
 use Rattle.std.specs.declared.cmp.Ordering.TheVariants.{Less, Equal, Greater}
 use Rattle.bw_leaf.specs.Changed.{Bytes, Pairs, order}
 use Rattle.bw_record.specs.declared.record.Record.TheVariants.{Del}
+use Rattle.bw_record.proofs.Order.{order-same, Below, below_apart, below-trans}
 use Rattle.bw_leaf.specs.Seek.{seek_of, passed, back_of}
-use Rattle.bw_leaf.proofs.Seeking.{order-same}
-use Rattle.bw_leaf.proofs.Order.{Below, below_apart, below-trans}
 use Rattle.bw_leaf.proofs.Sorted.{all-map, Rises, find-none}
 
 -- what the end of a search says of the look-up

@@ -13,13 +13,13 @@ use Rattle.bw_record.specs.declared.record.Record.{Record}
 use Rattle.bw_record.specs.declared.record.Record.TheVariants.{Put, Del}
 use Rattle.bw_record.specs.declared.block.Block.{Block}
 use Rattle.bw_record.specs.declared.block.Block.TheVariants.{Delta, Base, Split}
+use Rattle.bw_record.proofs.Order.{tied}
 use Rattle.bw_leaf.specs.Changed.{Bytes, Pairs, order, changed, changed_pairs, all_changed}
 use Rattle.bw_leaf.specs.Forwards.{after, kept_below}
 use Rattle.bw_leaf.specs.Words.{newer, told_by, word_of, said, record_word, records_word, split_word, block_word, blocks_word, value_on, HasOrder}
 use Rattle.bw_leaf.specs.declared.words.Word.{Word}
 use Rattle.bw_leaf.specs.declared.words.Word.TheVariants.{Silent, Gone, Holds}
 use Rattle.std.proofs.lemmas.Grind.{fold-append}
-use Rattle.bw_leaf.proofs.Order.{tied}
 use Rattle.bw_leaf.proofs.Sorted.{Rises, ascends_rises, rises-changed, find-changed, value_of}
 
 -- ---- words over one another

@@ -9,11 +9,11 @@ use Rattle.bw_record.specs.Touch.{touches}
 use Rattle.bw_record.specs.declared.block.Block.{Block}
 use Rattle.bw_record.specs.declared.block.Block.TheVariants.{Delta, Base, Split}
 use Rattle.bw_record.specs.declared.block.Frame.{Frame}
+use Rattle.bw_record.proofs.Order.{must_not}
 use Rattle.bw_buffer.specs.Marks.{mark_of}
 use Rattle.bw_page.specs.Leaves.{leaf_at}
 use Rattle.bw_leaf.specs.Forwards.{content, blocks_of}
 use Rattle.bw_page.specs.Standing.{Stand}
-use Rattle.bw_leaf.proofs.Order.{must_not}
 use Rattle.bw_log.specs.PageTable.{top_of, top_page}
 use Rattle.bw_lines.specs.Lawful.{HasLawful, contents}
 use Rattle.bw_lines.proofs.PagesAtFault.{NoneAtFault, all_set, contents_at, contents_length, leaves_lawful}

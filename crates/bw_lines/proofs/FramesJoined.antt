@@ -7,8 +7,8 @@ use Rattle.bw_record.specs.declared.block.Block.{Block}
 use Rattle.bw_record.specs.declared.block.Place.{Place}
 use Rattle.bw_record.specs.declared.block.Frame.{Frame}
 use Rattle.bw_log.specs.Places.{placed, all_placed, bad_link}
-use Rattle.bw_lines.specs.declared.page_lines.Line.{Line}
-use Rattle.bw_lines.specs.declared.page_lines.ReadFault.{ReadFault}
+use Rattle.bw_lines.specs.declared.links.Line.{Line}
+use Rattle.bw_lines.specs.declared.links.ReadFault.{ReadFault}
 use Rattle.bw_lines.specs.Reading.{IsRead, LinkFaultIs}
 
 pub popped : {A : Type 0} (old new : List A) (x : A) → old ≡ new ++ x ∷ [] → reverse old ≡ x ∷ reverse new

@@ -10,7 +10,7 @@ use Rattle.bw_record.specs.declared.block.Place.{Place}
 use Rattle.bw_record.specs.declared.leaf.Leaf.{Leaf}
 use Rattle.bw_record.specs.declared.record.Record.{Record}
 use Rattle.bw_leaf.specs.Forwards.{kept_below}
-use Rattle.bw_lines.specs.declared.page_lines.Line.{Line}
+use Rattle.bw_lines.specs.declared.links.Line.{Line}
 use Rattle.bw_log.specs.PageTable.{changed_line, set_line}
 use Rattle.bw_log.specs.declared.places.PageAt.{PageAt}
 use Rattle.bw_lines.specs.Reading.{at_in, leaf_in, changed_by, line_after}

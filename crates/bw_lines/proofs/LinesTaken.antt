@@ -10,12 +10,12 @@ use Rattle.bw_record.specs.declared.block.Block.{Block}
 use Rattle.bw_record.specs.declared.block.Place.{Place}
 use Rattle.bw_record.specs.declared.block.Frame.{Frame}
 use Rattle.bw_record.specs.declared.leaf.Leaf.{Leaf}
+use Rattle.bw_record.proofs.Order.{must_not}
 use Rattle.bw_leaf.specs.Forwards.{after, content, blocks_of}
-use Rattle.bw_leaf.proofs.Order.{must_not}
 use Rattle.bw_log.specs.Places.{later, placed, all_placed, place_of, base_of, walked, walk_to}
 use Rattle.bw_log.specs.Contents.{some_place}
 use Rattle.bw_log.proofs.Walk.{same_after, sets_touches}
-use Rattle.bw_lines.specs.declared.page_lines.Line.{Line}
+use Rattle.bw_lines.specs.declared.links.Line.{Line}
 use Rattle.bw_lines.specs.Reading.{place_in, at_in, leaf_in, line_after, line_of}
 use Rattle.bw_lines.proofs.LinksRead.{place_is}
 use Rattle.bw_log.proofs.Entries.{all_append}

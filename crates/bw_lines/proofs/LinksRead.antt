@@ -15,9 +15,9 @@ use Rattle.bw_log.specs.PageTable.{changed_line, set_line}
 use Rattle.bw_log.specs.declared.places.PageAt.{PageAt}
 use Rattle.bw_log.specs.Places.{placed, later, last_place, is_back, fault_at, fault_of, or_else, bad_link}
 use Rattle.bw_log.proofs.Links.{bad_link-append}
-use Rattle.bw_lines.specs.declared.page_lines.Line.{Line}
-use Rattle.bw_lines.specs.declared.page_lines.ReadFault.{ReadFault}
-use Rattle.bw_lines.specs.declared.page_lines.ReadFault.TheVariants.{NoMemory, BadLink}
+use Rattle.bw_lines.specs.declared.links.Line.{Line}
+use Rattle.bw_lines.specs.declared.links.ReadFault.{ReadFault}
+use Rattle.bw_lines.specs.declared.links.ReadFault.TheVariants.{NoMemory, BadLink}
 use Rattle.bw_lines.specs.Reading.{place_in, at_in, changed_by, line_after, line_of, AreLines, IsRead, LinkFaultIs, IsUnlinked}
 use Rattle.bw_lines.proofs.LinesAfter.{delta_told}
 

@@ -9,8 +9,8 @@ use Rattle.std.proofs.lemmas.Bool.{eq-eqb, true≢false}
 use lib.Pointwise.{bytes_decides}
 use Rattle.bw_record.specs.Keys.{IsKey}
 use Rattle.bw_record.specs.declared.leaf.Leaf.{Leaf}
+use Rattle.bw_record.proofs.Order.{tied, order-total}
 use Rattle.bw_leaf.specs.Changed.{Bytes, order}
-use Rattle.bw_leaf.proofs.Order.{tied, order-total}
 use Rattle.bw_lines.specs.Lawful.{is_same, is_bad_page}
 use Rattle.bw_lines.specs.Paging.{Paged, Rise, has_low, first_with, IsIndex, IsShortIf, first_wrong}
 

@@ -10,8 +10,8 @@ use Rattle.std.proofs.lemmas.Bool.{and_from, eqb-true, ltb-true, ltb-false}
 use lib.Pointwise.{bytes_decides}
 use Rattle.bw_record.specs.Keys.{is_below, IsKey}
 use Rattle.bw_record.specs.declared.leaf.Leaf.{Leaf}
+use Rattle.bw_record.proofs.Order.{is_less, greater_is_below, below-upto, upto_empty, must_not, not_both}
 use Rattle.bw_leaf.specs.Changed.{Bytes, order}
-use Rattle.bw_leaf.proofs.Order.{greater_is_below, below-upto, upto_empty, must_not, not_both}
 use Rattle.bw_lines.specs.Lawful.{is_same, has_low_before, is_astray, is_bad_leaf}
 use Rattle.bw_lines.specs.Paging.{IsNext, is_past, IsLows, taken_before}
 use Rattle.bw_log.proofs.Entries.{all_mapped}
@@ -19,19 +19,11 @@ use Rattle.bw_lines.proofs.Tests.{and_not, not_true}
 
 -- ---- the order
 
-less : (r : Ordering) → is_lt r ≡ true → r ≡ Less
-less Less h = refl
-less Equal h = cc
-less Greater h = cc
-
-is_less : (r : Ordering) → r ≡ Less → is_lt r ≡ true
-is_less r is = ap is_lt is
-
 -- the first of a range above a low is the next one
 pub next_is : (low next : Bytes) (got : Bytes → Option ℕ) → IsKey next → IsSome (got next) → order low next ≡ Less
     → ((k : Bytes) → order low k ≡ Less → IsSome (got k) → is_gt (order next k) ≡ false) → IsNext low got (Some next)
 next_is low next got key some over first =
-    (some, key, ap is_lt over, λ k above held. sym (greater_is_below next k) ∙ first k (less (order low k) above) held)
+    (some, key, ap is_lt over, λ k above held. sym (greater_is_below next k) ∙ first k (is_less (order low k) above) held)
 
 below_some : (x : ℕ) (xs : Bytes) → is_below [] (x ∷ xs) ≡ true
 below_some x xs = refl

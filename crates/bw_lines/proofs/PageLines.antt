@@ -19,16 +19,16 @@ use Rattle.bw_record.specs.declared.block.Block.{Block}
 use Rattle.bw_record.specs.declared.block.Block.TheVariants.{Delta, Base, Split}
 use Rattle.bw_record.specs.declared.block.Place.{Place}
 use Rattle.bw_record.specs.declared.block.Frame.{Frame}
+use Rattle.bw_record.proofs.Order.{must_not}
 use Rattle.bw_buffer.specs.Marks.{mark_of}
 use Rattle.bw_leaf.specs.Changed.{Bytes}
 use Rattle.bw_leaf.specs.Forwards.{content, blocks_of}
-use Rattle.bw_leaf.proofs.Order.{must_not}
 use Rattle.bw_log.specs.PageTable.{top_of, top_page}
 use Rattle.bw_log.specs.Places.{all_placed}
 use Rattle.bw_lines.specs.Lawful.{as_list, leaves_set, is_bad_page, is_at_fault, first_such, contents}
 use Rattle.bw_lines.specs.Paging.{Paged, Rise, has_low, first_with, first_wrong, leaves_in, last_page, line_at, AreOf, IsMapOf}
 use Rattle.bw_lines.specs.Reading.{leaf_in, line_after, line_of}
-use Rattle.bw_lines.specs.declared.page_lines.Line.{Line}
+use Rattle.bw_lines.specs.declared.links.Line.{Line}
 use Rattle.bw_lines.proofs.LinesTaken.{leaf_is, blocks_all}
 use Rattle.bw_lines.proofs.FoundStand.{all_untouched}
 

@@ -13,9 +13,9 @@ use Rattle.bw_record.specs.declared.record.Record.TheVariants.{Put, Del}
 use Rattle.bw_record.specs.declared.leaf.Leaf.{Leaf}
 use Rattle.bw_record.specs.declared.block.Block.{Block}
 use Rattle.bw_record.specs.declared.block.Block.TheVariants.{Delta, Base, Split}
+use Rattle.bw_record.proofs.Order.{Below}
 use Rattle.bw_leaf.specs.Changed.{Bytes, Pairs, changed, all_changed}
 use Rattle.bw_leaf.specs.Forwards.{after, content, kept_below}
-use Rattle.bw_leaf.proofs.Order.{Below}
 use Rattle.bw_leaf.proofs.Sorted.{Rises, ascends_rises, rises_ascends, rises-changed, all-changed, HoldsOfNew}
 
 -- a leaf of page p, of lawful parts, with any number of pairs

@@ -15,9 +15,9 @@ use Rattle.bw_record.specs.declared.block.Block.{Block}
 use Rattle.bw_record.specs.declared.block.Block.TheVariants.{Delta, Base, Split}
 use Rattle.bw_record.specs.declared.block.Place.{Place}
 use Rattle.bw_record.specs.declared.block.Frame.{Frame}
+use Rattle.bw_record.proofs.Order.{must_be, must_not, not_both}
 use Rattle.bw_leaf.specs.Changed.{Bytes}
 use Rattle.bw_leaf.specs.Forwards.{content, blocks_of}
-use Rattle.bw_leaf.proofs.Order.{must_be, must_not, not_both}
 use Rattle.bw_log.specs.PageTable.{top_page}
 use Rattle.bw_log.specs.Places.{all_placed, place_of, base_of, walk_to}
 use Rattle.bw_log.specs.Contents.{IsTable, some_place, entry_place, entry_walk}
@@ -27,9 +27,9 @@ use Rattle.bw_lines.specs.Lawful.{HasLawful, leaves_set, is_at_fault, first_such
 use Rattle.bw_lines.specs.Paging.{Paged, Rise, IsIndex, IsLows, IsShortIf, first_wrong, leaves_in, line_at, AreOf, at_line, fault_among}
 use Rattle.bw_lines.specs.Paging.{IsRight}
 use Rattle.bw_lines.specs.Reading.{place_in, at_in, leaf_in, line_of}
-use Rattle.bw_lines.specs.declared.page_lines.Line.{Line}
+use Rattle.bw_lines.specs.declared.links.Line.{Line}
 use Rattle.bw_page.specs.Leaves.{AreLeaves}
-use Rattle.bw_lines.specs.declared.lawful.Pages.{Pages}
+use Rattle.bw_lines.specs.declared.pages.Pages.{Pages}
 use Rattle.bw_lines.proofs.PageShape.{content_shaped}
 use Rattle.bw_lines.proofs.PagesAtFault.{in_set}
 use Rattle.bw_lines.proofs.LinksRead.{at_place}

@@ -11,11 +11,11 @@ use Rattle.bw_record.specs.Touch.{touches}
 use Rattle.bw_record.specs.declared.leaf.Leaf.{Leaf}
 use Rattle.bw_record.specs.declared.block.Block.{Block}
 use Rattle.bw_record.specs.declared.block.Block.TheVariants.{Delta, Base, Split}
+use Rattle.bw_record.proofs.Order.{must_not}
 use Rattle.bw_leaf.specs.Changed.{Bytes}
 use Rattle.bw_page.specs.Leaves.{leaf_at, AreNumbered, BeginsEmpty, HaveOwnLows, AreLeaves}
 use Rattle.bw_page.specs.Laws.{LiesBetween}
 use Rattle.bw_leaf.specs.Forwards.{content}
-use Rattle.bw_leaf.proofs.Order.{must_not}
 use Rattle.bw_page.proofs.Ranges.{homes_ranges}
 use Rattle.bw_log.proofs.Walk.{same_fold}
 use Rattle.bw_lines.specs.Lawful.{as_list, page_set, set_by, leaves_set, is_same, has_low_before, is_astray, has_wrong_low, is_bad_leaf, is_bad_page}

@@ -16,10 +16,10 @@ use Rattle.bw_log.specs.Contents.{IsTable}
 use Rattle.bw_log.specs.declared.places.PageAt.{PageAt}
 use Rattle.bw_lines.specs.Lawful.{HasLawful, as_list, is_same, is_bad_page, is_at_fault, first_such, contents}
 use Rattle.bw_lines.specs.Reading.{line_of}
-use Rattle.bw_lines.specs.declared.lawful.Pages.{Pages}
+use Rattle.bw_lines.specs.declared.pages.Pages.{Pages}
 use Rattle.bw_lines.specs.declared.cause.RecoverCause.{RecoverCause}
 use Rattle.bw_lines.specs.declared.cause.RecoverCause.TheVariants.{NoMemory, BadConfig, Device, Spent, Empty, BadBytes, Gap, Mixed, BadLink, Unlawful}
-use Rattle.bw_lines.specs.declared.page_lines.Line.{Line}
+use Rattle.bw_lines.specs.declared.links.Line.{Line}
 
 -- a page's number and its line
 abbrev pub Paged : Type 0

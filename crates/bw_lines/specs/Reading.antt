@@ -14,10 +14,10 @@ use Rattle.bw_leaf.specs.Changed.{all_changed}
 use Rattle.bw_leaf.specs.Forwards.{after}
 use Rattle.bw_log.specs.PageTable.{changed_line, set_line, empty_line}
 use Rattle.bw_log.specs.Places.{bad_link, is_back}
-use Rattle.bw_lines.specs.declared.page_lines.ReadFault.{ReadFault}
-use Rattle.bw_lines.specs.declared.page_lines.ReadFault.TheVariants.{NoMemory, BadLink}
+use Rattle.bw_lines.specs.declared.links.ReadFault.{ReadFault}
+use Rattle.bw_lines.specs.declared.links.ReadFault.TheVariants.{NoMemory, BadLink}
 use Rattle.bw_log.specs.declared.places.PageAt.{PageAt}
-use Rattle.bw_lines.specs.declared.page_lines.Line.{Line}
+use Rattle.bw_lines.specs.declared.links.Line.{Line}
 
 -- what a line says; a page without a line was never touched
 abbrev pub leaf_in : Option Line → Option Leaf

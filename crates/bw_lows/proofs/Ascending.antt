@@ -4,9 +4,9 @@ use Rattle.std.proofs.Common.{◌≡◌, ℕ, ◌<◌, Bool, true, false, cond, 
 use Rattle.std.specs.Ordering.{is_eq}
 use Rattle.std.specs.List.{AllByRecursion}
 use Rattle.bw_record.specs.Keys.{is_below}
+use Rattle.bw_record.proofs.Order.{Below, UpTo, must_not, upto-trans, below-trans, below_upto, upto-below, itself, tied, below_apart, above_apart, upto_apart_below}
 use Rattle.bw_lows.specs.LowHeads.{Bytes, order, page_of_low, IsGreatestLow, HasNoLow, IsLeastLow, HasNoHigher}
 use Rattle.bw_lows.specs.Rows.{Low, low_at, AllUpTo, AllAbove, Ascends}
-use Rattle.bw_lows.proofs.Order.{Below, UpTo, must_not, upto-trans, below-trans, below_upto, upto-below, itself, tied, below_apart, above_apart, upto_apart_below}
 
 -- each low is below a key
 abbrev pub AllBelow : Bytes → List Low → Type 0

@@ -4,10 +4,10 @@ use Rattle.std.proofs.Common.{◌≡◌, ℕ, zero, suc, ◌+◌, ◌<◌, Bool,
 use Rattle.std.proofs.lemmas.List.{set_split, length-set, length-append}
 use Rattle.std.specs.Prelude.{slice_set, insert, remove}
 use Rattle.std.specs.Ordering.{is_eq}
+use Rattle.bw_record.proofs.Order.{UpTo, upto_apart_below, tied}
 use Rattle.bw_lows.specs.LowHeads.{Bytes, order, page_of_low}
 use Rattle.bw_lows.specs.Rows.{Low, nothing, low_at, AllUpTo, AllAbove, Ascends}
 use Rattle.bw_lows.specs.Flat.{flat, block_at, lows_before, lows_behind, AreFilled, AreBlocks, IsPlace}
-use Rattle.bw_lows.proofs.Order.{UpTo, upto_apart_below, tied}
 use Rattle.bw_lows.proofs.Ascending.{AllBelow, all_back, ascends_back, before_low, ascends_with, ascends_without, no_low, no_low_above, page_with, page_set, page_without, below_last}
 use Rattle.bw_lows.proofs.Flattened.{parted_set, parted_at, parted_low, before_next}
 

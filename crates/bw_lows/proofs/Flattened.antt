@@ -5,10 +5,10 @@ use Rattle.std.proofs.lemmas.List.{append-nil, take-append-drop, drop_all, lengt
 use Rattle.std.proofs.lemmas.Bool.{cases_lt}
 use Rattle.std.specs.Prelude.{slice_set}
 use Rattle.bw_record.specs.Keys.{is_below}
+use Rattle.bw_record.proofs.Order.{Below, UpTo, not_both}
 use Rattle.bw_lows.specs.LowHeads.{Bytes, page_of_low, IsGreatestLow, HasNoLow, IsLeastLow, HasNoHigher}
 use Rattle.bw_lows.specs.Rows.{Low, nothing, low_at, page_at, AllUpTo, AllAbove, Ascends, IsBoundary}
 use Rattle.bw_lows.specs.Flat.{flat, block_at, lows_before, lows_behind, AreFilled, AreBlocks, IsPlace}
-use Rattle.bw_lows.proofs.Order.{Below, UpTo, not_both}
 use Rattle.bw_lows.proofs.Ascending.{AllBelow, all_back, all_both, ascends_back, before_low, below_through, above_first, greatest_there, least_there, none_there, none_higher}
 
 -- ---- one row

@@ -10,11 +10,10 @@ use Rattle.std.specs.Cmp.{ranked}
 use Rattle.std.specs.Cmp.Lexicographic.{slice_cmp}
 use Rattle.bw_record.specs.Keys.{is_below, IsBytes}
 use Rattle.bw_record.specs.Heads.{head}
-use Rattle.bw_record.proofs.HeadRows.{below_by_head, below_behind, above_beginning}
+use Rattle.bw_record.proofs.Order.{below_beginning, below_by_head, below_behind, above_beginning, Below, UpTo, must_not, below_upto, below-upto, upto_apart_below, tied}
 use Rattle.bw_lows.specs.LowHeads.{Bytes}
 use Rattle.bw_lows.specs.Rows.{Low, nothing, low_at, IsBetween}
 use Rattle.bw_lows.specs.LowRow.{Begins, head_behind, IsHeadBehind, IsWholeRow, IsRow, IsHeadRun}
-use Rattle.bw_lows.proofs.Order.{Below, UpTo, must_not, below_upto, below-upto, upto_apart_below, tied}
 use Rattle.bw_lows.proofs.Ascending.{all_front, all_back, all_both}
 use Rattle.bw_lows.proofs.Flattened.{take_next}
 
@@ -138,21 +137,6 @@ first_kept (p ∷ ps) zero page = refl
 first_kept (p ∷ ps) (suc at) page = refl
 
 -- ---- where a key parts lows that begin with the same bytes
-
--- bytes are not above what they begin
-beginning_upto : (s a : Bytes) → UpTo s (s ++ a)
-beginning_upto [] [] = refl
-beginning_upto [] (x ∷ xs) = refl
-beginning_upto (x ∷ s) a =
-    elim (nat_cmp x x) as (λ o. MatchOrdering o (x < x) (x ≡ x) (x < x) → is_lt (ordering_then o (slice_cmp nat_cmp (s ++ a) s)) ≡ false) [
-      | Less ↦ λ less. absurd (omega arith)
-      | Equal ↦ λ same. beginning_upto s a
-      | Greater ↦ λ more. refl
-    ] (ranked x x (nat_cmp x x) refl)
-
-below_beginning : (s a key : Bytes) → UpTo key s → ((rest : Bytes) → key ≢ s ++ rest) → Below key (s ++ a)
-below_beginning s a key upto other =
-    below-upto key s (s ++ a) (upto_apart_below s key upto (must_not _ (λ e. other [] (sym (tied s key e) ∙ sym (append-nil s))))) (beginning_upto s a)
 
 module _ (shared row : List ℕ) (lows : List Low) (count : ℕ) (long : length row ≡ count) (lows_long : length lows ≡ count) (is : IsRow shared row lows) where
   whole : IsWholeRow shared row lows

@@ -1,4 +1,3 @@
-pub mod Order
 pub mod Shorts
 pub mod Ascending
 pub mod Flattened

@@ -12,6 +12,7 @@ use Rattle.std.specs.declared.cmp.Ordering.TheVariants.{Less, Equal, Greater}
 use Rattle.bw_record.specs.Keys.{is_below}
 use Rattle.bw_codec.specs.Grammar.{IsBase}
 use Rattle.bw_record.specs.declared.leaf.Leaf.{Leaf}
+use Rattle.bw_record.proofs.Order.{Below, UpTo, not_both, must_be, must_not, upto-trans, upto-refl, upto-antisymm, upto_empty, below-upto, below-trans, below_upto, below_apart, above_apart, greater_is_below, tied, itself}
 use Rattle.bw_leaf.specs.Changed.{Bytes, Pairs, order}
 use Rattle.bw_page.specs.Leaves.{home, union, AtHome, AreLeaves}
 use Rattle.bw_page.specs.Lows.{lows_of}
@@ -19,12 +20,9 @@ use Rattle.bw_lows.specs.LowHeads.{IsLeastLow, HasNoHigher}
 use Rattle.bw_leaf.specs.Above.{pair_above}
 use Rattle.bw_page.specs.Ahead.{HasNoPair, IsFirstPair, HasCome, HasNoLowAbove, IsNextLow, ahead}
 use Rattle.bw_leaf.specs.Seek.{seek_of, passed, end_of}
-use Rattle.bw_leaf.proofs.Order.{Below, UpTo, not_both, must_be, must_not, upto-trans, upto-refl, upto-antisymm, upto_empty, below-upto, below-trans}
-use Rattle.bw_leaf.proofs.Order.{below_upto, below_apart, above_apart, greater_is_below, tied}
 use Rattle.bw_leaf.proofs.Sorted.{all-map, Rises, ascends_rises, find-none}
 use Rattle.bw_leaf.proofs.Sought.{above-all, above_from, above_found, above_between, above_none}
 use Rattle.bw_page.proofs.Homes.{home-all, home-low, home-max, same_home}
-use Rattle.bw_leaf.proofs.Order.{itself}
 use Rattle.bw_page.proofs.Indexed.{some_either, lows_found}
 use Rattle.bw_page.proofs.Law.{get-union}
 

@@ -6,9 +6,9 @@ use Rattle.std.specs.List.{AllByRecursion as All}
 use Rattle.std.proofs.lemmas.Bool.{eqb-true, eqb-false, eq-eqb, ne_eqb}
 use Rattle.bw_codec.specs.Grammar.{IsBase}
 use Rattle.bw_record.specs.declared.leaf.Leaf.{Leaf}
+use Rattle.bw_record.proofs.Order.{Below, UpTo, not_both, below_upto, upto-trans, upto-refl, upto-antisymm}
 use Rattle.bw_leaf.specs.Changed.{Bytes}
 use Rattle.bw_page.specs.Leaves.{home, AreNumbered, BeginsEmpty, HaveOwnLows, AtHome, AreLeaves}
-use Rattle.bw_leaf.proofs.Order.{Below, UpTo, not_both, below_upto, upto-trans, upto-refl, upto-antisymm}
 use Rattle.bw_leaf.proofs.Sorted.{all-map, all-zip, all-push}
 use Rattle.bw_page.proofs.Homes.{pick, picks, second, first, home-all, home-max, home-push, home-map, is_home, put_in}
 

@@ -13,6 +13,7 @@ use Rattle.bw_record.specs.Lawful.{IsOp}
 use Rattle.bw_record.specs.Record.{key_of}
 use Rattle.bw_record.specs.declared.leaf.Leaf.{Leaf}
 use Rattle.bw_record.specs.declared.record.Record.{Record}
+use Rattle.bw_record.proofs.Order.{order-total, apart}
 use Rattle.bw_page.specs.declared.leaves.Leaves.TheInside.{Inside}
 use Rattle.bw_leaf.specs.Changed.{Bytes, order, empty_leaf, changed, changed_map}
 use Rattle.bw_page.specs.Leaves.{home, AreLeaves, BeginsEmpty, HasPage, applied, union}
@@ -22,7 +23,6 @@ use Rattle.bw_page.specs.Shown.{Shown, applied_by}
 use Rattle.bw_leaf.specs.Seek.{seek_of, IsWithin}
 use Rattle.bw_page.specs.Lows.{lows_of}
 use Rattle.bw_page.specs.Index.{view_of, IsIndexed}
-use Rattle.bw_leaf.proofs.Order.{order-total, apart}
 use Rattle.bw_page.proofs.Homes.{put_in, set_is_put}
 use Rattle.bw_page.proofs.Applying.{put_in-page, same_lows, put_leaves, new_low}
 use Rattle.bw_page.proofs.Law.{directed, whole_in, lower_in, upper_in, applied-whole, applied-split, applied-lawful, applied-plain}

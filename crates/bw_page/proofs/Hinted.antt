@@ -8,16 +8,15 @@ use Rattle.std.specs.Ordering.{is_lt}
 use Rattle.std.specs.FinMap.Entries.{by_order}
 use Rattle.std.specs.declared.cmp.Ordering.TheVariants.{Less, Equal, Greater}
 use Rattle.bw_record.specs.declared.leaf.Leaf.{Leaf}
+use Rattle.bw_record.proofs.Order.{Below, UpTo, upto-trans, below-trans, order-same}
 use Rattle.bw_page.specs.Laws.{LiesBetween}
 use Rattle.bw_leaf.specs.Changed.{Bytes, Pairs, order}
 use Rattle.bw_page.specs.Leaves.{home, leaf_at, AreLeaves}
 use Rattle.bw_leaf.specs.Seek.{seek_of, passed, IsBetween}
 use Rattle.bw_page.specs.Shown.{Shown, leaf_here, is_evicted_page}
 use Rattle.bw_page.proofs.Homes.{home-max, is_home}
-use Rattle.bw_leaf.proofs.Order.{Below, UpTo, upto-trans, below-trans}
 use Rattle.bw_page.proofs.PageByPage.{leaf_page}
 use Rattle.bw_page.proofs.Ranges.{between_home, homes_ranges}
-use Rattle.bw_leaf.proofs.Seeking.{order-same}
 use Rattle.bw_leaf.proofs.Sorted.{all-map}
 
 -- what holds of each element holds of the one at an index

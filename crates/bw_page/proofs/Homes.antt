@@ -9,9 +9,9 @@ use Rattle.std.specs.FinMap.Entries.{find}
 use Rattle.std.proofs.lemmas.Bool.{eqb-true, eqb-false, eq-eqb, ne_eqb}
 use Rattle.bw_record.specs.Keys.{is_below}
 use Rattle.bw_record.specs.declared.leaf.Leaf.{Leaf}
+use Rattle.bw_record.proofs.Order.{Below, UpTo, not_both, below_upto, upto-trans, upto-refl, upto_empty, apart}
 use Rattle.bw_leaf.specs.Changed.{Bytes, Pairs, order}
 use Rattle.bw_page.specs.Leaves.{is_better, best, home, AreNumbered, BeginsEmpty, AtHome, AreLeaves}
-use Rattle.bw_leaf.proofs.Order.{Below, UpTo, not_both, below_upto, upto-trans, upto-refl, upto_empty, apart}
 use Rattle.bw_leaf.proofs.Sorted.{all-map, all-zip, find-none}
 
 -- ---- one step of the search

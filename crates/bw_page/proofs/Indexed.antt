@@ -8,12 +8,12 @@ use Rattle.std.specs.Ordering.{eq_by_cmp, is_eq}
 use Rattle.std.specs.FinMap.Entries.{find}
 use Rattle.std.proofs.lemmas.Option.{slice_get-get_or}
 use Rattle.bw_record.specs.declared.leaf.Leaf.{Leaf}
+use Rattle.bw_record.proofs.Order.{UpTo, order-total, upto_empty, upto-antisymm, tied, itself}
 use Rattle.bw_leaf.specs.Changed.{Bytes, order, empty_leaf}
 use Rattle.bw_page.specs.Leaves.{best, home, leaf_at, AreNumbered, AreLeaves}
 use Rattle.bw_page.specs.Lows.{lows_of}
 use Rattle.bw_lows.specs.LowHeads.{IsGreatestLow, HasNoLow}
 use Rattle.bw_page.specs.Shown.{HasGreatestLow, TakesKey}
-use Rattle.bw_leaf.proofs.Order.{UpTo, order-total, upto_empty, upto-antisymm, tied, itself}
 use Rattle.bw_leaf.proofs.Sorted.{all-map, all-zip}
 use Rattle.bw_page.proofs.Homes.{picks, second, first, home-all, home-low, home-max, stands_at, pages_within}
 

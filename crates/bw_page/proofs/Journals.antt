@@ -13,11 +13,11 @@ use Rattle.bw_record.specs.Lawful.{IsOp}
 use Rattle.bw_record.specs.Record.{key_of}
 use Rattle.bw_record.specs.declared.leaf.Leaf.{Leaf}
 use Rattle.bw_record.specs.declared.record.Record.{Record}
+use Rattle.bw_record.proofs.Order.{Below, not_both, upto_empty, tied}
 use Rattle.bw_leaf.specs.Changed.{Bytes, order, changed}
 use Rattle.bw_page.specs.Leaves.{home, with_leaf, applied, HasPage, AreLeaves}
 use Rattle.bw_leaf.specs.SplitRule.{lower_of, upper_of}
 use Rattle.bw_page.specs.Lows.{lows_of}
-use Rattle.bw_leaf.proofs.Order.{Below, not_both, upto_empty, tied}
 use Rattle.bw_page.proofs.Homes.{put_in, set_is_put}
 use Rattle.bw_page.proofs.Applying.{Replaces, same_lows, put_leaves, Splits, new_low}
 use Rattle.bw_page.proofs.Law.{directed, home_base, whole_in, lower_in, upper_in, applied-whole, applied-split}

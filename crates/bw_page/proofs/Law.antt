@@ -18,11 +18,11 @@ use Rattle.bw_record.specs.Record.{key_of}
 use Rattle.bw_record.specs.declared.leaf.Leaf.{Leaf}
 use Rattle.bw_record.specs.declared.record.Record.{Record}
 use Rattle.bw_record.specs.declared.record.Record.TheVariants.{Put, Del}
+use Rattle.bw_record.proofs.Order.{Below, UpTo, order-total, upto-below, apart}
 use Rattle.bw_leaf.specs.Changed.{Bytes, order, empty_leaf, changed, changed_map}
 use Rattle.bw_page.specs.Leaves.{home, AtHome, AreLeaves, HasPage, HasPages, applied, pages}
 use Rattle.bw_leaf.specs.SplitRule.{lower_of, upper_of}
 use Rattle.bw_page.specs.Leaves.{union, plain}
-use Rattle.bw_leaf.proofs.Order.{Below, UpTo, order-total, upto-below, apart}
 use Rattle.bw_leaf.proofs.Sorted.{all-map, all-zip, all-take, all-drop, Rises, ascends_rises, rises_ascends, rises-take, rises-drop, first-all, lower_below}
 use Rattle.bw_leaf.proofs.Sorted.{upper_from, find-lower, find-upper, rises-changed, value_of, find-changed, get-changed, HoldsOfNew, all-changed}
 use Rattle.bw_leaf.proofs.Sorted.{length-changed}

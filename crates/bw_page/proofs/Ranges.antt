@@ -4,10 +4,10 @@ use Rattle.std.proofs.Common.{◌≡◌, ℕ, IsTrue, List, [], ◌∷◌, sym, 
 use Rattle.std.specs.List.{AllByRecursion as All}
 use Rattle.bw_record.specs.Keys.{is_below}
 use Rattle.bw_record.specs.declared.leaf.Leaf.{Leaf}
+use Rattle.bw_record.proofs.Order.{Below, UpTo, not_both, must_be, must_not, upto-antisymm}
 use Rattle.bw_leaf.specs.Changed.{Bytes}
 use Rattle.bw_page.specs.Leaves.{home, BeginsEmpty, AtHome, AreLeaves}
 use Rattle.bw_page.specs.Laws.{LiesBetween, AreRanged, HomesAreRanges}
-use Rattle.bw_leaf.proofs.Order.{Below, UpTo, not_both, must_be, must_not, upto-antisymm}
 use Rattle.bw_leaf.proofs.Sorted.{all-map, all-zip}
 use Rattle.bw_page.proofs.Homes.{home-all, home-low, home-max, is_home}
 

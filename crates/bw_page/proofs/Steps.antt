@@ -6,11 +6,11 @@ use Rattle.std.specs.Option.{option_map}
 use Rattle.bw_record.specs.Keys.{is_below}
 use Rattle.bw_codec.specs.Grammar.{first_key}
 use Rattle.bw_record.specs.declared.leaf.Leaf.{Leaf}
+use Rattle.bw_record.proofs.Order.{Below, UpTo}
 use Rattle.bw_leaf.specs.Changed.{Bytes, Pairs}
 use Rattle.bw_page.specs.Leaves.{leaf_at}
 use Rattle.bw_leaf.specs.SplitRule.{lower_of, upper_of}
 use Rattle.bw_leaf.specs.Forwards.{kept_below}
-use Rattle.bw_leaf.proofs.Order.{Below, UpTo}
 use Rattle.bw_leaf.proofs.Sorted.{Rises, lower_below, upper_from}
 
 filter-none : (s : Bytes) (ps : Pairs) → All (λ p. UpTo s p.0) ps → filter (λ p. is_below p.0 s) ps ≡ []

@@ -14,14 +14,13 @@ use Rattle.std.specs.FinMap as finite
 use Rattle.std.specs.FinMap.Entries.{find}
 use Rattle.bw_record.specs.Keys.{is_below}
 use Rattle.bw_record.specs.declared.leaf.Leaf.{Leaf}
+use Rattle.bw_record.proofs.Order.{Below, UpTo, greater_is_below, not_both, must_be, upto-trans, upto-refl, below-upto, upto-below, below-trans, below_upto, below_apart, above_apart, tied}
 use Rattle.bw_leaf.specs.Changed.{Bytes, Pairs, order}
 use Rattle.bw_page.specs.Leaves.{home, union, AtHome, AreLeaves}
 use Rattle.bw_page.specs.Lows.{lows_of}
 use Rattle.bw_leaf.specs.Above.{pairs_above, with_some}
 use Rattle.bw_page.specs.Ahead.{Reaches, IsStretch, HasGone, HasNoLowAbove, IsNextLow}
 use Rattle.bw_leaf.specs.Seek.{seek_of, passed, end_of}
-use Rattle.bw_leaf.proofs.Order.{Below, UpTo, greater_is_below, not_both, must_be, upto-trans, upto-refl, below-upto, upto-below, below-trans}
-use Rattle.bw_leaf.proofs.Order.{below_upto, below_apart, above_apart, tied}
 use Rattle.bw_leaf.proofs.Sorted.{all-map, all-take, Rises, ascends_rises, rises_ascends, rises-take, find-none}
 use Rattle.bw_page.proofs.Homes.{home-all, home-low, home-max, same_home}
 use Rattle.bw_page.proofs.Law.{get-union}

@@ -8,15 +8,13 @@ use Rattle.bw_record.specs.Record.{key_of}
 use Rattle.bw_record.specs.declared.leaf.Leaf.{Leaf}
 use Rattle.bw_record.specs.declared.record.Record.{Record}
 use Rattle.bw_record.specs.declared.record.Record.TheVariants.{Put, Del}
+use Rattle.bw_record.proofs.Order.{order-same, order-total, tied, itself}
 use Rattle.bw_leaf.specs.Changed.{Bytes, Pairs, order, changed, changed_pairs}
 use Rattle.bw_page.specs.Leaves.{home, result_of, with_leaf, applied, AreLeaves}
 use Rattle.bw_leaf.specs.Seek.{seek_of, AddsNone, back_of}
-use Rattle.bw_leaf.proofs.Seeking.{order-same}
-use Rattle.bw_leaf.proofs.Order.{order-total, tied}
 use Rattle.bw_leaf.proofs.Sorted.{Rises, ascends_rises, rises_T, rises-changed, value_of, find-changed}
 use Rattle.bw_page.proofs.Applying.{Replaces, home-put_here}
 use Rattle.bw_page.proofs.Law.{directed, home_base, whole_in, applied-whole}
-use Rattle.bw_leaf.proofs.Order.{itself}
 use Rattle.bw_leaf.proofs.Valued.{Reads, reads}
 use Rattle.bw_page.proofs.Journals.{written_back}
 

@@ -8,10 +8,9 @@ use Rattle.std.specs.FinMap.Entries.{find, same_entries}
 use Rattle.bw_record.specs.Record.{key_of}
 use Rattle.bw_record.specs.declared.leaf.Leaf.{Leaf}
 use Rattle.bw_record.specs.declared.record.Record.{Record}
+use Rattle.bw_record.proofs.Order.{order-same, order-total}
 use Rattle.bw_leaf.specs.Changed.{Bytes, Pairs, order, changed_pairs, changed, all_changed}
 use Rattle.bw_page.specs.Laws.{TwiceIsOnce, ReadsOverNewer}
-use Rattle.bw_leaf.proofs.Seeking.{order-same}
-use Rattle.bw_leaf.proofs.Order.{order-total}
 use Rattle.bw_leaf.proofs.Sorted.{Rises, ascends_rises, rises_T, rises-changed, value_of, find-changed}
 
 -- pairs after records

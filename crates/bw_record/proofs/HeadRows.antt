@@ -15,78 +15,9 @@ use Rattle.byteorder.specs.Endian.{big_from}
 use Rattle.byteorder.specs.Numbers.{big_from-cons, big_from-lt}
 use Rattle.bw_record.specs.Keys.{is_below, IsBytes}
 use Rattle.bw_record.specs.Heads.{PairList, head, heads, BeginsWith, Share, IsRow, AreBelow, BeginAbove}
+use Rattle.bw_record.proofs.Order.{below_by_head, below_behind, above_beginning, below_beginning}
 
 -- ---- the order
-
-none : (i n : ℕ) → big_from i n [] ≡ 0
-none i zero = refl
-none i (suc n) = omega (arith, none (suc i) n)
-
--- a key whose head is below another's is below that key
-pub below_by_head : (n : ℕ) (a b : List ℕ) → IsBytes b → big_from 0 n a < big_from 0 n b → IsTrue (is_below a b)
-below_by_head zero a b fits h = absurd (omega arith)
-below_by_head (suc n) a [] fits h = absurd (omega (arith, none 0 (suc n)))
-below_by_head (suc n) [] (y ∷ ys) fits h = refl
-below_by_head (suc n) (x ∷ xs) (y ∷ ys) fits h =
-    let behind : IsBytes ys = λ i. fits (suc i) in
-    let a : big_from 1 n (x ∷ xs) ≡ big_from 0 n xs = big_from-cons 0 n x xs in
-    let b : big_from 1 n (y ∷ ys) ≡ big_from 0 n ys = big_from-cons 0 n y ys in
-    let small : big_from 0 n ys < 256 ^ n = big_from-lt 0 n ys behind in
-    elim (nat_cmp x y) as (λ o. MatchOrdering o (x < y) (x ≡ y) (y < x) → IsTrue (is_lt (ordering_then o (slice_cmp nat_cmp xs ys)))) [
-      | Less ↦ λ less. refl
-      | Equal ↦ λ same. below_by_head n xs ys behind (let e : x * 256 ^ n ≡ y * 256 ^ n = ap (λ (z : ℕ). z * 256 ^ n) same in omega arith)
-      | Greater ↦ λ more. absurd (let top : suc y * 256 ^ n ≤ x * 256 ^ n = mul-le-mul_right (256 ^ n) more in omega arith)
-    ] (ranked x y (nat_cmp x y) refl)
-
--- what is the same in front of two keys does not change their order
-pub below_behind : (s a b : List ℕ) → IsTrue (is_below a b) → IsTrue (is_below (s ++ a) (s ++ b))
-below_behind [] a b below = below
-below_behind (x ∷ s) a b below =
-    elim (nat_cmp x x) as (λ o. MatchOrdering o (x < x) (x ≡ x) (x < x) → IsTrue (is_lt (ordering_then o (slice_cmp nat_cmp (s ++ a) (s ++ b))))) [
-      | Less ↦ λ less. refl
-      | Equal ↦ λ same. below_behind s a b below
-      | Greater ↦ λ more. absurd (omega arith)
-    ] (ranked x x (nat_cmp x x) refl)
-
--- a key above bytes that it does not begin with is above each key that does
-pub above_beginning : (s a key : List ℕ) → IsTrue (is_below s key) → ((rest : List ℕ) → key ≢ s ++ rest) → IsTrue (is_below (s ++ a) key)
-above_beginning [] a key below other = absurd (other key refl)
-above_beginning (x ∷ s) a [] below other = cc
-above_beginning (x ∷ s) a (y ∷ ys) below other =
-    elim (nat_cmp x y) as (λ o. MatchOrdering o (x < y) (x ≡ y) (y < x) → IsTrue (is_lt (ordering_then o (slice_cmp nat_cmp s ys)))
-    → IsTrue (is_lt (ordering_then o (slice_cmp nat_cmp (s ++ a) ys)))) [
-      | Less ↦ λ less under. refl
-      | Equal ↦ λ same under. above_beginning s a ys under (λ rest e. other rest cc)
-      | Greater ↦ λ more under. cc
-    ] (ranked x y (nat_cmp x y) refl) below
-
-same_first : (x y : ℕ) (s ys : List ℕ) → y ≡ x → is_below (x ∷ s) (y ∷ ys) ≡ false → is_below s ys ≡ false
-same_first x y s ys same up =
-    elim (nat_cmp x y) as (λ o. MatchOrdering o (x < y) (x ≡ y) (y < x) → is_lt (ordering_then o (slice_cmp nat_cmp s ys)) ≡ false
-    → is_below s ys ≡ false) [
-      | Less ↦ λ less not. absurd (omega (arith, same))
-      | Equal ↦ λ equal not. not
-      | Greater ↦ λ more not. absurd (omega (arith, same))
-    ] (ranked x y (nat_cmp x y) refl) up
-
-greater_first : {X : Type 0} (x y : ℕ) (s ys : List ℕ) → x < y → is_below (x ∷ s) (y ∷ ys) ≡ false → X
-greater_first {X = X} x y s ys under up =
-    elim (nat_cmp x y) as (λ o. MatchOrdering o (x < y) (x ≡ y) (y < x) → is_lt (ordering_then o (slice_cmp nat_cmp s ys)) ≡ false → X) [
-      | Less ↦ λ less not. cc
-      | Equal ↦ λ equal not. absurd (omega arith)
-      | Greater ↦ λ more not. absurd (omega arith)
-    ] (ranked x y (nat_cmp x y) refl) up
-
--- a key that does not begin with bytes, and is not above them, is below each key that begins with them
-below_beginning : (s a key : List ℕ) → is_below s key ≡ false → ((rest : List ℕ) → key ≢ s ++ rest) → IsTrue (is_below key (s ++ a))
-below_beginning [] a key up other = absurd (other key refl)
-below_beginning (x ∷ s) a [] up other = refl
-below_beginning (x ∷ s) a (y ∷ ys) up other =
-    elim (nat_cmp y x) as (λ o. MatchOrdering o (y < x) (y ≡ x) (x < y) → IsTrue (is_lt (ordering_then o (slice_cmp nat_cmp ys (s ++ a))))) [
-      | Less ↦ λ less. refl
-      | Equal ↦ λ same. below_beginning s a ys (same_first x y s ys same up) (λ rest e. other rest cc)
-      | Greater ↦ λ more. greater_first x y s ys more up
-    ] (ranked y x (nat_cmp y x) refl)
 
 all_below : (s rest : List ℕ) → IsBytes rest → (pairs : PairList) (n : ℕ) → Share s pairs
     → AllByRecursion (λ h. h < head rest) (take n (heads (length s) pairs)) → AreBelow (s ++ rest) (take n pairs)

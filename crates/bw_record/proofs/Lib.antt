@@ -1,2 +1,3 @@
 pub mod SideBySide
+pub mod Order
 pub mod HeadRows

@@ -15,10 +15,9 @@ use Rattle.std.proofs.lemmas.List.{take_all, take_more, set_at, drop-replicate, 
 use Rattle.std.proofs.lemmas.Option.{slice_get-get_or}
 use Rattle.bw_record.specs.Keys.{is_below, ascends, IsBytes}
 use Rattle.bw_record.specs.declared.leaf.Leaf.{Leaf}
+use Rattle.bw_record.proofs.Order.{first_or_rest, below_first, same_first, upto_same, order-same, Below, UpTo, not_both, must_not, itself, upto_empty, upto-refl, upto-trans, upto-antisymm, below-trans, upto-below, below_upto, below_apart, greater_is_below, tied}
 use Rattle.bw_leaf.specs.Changed.{Bytes, Pairs, order}
 use Rattle.bw_leaf.specs.Seek.{seek_of, passed}
-use Rattle.bw_leaf.proofs.Seeking.{order-same}
-use Rattle.bw_leaf.proofs.Order.{Below, UpTo, not_both, must_not, itself, upto_empty, upto-refl, upto-trans, upto-antisymm, below-trans, upto-below, below_upto, below_apart, greater_is_below, tied}
 use Rattle.bw_leaf.proofs.Sorted.{all-map, all-zip, all-always, Rises, ascends_rises, find-none}
 use Rattle.bw_leaf.proofs.Sought.{skipped}
 use Rattle.bw_page.specs.Leaves.{home, leaf_at, union, AtHome, AreLeaves}
@@ -33,36 +32,6 @@ use Rattle.bw_walks.specs.declared.back.Look.{Look}
 use Rattle.bw_walks.specs.declared.back.Look.TheVariants.{Before}
 use Rattle.bw_walks.specs.declared.back.Reach.{Reach}
 use Rattle.bw_walks.specs.declared.back.Reach.TheVariants.{With, Without}
-
--- ---- keys byte by byte
-
-first_or_rest : (x y : ℕ) (xs ys : Bytes) → Below (x ∷ xs) (y ∷ ys) → (x < y) ⊎ ((x ≡ y) × Below xs ys)
-first_or_rest x y xs ys b =
-    elim (nat_cmp x y) as (λ o. MatchOrdering o (x < y) (x ≡ y) (y < x) → is_lt (ordering_then o (slice_cmp nat_cmp xs ys)) ≡ true
-    → (x < y) ⊎ ((x ≡ y) × Below xs ys)) [
-      | Less ↦ λ less h. inl less
-      | Equal ↦ λ same h. inr (same, h)
-      | Greater ↦ λ more h. absurd (cc)
-    ] (ranked x y (nat_cmp x y) refl) b
-
-pub below_first : (x y : ℕ) (xs ys : Bytes) → x < y → Below (x ∷ xs) (y ∷ ys)
-below_first x y xs ys l =
-    elim (nat_cmp x y) as (λ o. MatchOrdering o (x < y) (x ≡ y) (y < x) → is_lt (ordering_then o (slice_cmp nat_cmp xs ys)) ≡ true) [
-      | Less ↦ λ less. refl
-      | Equal ↦ λ same. absurd (omega arith)
-      | Greater ↦ λ more. absurd (omega arith)
-    ] (ranked x y (nat_cmp x y) refl)
-
-pub same_first : (x y : ℕ) (xs ys : Bytes) → x ≡ y → is_below (x ∷ xs) (y ∷ ys) ≡ is_below xs ys
-same_first x y xs ys e =
-    elim (nat_cmp x y) as (λ o. MatchOrdering o (x < y) (x ≡ y) (y < x) → is_lt (ordering_then o (slice_cmp nat_cmp xs ys)) ≡ is_below xs ys) [
-      | Less ↦ λ less. absurd (omega arith)
-      | Equal ↦ λ same. refl
-      | Greater ↦ λ more. absurd (omega arith)
-    ] (ranked x y (nat_cmp x y) refl)
-
-upto_same : (x y : ℕ) (xs ys : Bytes) → x ≡ y → UpTo xs ys → UpTo (x ∷ xs) (y ∷ ys)
-upto_same x y xs ys e u = same_first y x ys xs (sym e) ∙ u
 
 -- ---- the greatest key below another
 

@@ -1,6 +1,6 @@
 use Rattle.std.proofs.Common.{◌≡◌, true, not}
 use Rattle.bw_record.specs.Keys.{is_below}
-use Rattle.bw_leaf.proofs.Order.{must_be}
+use Rattle.bw_record.proofs.Order.{must_be}
 use Rattle.bw_leaf.proofs.Trees.{all_kept}
 use Rattle.bw_leaf.proofs.tree.ends_behind.Goals as goal
 

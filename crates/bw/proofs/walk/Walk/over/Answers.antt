@@ -1,7 +1,7 @@
 use Rattle.std.proofs.Common.{◌≡◌, false, sym, subst}
 use Rattle.bw_record.specs.Keys.{is_below}
+use Rattle.bw_record.proofs.Order.{UpTo, upto-refl}
 use Rattle.bw_leaf.specs.Changed.{Bytes}
-use Rattle.bw_leaf.proofs.Order.{UpTo, upto-refl}
 use Rattle.bw.proofs.Prefixes.{upto_begins}
 use Rattle.bw.proofs.walk.Walk.over.Goals as goal
 

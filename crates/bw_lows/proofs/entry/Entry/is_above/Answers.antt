@@ -1,8 +1,8 @@
 use Rattle.std.proofs.Common.{◌≡◌, subst, sym, ap, ◌∙◌, arith}
 use Rattle.bw_record.specs.Keys.{IsBytes}
 use Rattle.bw_record.specs.Heads.{head}
+use Rattle.bw_record.proofs.Order.{below_by_heads, upto_by_heads}
 use Rattle.bw_lows.specs.Rows.{Low}
-use Rattle.bw_lows.proofs.Order.{below_by_heads, upto_by_heads}
 use Rattle.bw_lows.proofs.entry.Entry.is_above.Goals as goal
 
 pub returns-then-start-self : goal.returns-then-start-self
