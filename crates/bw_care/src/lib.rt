@@ -17,6 +17,7 @@
 //! hangs on the bytes that there are, and on no number that it read.
 #![tactic(auto)]
 
+mod begun;
 mod boxes;
 mod cleaner;
 mod copies;
@@ -25,6 +26,7 @@ mod forward;
 pub mod laws;
 mod lengths;
 mod moves;
+mod newest;
 mod order;
 mod recovered;
 mod recovery;
@@ -34,10 +36,12 @@ mod steps;
 mod tally;
 mod upgrader;
 
+pub use begun::{Begun, begun_in};
 pub use bw_lines::RecoverCause;
 pub use cleaner::{Cleaned, clean};
 pub use fault::CleanFault;
 pub use lengths::{bytes_upto, is_won, length_of, live_bytes};
+pub use newest::{blank_places, renew};
 pub use recovered::Recovered;
 pub use recovery::{RecoverFault, recover};
 pub use rewriter::rewrite;

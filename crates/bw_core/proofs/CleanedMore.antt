@@ -26,8 +26,8 @@ use Rattle.bw_care.proofs.OldPages.{few_old}
 use Rattle.bw_care.proofs.BasesLeave.{one_frame, stand_more}
 use Rattle.bw_core.specs.Edges.{IsBegun}
 use Rattle.bw_core.proofs.Edging.{begun_dropped, begun_stays, moved_row, refused_row, row_then}
-use Rattle.bw_core.specs.declared.fault.StoreFault.{StoreFault}
-use Rattle.bw_core.specs.declared.fault.StoreFault.TheVariants as store
+use Rattle.bw_terms.specs.declared.fault.StoreFault.{StoreFault}
+use Rattle.bw_terms.specs.declared.fault.StoreFault.TheVariants as store
 use Rattle.bw_core.specs.Faults.{FlushLeaves}
 use Rattle.bw_core.specs.Following.{Continues}
 use Rattle.bw_core.proofs.FollowMore.{grows_on}
@@ -42,7 +42,8 @@ use Rattle.bw_core.specs.Growing.{frames_upto}
 use Rattle.bw_core.specs.Kept.{Kept, IsSound}
 use Rattle.bw_core.specs.Settled.{IsSettled}
 use Rattle.bw_history.specs.Cuts.{end_by}
-use Rattle.bw_core.specs.Cleaning.{with_moved, fault_of_clean, GivesUp, HasMoved, HasStopped, MoveLeaves, HasBoxesBut, HasFloorBut}
+use Rattle.bw_core.specs.Cleaning.{with_moved, GivesUp, HasMoved, HasStopped, MoveLeaves, HasBoxesBut, HasFloorBut}
+use Rattle.bw_terms.specs.Told.{fault_of_clean}
 use Rattle.bw_core.specs.Emptied.{Behind, Emptied, WhereSome}
 use Rattle.bw_core.proofs.FramesBehind.{end_is, first_ahead, none_above, placed_page, pages_counted}
 use Rattle.bw_core.proofs.MovedMore.{Adds, Moves, high, next_then, moved_sound, kept_shares, last_cut, all_cuts}

@@ -3,7 +3,7 @@
 use Rattle.std.proofs.Common.{◌≡◌, ℕ, true, Result, inr, Ok, Err}
 use Rattle.std.specs.Prelude.{is_ok}
 use Rattle.bw_care.specs.declared.tally.Tally.{Tally}
-use Rattle.bw_core.specs.declared.fault.StoreFault.{StoreFault}
+use Rattle.bw_terms.specs.declared.fault.StoreFault.{StoreFault}
 use Rattle.bw_core.specs.Counting.{counted_gone, CountsStep}
 use Rattle.bw_core.specs.Emptied.{Emptied}
 use Rattle.bw_core.specs.Kept.{Kept}

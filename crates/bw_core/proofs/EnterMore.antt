@@ -33,9 +33,9 @@ use Rattle.bw_core.specs.Fitting.{Fits, drawn_of, group_blocks}
 use Rattle.bw_history.specs.History.{entered}
 use Rattle.bw_core.specs.Kept.{Kept, Filed, IsSound}
 use Rattle.bw_making.specs.Overlay.{is_made}
-use Rattle.bw_core.specs.Faults.{fault_of_apply}
+use Rattle.bw_terms.specs.Told.{fault_of_apply}
 use Rattle.bw_core.specs.Taken.{taken_all}
-use Rattle.bw_core.specs.declared.fault.StoreFault.{StoreFault}
+use Rattle.bw_terms.specs.declared.fault.StoreFault.{StoreFault}
 use Rattle.bw_core.specs.Taking.{GroupLeaves, IsUnplanned, IsWanting, MakesRoom, Works}
 use Rattle.bw_core.proofs.Planned.{entered_or_not}
 use Rattle.bw_core.proofs.Drafts.{items_marked, leaves_all, made_all}

@@ -38,12 +38,12 @@ use Rattle.bw_log.specs.declared.fault.LogFault.TheVariants as log
 use Rattle.bw_log.specs.Places.{placed, all_placed, later, last_place, place_of}
 use Rattle.bw_log.specs.Reads.{IsPage, StopsAt}
 use Rattle.bw_log.proofs.Walks.{content_push}
-use Rattle.bw_core.specs.declared.fault.StoreFault.{StoreFault}
-use Rattle.bw_core.specs.declared.fault.StoreFault.TheVariants.{NoPage}
+use Rattle.bw_terms.specs.declared.fault.StoreFault.{StoreFault}
+use Rattle.bw_terms.specs.declared.fault.StoreFault.TheVariants.{NoPage}
 use Rattle.bw_making.specs.Adding.{blocks_for, result_of}
 use Rattle.bw_history.specs.Entries.{records}
 use Rattle.bw_core.specs.Kept.{Kept, IsSound}
-use Rattle.bw_core.specs.Faults.{fault_of}
+use Rattle.bw_terms.specs.Told.{fault_of}
 use Rattle.bw_core.specs.Reading.{leaves_now, ReadLeaves, with_log}
 use Rattle.bw_making.specs.Share.{ops_at}
 use Rattle.bw_making.specs.Overlay.{makes, is_made}

@@ -12,8 +12,8 @@ use Rattle.bw_log.specs.Reads.{HoldsPage}
 use Rattle.bw_page.specs.Leaves.{directed_at, home}
 use Rattle.bw_page.specs.Shown.{Shown, IsHere, is_evicted_page}
 use Rattle.bw_leaf.proofs.Sorted.{all-map}
-use Rattle.bw_core.specs.declared.fault.StoreFault.{StoreFault}
-use Rattle.bw_core.specs.declared.fault.StoreFault.TheVariants.{NoMemory, BadConfig, NoSegment, Device, Failed, Spent, NoPage, NothingOld}
+use Rattle.bw_terms.specs.declared.fault.StoreFault.{StoreFault}
+use Rattle.bw_terms.specs.declared.fault.StoreFault.TheVariants.{NoMemory, BadConfig, NoSegment, Device, Failed, Spent, NoPage, NothingOld}
 use Rattle.bw_core.specs.Kept.{Kept}
 use Rattle.bw_core.specs.Reading.{HasRead, ReadLeaves}
 use Rattle.bw_core.specs.Taking.{FetchLeaves, Refuses, Works}

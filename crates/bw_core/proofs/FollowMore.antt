@@ -12,13 +12,13 @@ use Rattle.bw_log.specs.Contents.{roster}
 use Rattle.bw_log.specs.Contents as logs
 use Rattle.bw_log.specs.Appends.{IsSameLog}
 use Rattle.bw_history.specs.declared.entry.Entry.{Entry}
-use Rattle.bw_core.specs.declared.fault.StoreFault.{StoreFault}
+use Rattle.bw_terms.specs.declared.fault.StoreFault.{StoreFault}
 use Rattle.bw_core.specs.Kept.{Filed, Kept, with_frame, with_stop}
 use Rattle.bw_core.specs.Taken.{taken, taken_all}
 use Rattle.bw_record.specs.declared.record.Record.{Record}
 use Rattle.bw_ring.specs.declared.lane.Lane.{Lane}
 use Rattle.bw_core.specs.Taking.{MakesRoom, Took, TakeLeaves, Refuses, RefusesNext}
-use Rattle.bw_core.specs.declared.fault.StoreFault.TheVariants.{NoMemory, BadConfig, NoSegment, Device, Failed, Spent, NoPage, NothingOld}
+use Rattle.bw_terms.specs.declared.fault.StoreFault.TheVariants.{NoMemory, BadConfig, NoSegment, Device, Failed, Spent, NoPage, NothingOld}
 use Rattle.bw_core.specs.Faults.{Flushed, Broken, FlushAnswers, FlushLeaves, flush_refusal}
 use Rattle.bw_core.proofs.Refusing.{failed_flush, failed_record}
 use Rattle.bw_core.specs.Reading.{HasRead, with_log}

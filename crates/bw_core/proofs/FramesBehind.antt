@@ -2,9 +2,9 @@
 
 use Rattle.std.proofs.Common.{inl, inr, ◌≡◌, ℕ, zero, suc, ◌+◌, ◌-◌, ◌^◌, ◌<◌, ◌≤◌, Bool, true, false, if◌then◌else◌, Option, Some, None, List, [], ◌∷◌, ◌++◌}
 use Rattle.std.proofs.Common.{length, refl, sym, ap, ◌∙◌, subst, arith}
-use Rattle.std.specs.Prelude.{nat_le, nat_lt, IfSome}
+use Rattle.std.specs.Prelude.{nat_lt, IfSome}
 use Rattle.std.specs.List.{AllByRecursion as All, fold, slice_get}
-use Rattle.std.proofs.lemmas.Bool.{leb-true, leb-false, ltb-true, ltb-false}
+use Rattle.std.proofs.lemmas.Bool.{ltb-true, ltb-false}
 use Rattle.bw_codec.specs.Grammar.{IsFrameIn, IsPlace}
 use Rattle.bw_record.specs.Touch.{touches}
 use Rattle.bw_record.specs.declared.leaf.Leaf.{Leaf}
@@ -137,14 +137,3 @@ pages_by m fs pages leaves (inr stands) stand = sym stands.2 ∙ ap (λ (l : Lis
 
 pub pages_counted : (c : logs.Contents) (leaves : List Leaf) → logs.IsSound c → Stand c.m (logs.counted c) leaves → length c.pages ≡ length leaves
 pages_counted c leaves sound stand = pages_by c.m (logs.counted c) (length c.pages) leaves sound.holds.stands stand
-
--- one page further
-pub each_next : (old new : List Place) (look : ℕ → Option Place) (at : ℕ) → ((p : ℕ) → 1 ≤ p → p ≤ at → slice_get old (p - 1) ≡ look p)
-    → slice_get new at ≡ look (at + 1) → ((i : ℕ) → (i ≡ at → ⊥) → slice_get new i ≡ slice_get old i)
-    → (p : ℕ) → 1 ≤ p → p ≤ at + 1 → slice_get new (p - 1) ≡ look p
-each_next old new look at before here others p from to =
-    elim (nat_le p at) as (λ b. nat_le p at ≡ b → slice_get new (p - 1) ≡ look p) [
-      | true ↦ λ e. (let le = leb-true _ _ e in others (p - 1) (λ same. absurd (omega arith)) ∙ before p from le)
-      | false ↦ λ e. (let gt = leb-false _ _ e in let index : p - 1 ≡ at = omega arith in let page : at + 1 ≡ p = omega arith in
-          ap (slice_get new) index ∙ here ∙ ap look page)
-    ] refl

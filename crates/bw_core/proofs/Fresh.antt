@@ -23,7 +23,7 @@ use Rattle.bw_log.specs.Limits.{fresh}
 use Rattle.bw_log.specs.Places.{place_of}
 use Rattle.bw_page.specs.Shown.{Shown}
 use Rattle.bw_history.specs.declared.entry.Entry.{Entry}
-use Rattle.bw_core.specs.declared.config.Config.{Config}
+use Rattle.bw_terms.specs.declared.config.Config.{Config}
 use Rattle.bw_making.specs.Begun.{first_place, first_frame, first_making}
 use Rattle.bw_core.specs.Opened.{one_empty, opened, AreTaken}
 use Rattle.bw_core.specs.Reopened.{reopened}

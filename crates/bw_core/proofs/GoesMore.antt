@@ -2,7 +2,7 @@
 
 use Rattle.std.proofs.Common.{◌≡◌, ◌∙◌, ℕ, Option, Result, refl, subst, sym}
 use Rattle.bw_device.specs.Holding.{Holding}
-use Rattle.bw_core.specs.declared.fault.StoreFault.{StoreFault}
+use Rattle.bw_terms.specs.declared.fault.StoreFault.{StoreFault}
 use Rattle.bw_core.specs.declared.store.Core.{Core}
 use Rattle.bw_core.specs.Faults.{FlushLeaves}
 use Rattle.bw_core.specs.Following.{Follows, HasBoxes}

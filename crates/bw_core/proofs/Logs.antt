@@ -12,8 +12,8 @@ use Rattle.bw_log.specs.declared.fault.LogFault.TheVariants as log
 use Rattle.bw_log.specs.Contents as logs
 use Rattle.bw_log.specs.Reads.{IsKept}
 use Rattle.bw_log.specs.Segments.{frames_of}
-use Rattle.bw_core.specs.declared.fault.StoreFault.TheVariants.{BadConfig, NothingOld}
-use Rattle.bw_core.specs.Faults.{fault_of}
+use Rattle.bw_terms.specs.declared.fault.StoreFault.TheVariants.{BadConfig, NothingOld}
+use Rattle.bw_terms.specs.Told.{fault_of}
 use Rattle.bw_core.specs.Following.{Follows}
 use Rattle.bw_core.specs.Growing.{Grown, frames_upto}
 use Rattle.bw_core.specs.Kept.{Kept, leaves_at, TellsShare, IsSound}

@@ -4,7 +4,7 @@ use Rattle.std.proofs.Common.{◌≡◌, ◌∙◌, ℕ, Ok, Result, ap, refl, s
 use Rattle.bw_device.specs.Holding.{Holding}
 use Rattle.bw_page.specs.Shown.{Shown, is_evicted_page}
 use Rattle.bw_log.proofs.Fetched.{kept_same}
-use Rattle.bw_core.specs.declared.fault.StoreFault.{StoreFault}
+use Rattle.bw_terms.specs.declared.fault.StoreFault.{StoreFault}
 use Rattle.bw_core.specs.declared.store.Core.{Core}
 use Rattle.bw_core.specs.Kept.{Kept}
 use Rattle.bw_core.specs.Looking.{LooksAt, OnlyReads}

@@ -18,8 +18,8 @@ use Rattle.bw_history.specs.Entries.{records}
 use Rattle.bw_history.specs.History.{AreCuts, are_whole, cut, entered, is_grouped}
 use Rattle.bw_history.specs.Machine.{IsGroup, IsMachine, Machine, MayLeave, Stops, TakesAndKeeps, TakesAndStops, TakesMany, TakesOne, breaks, keeps, takes}
 use Rattle.bw_history.proofs.Grouped.{ends_one, grouped_entered}
-use Rattle.bw_core.specs.declared.fault.StoreFault.{StoreFault}
-use Rattle.bw_core.specs.declared.fault.StoreFault.TheVariants.{NoMemory, BadConfig, NoSegment, Device, Failed, Spent, NoPage, NothingOld}
+use Rattle.bw_terms.specs.declared.fault.StoreFault.{StoreFault}
+use Rattle.bw_terms.specs.declared.fault.StoreFault.TheVariants.{NoMemory, BadConfig, NoSegment, Device, Failed, Spent, NoPage, NothingOld}
 use Rattle.bw_core.specs.Kept.{IsSound, Kept, leaves_at}
 use Rattle.bw_core.specs.Taken.{taken, taken_all}
 use Rattle.bw_core.specs.Taking.{MakesRoom, Refuses, Took, Works}

@@ -5,12 +5,13 @@ use Rattle.std.proofs.Common.{Bool, length, refl, sym, ap, ◌∙◌, subst, ari
 use Rattle.std.specs.Prelude.{nat_le, IsTrue, ◌↔◌, IfErr, OnOk, OnErr}
 use Rattle.bw_making.specs.declared.plan.Plan.{Plan}
 use Rattle.bw_making.specs.Planning.{listed, IsWantingAt}
-use Rattle.bw_core.specs.declared.fault.StoreFault.{StoreFault}
-use Rattle.bw_core.specs.declared.fault.StoreFault.TheVariants.{NoMemory, BadConfig, NoSegment, Device, Failed, Spent, NoPage, NothingOld}
+use Rattle.bw_terms.specs.declared.fault.StoreFault.{StoreFault}
+use Rattle.bw_terms.specs.declared.fault.StoreFault.TheVariants.{NoMemory, BadConfig, NoSegment, Device, Failed, Spent, NoPage, NothingOld}
 use Rattle.bw_ring.specs.declared.lane.Lane.{Lane}
 use Rattle.bw_ring.specs.Marks.{marked}
 use Rattle.bw_history.specs.Lanes.{IsNext}
-use Rattle.bw_core.specs.Faults.{FlushAnswers, FlushLeaves, fault_of_apply, flush_refusal}
+use Rattle.bw_core.specs.Faults.{FlushAnswers, FlushLeaves, flush_refusal}
+use Rattle.bw_terms.specs.Told.{fault_of_apply}
 use Rattle.std.specs.Option.{unwrap_or}
 use Rattle.bw_core.specs.Fitting.{Fits, back_for, group_blocks, here_at}
 use Rattle.bw_core.specs.Taking.{MakesRoom, IsPlan, GroupLeaves, Took, WaitingLeaves, IsWanting, IsUnplanned, Works}

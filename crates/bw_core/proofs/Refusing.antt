@@ -8,11 +8,12 @@ use Rattle.bw_buffer.specs.Filling.{frame_of}
 use Rattle.bw_log.specs.Appends.{wants_segment, spares_wanted, is_spent, refusal, Checks}
 use Rattle.bw_log.specs.declared.fault.LogFault.{LogFault}
 use Rattle.bw_log.specs.declared.fault.LogFault.TheVariants as logs
-use Rattle.bw_core.specs.declared.fault.StoreFault.{StoreFault}
-use Rattle.bw_core.specs.declared.fault.StoreFault.TheVariants.{NoMemory, BadConfig, NoSegment, Device, Failed, Spent, NoPage, NothingOld}
+use Rattle.bw_terms.specs.declared.fault.StoreFault.{StoreFault}
+use Rattle.bw_terms.specs.declared.fault.StoreFault.TheVariants.{NoMemory, BadConfig, NoSegment, Device, Failed, Spent, NoPage, NothingOld}
 use Rattle.bw_core.specs.Kept.{Kept}
 use Rattle.bw_core.specs.Emptied.{IsUnready}
-use Rattle.bw_core.specs.Faults.{FlushAnswers, FlushLeaves, IsRefused, flush_refusal, refusal_by, fault_of}
+use Rattle.bw_core.specs.Faults.{FlushAnswers, FlushLeaves, IsRefused, flush_refusal, refusal_by}
+use Rattle.bw_terms.specs.Told.{fault_of}
 use Rattle.bw_record.specs.declared.record.Record.{Record}
 use Rattle.bw_core.specs.Fitting.{Fits}
 use Rattle.bw_core.specs.Taking.{MakesRoom, IsWanting, IsSpentFor, IsStopped, IsUnplanned, Refuses, Works}

@@ -16,9 +16,10 @@ use Rattle.bw_care.specs.Moving as care
 use Rattle.bw_care.specs.Rewriting as rewrites
 use Rattle.bw_care.proofs.BoxesGrown.{same_roster}
 use Rattle.bw_history.specs.Entries.{records}
-use Rattle.bw_core.specs.declared.fault.StoreFault.{StoreFault}
-use Rattle.bw_core.specs.declared.fault.StoreFault.TheVariants as store
-use Rattle.bw_core.specs.Faults.{fault_of, FlushLeaves}
+use Rattle.bw_terms.specs.declared.fault.StoreFault.{StoreFault}
+use Rattle.bw_terms.specs.declared.fault.StoreFault.TheVariants as store
+use Rattle.bw_core.specs.Faults.{FlushLeaves}
+use Rattle.bw_terms.specs.Told.{fault_of}
 use Rattle.bw_core.specs.Following.{Follows, HasBoxes}
 use Rattle.bw_core.specs.Kept.{Kept, IsSound}
 use Rattle.bw_core.specs.Rewriting.{are_pages, RewriteMoves}

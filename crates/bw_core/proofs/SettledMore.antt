@@ -24,7 +24,7 @@ use Rattle.bw_history.specs.History.{cut}
 use Rattle.bw_making.specs.Share.{Tells, directed}
 use Rattle.bw_core.specs.Kept.{Kept, leaves_at, TellsBy, waiting, IsSound}
 use Rattle.bw_core.specs.Settled.{IsSettled}
-use Rattle.bw_core.specs.declared.fault.StoreFault.{StoreFault}
+use Rattle.bw_terms.specs.declared.fault.StoreFault.{StoreFault}
 use Rattle.bw_core.specs.Faults.{FlushAnswers, FlushLeaves, flush_refusal, refusal_by}
 use Rattle.bw_core.proofs.Refusing.{worked}
 use Rattle.bw_core.proofs.RecordMore.{cut_within}

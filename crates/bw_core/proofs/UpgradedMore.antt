@@ -13,7 +13,7 @@ use Rattle.bw_care.proofs.UpgradeMoved.{more_left, old_are}
 use Rattle.bw_care.specs.declared.upgrader.Upgraded.{Upgraded}
 use Rattle.bw_care.specs.declared.fault.CleanFault.{CleanFault}
 use Rattle.bw_care.specs.declared.fault.CleanFault.TheVariants.{NothingOld, Log}
-use Rattle.bw_core.specs.declared.fault.StoreFault.{StoreFault}
+use Rattle.bw_terms.specs.declared.fault.StoreFault.{StoreFault}
 use Rattle.bw_core.specs.Cleaning.{HasBoxesBut}
 use Rattle.bw_core.specs.Faults.{FlushLeaves}
 use Rattle.bw_core.specs.Kept.{Kept}

@@ -13,8 +13,8 @@ use Rattle.bw_page.specs.Shown.{Shown, is_evicted_page, leaf_here}
 use Rattle.bw_page.proofs.Ahead.{ahead_less, come_first, come_found, come_further, come_last}
 use Rattle.bw_page.proofs.PageByPage.{home_there}
 use Rattle.bw_page.proofs.Stretch.{gone_first, gone_more, gone_last, gone_full}
-use Rattle.bw_core.specs.declared.fault.StoreFault.{StoreFault}
-use Rattle.bw_core.specs.declared.fault.StoreFault.TheVariants.{NoMemory, BadConfig, NoSegment, Device, Failed, Spent, NoPage, NothingOld}
+use Rattle.bw_terms.specs.declared.fault.StoreFault.{StoreFault}
+use Rattle.bw_terms.specs.declared.fault.StoreFault.TheVariants.{NoMemory, BadConfig, NoSegment, Device, Failed, Spent, NoPage, NothingOld}
 use Rattle.bw_history.specs.Entries.{records}
 use Rattle.bw_core.specs.Kept.{Kept, IsSound}
 use Rattle.bw_core.specs.Reading.{HasRead, ReadLeaves, WalkLeaves}

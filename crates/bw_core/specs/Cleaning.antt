@@ -8,16 +8,11 @@ use Rattle.bw_log.specs.Contents as logs
 use Rattle.bw_care.specs.Moving as care
 use Rattle.bw_care.specs.declared.cleaner.Cleaned.{Cleaned}
 use Rattle.bw_care.specs.declared.fault.CleanFault.{CleanFault}
-use Rattle.bw_care.specs.declared.fault.CleanFault.TheVariants as clean
-use Rattle.bw_core.specs.declared.fault.StoreFault.{StoreFault}
-use Rattle.bw_core.specs.declared.fault.StoreFault.TheVariants.{NothingOld}
+use Rattle.bw_terms.specs.declared.fault.StoreFault.{StoreFault}
+use Rattle.bw_terms.specs.declared.fault.StoreFault.TheVariants.{NothingOld}
 use Rattle.bw_core.specs.Kept.{Kept}
-use Rattle.bw_core.specs.Faults.{fault_of}
+use Rattle.bw_terms.specs.Told.{fault_of_clean}
 use Rattle.bw_core.specs.Emptied.{Behind, WhereSome}
-
-abbrev pub fault_of_clean : CleanFault → StoreFault
-fault_of_clean clean.NothingOld = NothingOld
-fault_of_clean (clean.Log fault) = fault_of fault
 
 -- so many frames of the cleaner's were added, each with a cut at the end of the history
 abbrev pub with_moved : Kept → ℕ → ℕ → List Place → Filling → logs.Contents → Kept

@@ -8,7 +8,7 @@ use Rattle.bw_care.specs.declared.upgrader.Upgraded.{Upgraded}
 use Rattle.bw_care.specs.declared.tally.Counters.{Counters}
 use Rattle.bw_care.specs.declared.tally.Looks.{Looks}
 use Rattle.bw_care.specs.declared.tally.Tally.{Tally}
-use Rattle.bw_core.specs.declared.fault.StoreFault.{StoreFault}
+use Rattle.bw_terms.specs.declared.fault.StoreFault.{StoreFault}
 use Rattle.bw_core.specs.Cleaning.{MoveLeaves}
 use Rattle.bw_core.specs.Emptied.{Emptied, IsUnready}
 use Rattle.bw_core.specs.Kept.{Kept}

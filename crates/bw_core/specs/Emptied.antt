@@ -1,8 +1,8 @@
 -- A flush that answered Ok, and what a call leaves that takes its step behind one.
 
 use Rattle.std.specs.Prelude.{ℕ, ◌≡◌, ◌⊎◌, Bool, true, Option, Result, Ok, Err}
-use Rattle.bw_core.specs.declared.fault.StoreFault.{StoreFault}
-use Rattle.bw_core.specs.declared.fault.StoreFault.TheVariants.{NoMemory}
+use Rattle.bw_terms.specs.declared.fault.StoreFault.{StoreFault}
+use Rattle.bw_terms.specs.declared.fault.StoreFault.TheVariants.{NoMemory}
 use Rattle.bw_core.specs.Kept.{Kept}
 use Rattle.bw_core.specs.Faults.{FlushAnswers, FlushLeaves, refusal_by}
 

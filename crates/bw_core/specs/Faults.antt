@@ -1,32 +1,15 @@
--- A log's fault as the store tells it, and what each answer of a flush leaves.
+-- What each answer of a flush leaves.
 
 use Rattle.std.specs.Prelude.{ℕ, ◌≡◌, Option, Some, None, Result, Ok, Err, Bool, false, [], length, is_none, if◌then◌else◌, ◌==◌}
 use Rattle.bw_codec.specs.Grammar.{frame_bytes}
 use Rattle.bw_buffer.specs.Filling.{Filling, frame_of}
-use Rattle.bw_page.specs.declared.fault.ApplyError.{ApplyError}
-use Rattle.bw_page.specs.declared.fault.ApplyError.TheVariants as apply
 use Rattle.bw_log.specs.declared.fault.LogFault.{LogFault}
-use Rattle.bw_log.specs.declared.fault.LogFault.TheVariants as log
 use Rattle.bw_log.specs.Contents as logs
 use Rattle.bw_log.specs.Appends.{refusal, Appended, Stopped, IsSameLog, Rose}
-use Rattle.bw_core.specs.declared.fault.StoreFault.{StoreFault}
-use Rattle.bw_core.specs.declared.fault.StoreFault.TheVariants.{NoMemory, BadConfig, NoSegment, Device, Failed, Spent, NoPage, NothingOld}
+use Rattle.bw_terms.specs.declared.fault.StoreFault.{StoreFault}
+use Rattle.bw_terms.specs.declared.fault.StoreFault.TheVariants.{NoMemory, BadConfig, NoSegment, Device, Failed, Spent, NoPage, NothingOld}
+use Rattle.bw_terms.specs.Told.{fault_of}
 use Rattle.bw_core.specs.Kept.{Kept, with_frame, with_stop}
-
-abbrev pub fault_of : LogFault → StoreFault
-fault_of log.NoMemory = NoMemory
-fault_of log.BadConfig = BadConfig
-fault_of log.NoSegment = NoSegment
-fault_of (log.Device lease) = Device lease
-fault_of log.Failed = Failed
-fault_of log.Spent = Spent
-fault_of log.NoPage = NoPage
-
-abbrev pub fault_of_apply : ApplyError → StoreFault
-fault_of_apply apply.NoMemory = NoMemory
-fault_of_apply apply.Spent = Spent
-
--- ---- a flush
 
 -- why a flush is refused, memory and the device aside, by whether it may take the last spare
 abbrev pub refusal_by : Bool → Kept → Option StoreFault

@@ -3,9 +3,9 @@
 use Rattle.std.specs.Prelude.{ℕ, zero, suc, ◌+◌, ◌*◌, ◌≡◌, ◌≤◌, ◌<◌, Bool, true, List, ◌++◌, length, drop, Result, MatchResult}
 use Rattle.bw_log.specs.Contents.{roster}
 use Rattle.bw_history.specs.declared.entry.Entry.{Entry}
-use Rattle.bw_core.specs.declared.fault.StoreFault.{StoreFault}
+use Rattle.bw_terms.specs.declared.fault.StoreFault.{StoreFault}
 use Rattle.bw_core.specs.declared.turn.Count.{Count}
-use Rattle.bw_core.specs.declared.fault.TurnFault.{TurnFault}
+use Rattle.bw_terms.specs.declared.fault.TurnFault.{TurnFault}
 use Rattle.bw_history.specs.History.{ends_in}
 use Rattle.bw_core.specs.Kept.{Kept}
 use Rattle.bw_ring.specs.declared.lane.Lane.{Lane}

@@ -3,8 +3,8 @@
 use Rattle.std.specs.Prelude.{ℕ, ◌≡◌, false, Result, IfErr}
 use Rattle.bw_device.specs.Holding.{Holding}
 use Rattle.bw_log.specs.Reads.{HoldsPage}
-use Rattle.bw_core.specs.declared.fault.StoreFault.{StoreFault}
-use Rattle.bw_core.specs.declared.fault.StoreFault.TheVariants.{NoMemory}
+use Rattle.bw_terms.specs.declared.fault.StoreFault.{StoreFault}
+use Rattle.bw_terms.specs.declared.fault.StoreFault.TheVariants.{NoMemory}
 use Rattle.bw_core.specs.declared.store.Core.{Core}
 use Rattle.bw_core.specs.Following.{Follows, HasBoxes}
 use Rattle.bw_core.specs.Reading.{HasRead, ReadLeaves, WalkLeaves}

@@ -10,7 +10,7 @@ use Rattle.bw_history.specs.declared.entry.Entry.{Entry}
 use Rattle.bw_history.specs.Entries.{records}
 use Rattle.bw_history.specs.History.{cut}
 use Rattle.bw_history.specs.Machine.{Machine, MayLeave, Stops, keeps}
-use Rattle.bw_core.specs.declared.fault.StoreFault.{StoreFault}
+use Rattle.bw_terms.specs.declared.fault.StoreFault.{StoreFault}
 use Rattle.bw_core.specs.Kept.{EachCutStands, Kept}
 
 -- what a store took and kept; nobody else reads a core

@@ -8,15 +8,15 @@ use Rattle.bw_buffer.specs.Filling.{Filling}
 use Rattle.bw_device.specs.Holding.{Holding}
 use Rattle.bw_ring.specs.declared.feed.Feed.{Feed}
 use Rattle.bw_ring.specs.Ends.{Ring, accepted, places_of, ring_of_feed}
-use Rattle.bw_ring.specs.Limits.{IsConfig as IsRings}
 use Rattle.bw_log.specs.Contents.{Contents}
-use Rattle.bw_log.specs.Limits.{fresh, AreLimits, IsFit}
+use Rattle.bw_log.specs.Limits.{fresh, IsFit}
 use Rattle.bw_making.specs.Begun.{first_making, first_place}
-use Rattle.bw_core.specs.declared.config.Config.{Config}
+use Rattle.bw_terms.specs.declared.config.Config.{Config}
 use Rattle.bw_core.specs.declared.origin.Edge.{Edge}
 use Rattle.bw_history.specs.declared.entry.Entry.{Entry}
-use Rattle.bw_core.specs.declared.fault.StoreFault.{StoreFault}
-use Rattle.bw_core.specs.declared.fault.StoreFault.TheVariants.{NoMemory, BadConfig}
+use Rattle.bw_terms.specs.declared.fault.StoreFault.{StoreFault}
+use Rattle.bw_terms.specs.declared.fault.StoreFault.TheVariants.{NoMemory, BadConfig}
+use Rattle.bw_terms.specs.Ranges.{AreWriters}
 use Rattle.bw_core.specs.Kept.{Kept, filed_of}
 
 -- one empty page
@@ -48,16 +48,6 @@ abbrev pub opened : List Ring → ℕ → ℕ → List Holding → Kept
 opened rings m f spares = started rings [] (one_empty m) (first_place ∷ []) (first_making f) (fresh m f spares)
 
 -- ---- what a store is opened with
-
--- so many writers with rings of so many places each, 1 to 64 and 1 to 4,096
-abbrev pub AreEnds : ℕ → ℕ → Type 0
-AreEnds writers places = IsRings writers places
-
-abbrev pub AreWriters : Config → Type 0
-AreWriters c = AreEnds c.writers c.places
-
-abbrev pub IsConfig : Config → Type 0
-IsConfig c = AreWriters c × AreLimits c.m c.f
 
 -- the boxes are spares that a log of these limits takes
 abbrev pub AreTaken : Config → List Holding → Type 0

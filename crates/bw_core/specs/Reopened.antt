@@ -8,9 +8,10 @@ use Rattle.bw_ring.specs.Ends.{Ring}
 use Rattle.bw_log.specs.Contents.{Contents}
 use Rattle.bw_device.specs.Holding.{Holding}
 use Rattle.bw_core.specs.declared.origin.Edge.{Edge}
-use Rattle.bw_core.specs.declared.fault.StoreFault.{StoreFault}
+use Rattle.bw_terms.specs.declared.fault.StoreFault.{StoreFault}
 use Rattle.bw_core.specs.Kept.{Kept}
-use Rattle.bw_core.specs.Opened.{AreEnds, IsUnmade, no_edge, started}
+use Rattle.bw_core.specs.Opened.{IsUnmade, no_edge, started}
+use Rattle.bw_terms.specs.Ranges.{AreEnds}
 
 -- a segment's number and its length
 abbrev pub edge_at : ℕ → Option Holding → Edge

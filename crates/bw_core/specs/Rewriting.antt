@@ -6,11 +6,11 @@ use Rattle.bw_log.specs.Contents.{Contents}
 use Rattle.bw_log.specs.declared.fault.LogFault.{LogFault}
 use Rattle.bw_care.specs.Moving.{MovedBehind}
 use Rattle.bw_care.specs.Rewriting as care
-use Rattle.bw_core.specs.declared.fault.StoreFault.{StoreFault}
-use Rattle.bw_core.specs.declared.fault.StoreFault.TheVariants.{NoPage}
+use Rattle.bw_terms.specs.declared.fault.StoreFault.{StoreFault}
+use Rattle.bw_terms.specs.declared.fault.StoreFault.TheVariants.{NoPage}
 use Rattle.bw_core.specs.Cleaning.{HasMoved, HasStopped}
 use Rattle.bw_core.specs.Emptied.{Behind, WhereSome}
-use Rattle.bw_core.specs.Faults.{fault_of}
+use Rattle.bw_terms.specs.Told.{fault_of}
 use Rattle.bw_core.specs.Kept.{Kept}
 
 -- whether each of these numbers is one of so many pages

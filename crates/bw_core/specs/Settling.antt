@@ -1,7 +1,7 @@
 -- What a settlement leaves: records taken one after the other, and a flush behind them.
 
 use Rattle.std.specs.Prelude.{ℕ, Bool, false, ◌⊎◌, List, Err}
-use Rattle.bw_core.specs.declared.fault.StoreFault.{StoreFault}
+use Rattle.bw_terms.specs.declared.fault.StoreFault.{StoreFault}
 use Rattle.bw_core.specs.Kept.{Kept}
 use Rattle.bw_ring.specs.declared.lane.Lane.{Lane}
 use Rattle.bw_core.specs.Faults.{FlushAnswers, FlushLeaves, flush_refusal}

@@ -15,7 +15,7 @@ use Rattle.bw_history.specs.declared.entry.Entry.{Entry}
 use Rattle.bw_history.specs.Entries as history
 use Rattle.bw_history.specs.History.{entered}
 use Rattle.bw_history.specs.Lanes.{Dries, IsNext, IsWaiting, TookKnown}
-use Rattle.bw_core.specs.declared.fault.StoreFault.{StoreFault}
+use Rattle.bw_terms.specs.declared.fault.StoreFault.{StoreFault}
 use Rattle.bw_core.specs.declared.store.Core.{Core}
 use Rattle.bw_core.specs.Views.{kept_by, lanes_of, noted_of, IsSound}
 

@@ -4,8 +4,8 @@ use Rattle.std.specs.Prelude.{◌≤◌, ◌≡◌, Result}
 use Rattle.bw_care.specs.Upgrading.{old_segments}
 use Rattle.bw_care.specs.Upgrading as care
 use Rattle.bw_care.specs.declared.upgrader.Upgraded.{Upgraded}
-use Rattle.bw_core.specs.declared.fault.StoreFault.{StoreFault}
-use Rattle.bw_core.specs.declared.fault.StoreFault.TheVariants.{NothingOld}
+use Rattle.bw_terms.specs.declared.fault.StoreFault.{StoreFault}
+use Rattle.bw_terms.specs.declared.fault.StoreFault.TheVariants.{NothingOld}
 use Rattle.bw_core.specs.Cleaning.{GivesUp}
 use Rattle.bw_core.specs.Emptied.{Behind, WhereSome}
 use Rattle.bw_core.specs.Kept.{Kept}

@@ -18,10 +18,10 @@ ghost use Rattle.bw_core.specs.Following.{Continues};
 ghost use Rattle.bw_core.specs.Machine.{RunsAs};
 ghost use Rattle.bw_core.specs.Settled.{IsSettled};
 
-use crate::fault::StoreFault;
 use crate::flush::Spares;
 use crate::store::Core;
 use bw_care::{Cleaned, bytes_upto, clean, live_bytes};
+use bw_terms::StoreFault;
 
 impl Core {
     ghost use Rattle.bw_core.specs.Moving.{MayMove};

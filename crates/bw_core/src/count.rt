@@ -10,8 +10,8 @@ ghost use Rattle.bw_leaf.specs.Changed.{empty_leaf};
 ghost use Rattle.bw_page.specs.Leaves.{plain};
 ghost use Rattle.bw_history.specs.Entries.{records};
 
-use crate::fault::StoreFault;
 use crate::store::Core;
+use bw_terms::StoreFault;
 
 impl Core {
     ghost use Rattle.bw_core.specs.Looking.{LooksAt, OnlyReads, Walks};

@@ -17,10 +17,10 @@ ghost use Rattle.bw_core.specs.Fitting.{back_for};
 ghost use Rattle.bw_core.specs.Taken.{alone, taken};
 ghost use Rattle.bw_core.specs.Taking.{IsWanting};
 
-use crate::fault::StoreFault;
 use crate::store::Core;
 use bw_codec::{Block, Place, Record};
 use bw_making::{apply_entry, apply_found, file, file_delta};
+use bw_terms::StoreFault;
 
 impl Core {
     ghost use Rattle.bw_core.specs.Takes.{Comes, HasFrame, IsAt, TakesGroup};

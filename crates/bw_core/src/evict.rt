@@ -19,10 +19,10 @@ ghost use Rattle.bw_core.specs.Counting.{noted_left};
 ghost use Rattle.bw_core.specs.Reading.{leaves_now, HasRead, ReadLeaves};
 ghost use Rattle.bw_making.specs.Overlay.{is_made};
 
-use crate::fault::StoreFault;
 use crate::store::Core;
 use bw_codec::Key;
 use bw_making::makes;
+use bw_terms::StoreFault;
 
 impl Core {
     ghost use Rattle.bw_core.specs.Going.{KeepsIntake};

@@ -23,11 +23,11 @@ ghost use Rattle.bw_core.specs.Settled.{IsSettled};
 ghost use Rattle.bw_core.specs.Sparing.{takes_last};
 ghost use Rattle.bw_history.specs.Machine.{Stops, keeps};
 
-use crate::fault::StoreFault;
 use crate::store::Core;
 use bw_buffer::Buffer;
 use bw_log::{Log, LogFault};
 use bw_making::begin_next;
+use bw_terms::StoreFault;
 
 /// Which spares a flush may take, where it has to begin a segment.
 #[derive(Clone, Copy)]

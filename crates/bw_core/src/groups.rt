@@ -23,13 +23,13 @@ ghost use Rattle.bw_core.specs.Reading.{HasRead, ReadLeaves};
 ghost use Rattle.bw_core.specs.Taken.{taken_all};
 ghost use Rattle.bw_core.specs.Taking.{FetchLeaves, IsUnplanned, IsWanting};
 
-use crate::fault::StoreFault;
 use crate::store::Core;
 use bw_codec::Record;
 use bw_history::PackedEntry;
 use bw_making::{Draft, apply_entries, copy_of, file_all, guessed, steps_in};
 use bw_page::Step;
 use bw_ring::Group;
+use bw_terms::StoreFault;
 use std::alloc::AllocError;
 
 impl Core {

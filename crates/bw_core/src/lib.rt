@@ -12,18 +12,15 @@
 #![tactic(auto)]
 
 mod clean;
-mod config;
 mod count;
 mod counters;
 mod enter;
 mod evict;
-mod fault;
 mod flush;
 mod forget;
 mod groups;
 mod laws;
 mod needed;
-mod newest;
 mod open;
 mod origin;
 mod prev;
@@ -45,8 +42,7 @@ mod upgrade;
 
 pub use bw_care::{Cleaned, Counters, Upgraded};
 pub use bw_history::{Entry, PackedEntry};
-pub use config::Config;
-pub use fault::{OpenFault, StoreFault, TurnFault};
+pub use bw_terms::{Config, OpenFault, StoreFault, TurnFault};
 pub use laws::each_line_of_the_goal;
 pub use open::are_taken;
 pub use origin::Edge;

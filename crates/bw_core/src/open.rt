@@ -7,14 +7,13 @@
 ghost use Rattle.std.specs.Prelude.{◌≡◌, ◌↔◌, [], ◌∷◌, length, map, IsTrue, IfOk, IfErr, MatchResult};
 ghost use Rattle.bw_ring.specs.Ends.{ring_of_feed, ring_of_lane};
 ghost use Rattle.bw_making.specs.Begun.{first_place, first_making};
-ghost use Rattle.bw_core.specs.Opened.{opened, one_empty, AreFresh, AreTaken, IsConfig, IsOpenFault};
+ghost use Rattle.bw_core.specs.Opened.{opened, one_empty, AreFresh, AreTaken, IsOpenFault};
+ghost use Rattle.bw_terms.specs.Ranges.{IsConfig};
 ghost use Rattle.bw_core.specs.Counting.{noted_from};
 ghost use Rattle.bw_core.specs.Reopened.{reopened};
 ghost use Rattle.bw_care.specs.Tallies.{bytes_of, up};
 ghost use Rattle.bw_care.specs.Views.{seen, IsSound as IsSoundLog};
 
-use crate::config::Config;
-use crate::fault::{OpenFault, StoreFault};
 use crate::origin::{Origin, edge_of};
 use crate::store::{Core, Counts, Pages, Seals};
 use bw_buffer::Buffer;
@@ -26,6 +25,7 @@ use bw_log::Log;
 use bw_making::first_frame;
 use bw_page::Leaves;
 use bw_ring::Feed;
+use bw_terms::{Config, OpenFault, StoreFault};
 use std::alloc::Global;
 use std::snapshot::Snapshot;
 

@@ -9,9 +9,9 @@ ghost use Rattle.bw_page.specs.Leaves.{plain};
 ghost use Rattle.bw_history.specs.Entries.{records};
 ghost use Rattle.bw_walks.specs.Back.{IsGreatest, IsInReach, IsLast, IsLastBelow};
 
-use crate::fault::StoreFault;
 use crate::store::Core;
 use bw_codec::{Key, Value};
+use bw_terms::StoreFault;
 use bw_walks::{Look, Reach, found_on, page_before};
 
 impl Core {

@@ -18,11 +18,11 @@ ghost use Rattle.bw_history.specs.Entries.{records};
 ghost use Rattle.bw_core.specs.Reading.{leaves_now, ReadLeaves, PageLeaves};
 ghost use Rattle.bw_making.specs.Share.{ops_at};
 
-use crate::fault::StoreFault;
 use crate::store::Core;
 use bw_codec::{Key, Leaf, Packed, Value};
 use bw_making::overlay_of;
 use bw_page::{Word, change_all, word_in_records};
+use bw_terms::StoreFault;
 use std::alloc::AllocError;
 
 impl Core {

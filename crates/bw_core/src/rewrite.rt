@@ -12,10 +12,10 @@ ghost use Rattle.bw_core.specs.Machine.{RunsAs};
 ghost use Rattle.bw_core.specs.Rewriting.{are_pages, RewriteLeaves, RewriteMoves};
 ghost use Rattle.bw_core.specs.Settled.{IsSettled};
 
-use crate::fault::StoreFault;
 use crate::flush::Spares;
 use crate::store::Core;
 use bw_care::rewrite;
+use bw_terms::StoreFault;
 
 impl Core {
     ghost use Rattle.bw_core.specs.Going.{GoesOn, IsQuiet};

@@ -4,8 +4,8 @@
 ghost use Rattle.std.specs.Prelude.{◌≡◌, ◌≤◌, ◌+◌, vec_len, OnOk};
 ghost use Rattle.std.specs.Vec.{vec_capacity};
 
-use crate::newest::renew;
 use crate::store::Core;
+use bw_care::renew;
 use bw_history::{frames_between, push_many};
 use bw_making::begin_at;
 use std::alloc::AllocError;

@@ -9,10 +9,10 @@ ghost use Rattle.bw_page.specs.Ahead.{IsFirst, IsStretch};
 ghost use Rattle.bw_page.specs.Leaves.{home, plain};
 ghost use Rattle.bw_history.specs.Entries.{records};
 
-use crate::fault::StoreFault;
 use crate::store::Core;
 use bw_codec::{Key, Value};
 use bw_page::{add_pairs, pair_from};
+use bw_terms::StoreFault;
 
 impl Core {
     ghost use Rattle.bw_core.specs.Looking.{LooksAt, OnlyReads, Walks};

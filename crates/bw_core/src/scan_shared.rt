@@ -8,9 +8,9 @@ ghost use Rattle.bw_page.specs.Ahead.{IsStretch};
 ghost use Rattle.bw_page.specs.Leaves.{home, plain};
 ghost use Rattle.bw_history.specs.Entries.{records};
 
-use crate::fault::StoreFault;
 use crate::store::Core;
 use bw_codec::{Key, Pair};
+use bw_terms::StoreFault;
 use bw_walks::share_pairs;
 
 impl Core {

@@ -13,9 +13,9 @@ ghost use Rattle.bw_core.specs.Kept.{EachCutStands};
 ghost use Rattle.bw_core.specs.Reading.{HasRead, ReadLeaves, with_spare, rolled};
 ghost use Rattle.bw_core.specs.Stopping.{FindsCut, FindsStop, MayCut};
 
-use crate::fault::StoreFault;
 use crate::store::Core;
 use bw_device::Segment;
+use bw_terms::StoreFault;
 
 impl Core {
     ghost use Rattle.bw_core.specs.Going.{GoesOn};

@@ -14,10 +14,10 @@ ghost use Rattle.bw_core.specs.Goal.{Goal, SameFeeds, Sequel};
 ghost use Rattle.bw_core.specs.Machine.{machine_of};
 ghost use Rattle.bw_core.specs.Settling.{SettleRefuses};
 
-use crate::fault::StoreFault;
 use crate::flush::Spares;
 use crate::store::Core;
 use bw_ring::Feed;
+use bw_terms::StoreFault;
 
 impl Core {
     ghost use Rattle.bw_core.specs.Going.{IsQuiet};

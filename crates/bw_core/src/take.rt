@@ -24,13 +24,13 @@ ghost use Rattle.bw_history.specs.Lanes.{IsWaiting, Dries};
 ghost use Rattle.bw_making.specs.Planning.{listed};
 ghost use Rattle.bw_core.specs.Taking.{TakeLeaves, WaitingLeaves, GroupLeaves, IsPlan, IsStopped, IsUnplanned};
 
-use crate::fault::StoreFault;
 use crate::flush::Spares;
 use crate::store::Core;
 use bw_codec::Record;
 use bw_history::PackedEntry;
 use bw_making::{Plan, place_for, planned_for};
 use bw_ring::{Group, Items};
+use bw_terms::StoreFault;
 
 impl Core {
     ghost use Rattle.bw_core.specs.Takes.{Comes, HasFrame, HasLane, IsAt, IsPacked, TakesAny, TakesGroup, TakesWaiting, Waits};

@@ -9,9 +9,9 @@ ghost use Rattle.bw_core.specs.Following.{groups_since, RefusedAt};
 ghost use Rattle.bw_core.specs.Goal.{SameFeeds, Sequel};
 ghost use Rattle.bw_core.specs.Machine.{machine_of};
 
-use crate::fault::StoreFault;
 use crate::store::Core;
 use bw_ring::Feed;
+use bw_terms::StoreFault;
 
 impl Core {
     ghost use Rattle.bw_core.specs.Views.{away_in, kept_by, lanes_of, noted_of, IsSound};

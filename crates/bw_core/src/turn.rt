@@ -10,8 +10,8 @@ ghost use Rattle.bw_core.specs.Machine.{machine_of, MayBeStopped};
 ghost use Rattle.bw_history.specs.Lanes.{Dries, AreDry};
 ghost use Rattle.bw_history.specs.Machine.{TakesAndStops, TakesMany};
 
-use crate::fault::TurnFault;
 use crate::store::Core;
+use bw_terms::TurnFault;
 
 /// How many groups were taken, and how many records these have.
 #[derive(Clone, Copy)]

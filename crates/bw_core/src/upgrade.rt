@@ -12,9 +12,9 @@ ghost use Rattle.bw_core.specs.Following.{Continues};
 ghost use Rattle.bw_core.specs.Machine.{RunsAs};
 ghost use Rattle.bw_core.specs.Upgrading.{UpgradeMoves, UpgradeLeaves};
 
-use crate::fault::StoreFault;
 use crate::store::Core;
 use bw_care::{Upgraded, bytes_upto, live_bytes, old_segments, upgrade};
+use bw_terms::StoreFault;
 
 impl Core {
     ghost use Rattle.bw_core.specs.Moving.{MayMove};

@@ -1,7 +1,7 @@
 -- One turn more, with what the plan wants behind it.
 
 use Rattle.std.proofs.Common.{◌≡◌, ℕ, suc, ◌+◌, inr, Bool, true, false, Result, Ok, Err, MatchResult, sym, subst, ap, ◌∙◌, arith}
-use Rattle.bw_core.specs.declared.fault.StoreFault.{StoreFault}
+use Rattle.bw_terms.specs.declared.fault.StoreFault.{StoreFault}
 use Rattle.bw_store.specs.Kept.{Kept}
 use Rattle.bw_drive.specs.declared.plan.Plan.{Plan}
 use Rattle.bw_drive.specs.Pace.{FlushesAndCleans, FlushOrCleanStops, Paces, Tends, TurnedOnce, TurnStops, is_due}

@@ -4,7 +4,7 @@ use Rattle.std.proofs.Common.{ℕ, ◌≡◌, ◌≤◌, ◌+◌, ◌⊎◌, inl
 use Rattle.std.proofs.lemmas.List.{drop-drop}
 use Rattle.bw_log.specs.Contents.{roster}
 use Rattle.bw_care.specs.declared.cleaner.Cleaned.{Cleaned}
-use Rattle.bw_core.specs.declared.fault.StoreFault.{StoreFault}
+use Rattle.bw_terms.specs.declared.fault.StoreFault.{StoreFault}
 use Rattle.bw_store.specs.Kept.{Kept}
 use Rattle.bw_ring.specs.declared.lane.Lane.{Lane}
 use Rattle.bw_store.specs.Following.{Continues, Follows, HasBoxes}

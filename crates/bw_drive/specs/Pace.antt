@@ -3,7 +3,7 @@
 use Rattle.std.specs.Prelude.{ℕ, zero, suc, ◌+◌, ◌%◌, ◌≡◌, ◌==◌, ◌<◌, ◌≤◌, ◌⊎◌, Bool, true, false, Option, List, Ok, Err, length}
 use Rattle.bw_care.specs.declared.cleaner.Cleaned.{Cleaned}
 use Rattle.bw_ring.specs.declared.lane.Lane.{Lane}
-use Rattle.bw_core.specs.declared.fault.StoreFault.{StoreFault}
+use Rattle.bw_terms.specs.declared.fault.StoreFault.{StoreFault}
 use Rattle.bw_store.specs.Kept.{Kept}
 use Rattle.bw_store.specs.Following.{TookInTurn, RefusedAt, groups_since}
 use Rattle.bw_core.specs.Faults.{FlushAnswers}

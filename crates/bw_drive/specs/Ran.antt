@@ -2,8 +2,8 @@
 
 use Rattle.std.specs.Prelude.{ℕ, zero, suc, ◌≡◌, ◌≤◌, ◌⊎◌, Bool, Err, List, length, drop}
 use Rattle.bw_log.specs.Contents.{roster}
-use Rattle.bw_core.specs.declared.fault.StoreFault.{StoreFault}
-use Rattle.bw_core.specs.declared.fault.StoreFault.TheVariants.{NoMemory}
+use Rattle.bw_terms.specs.declared.fault.StoreFault.{StoreFault}
+use Rattle.bw_terms.specs.declared.fault.StoreFault.TheVariants.{NoMemory}
 use Rattle.bw_store.specs.Kept.{Kept}
 use Rattle.bw_ring.specs.declared.lane.Lane.{Lane}
 use Rattle.bw_store.specs.Following.{Continues, HasBoxes, RefusedAt}

@@ -2,7 +2,7 @@
 
 use Rattle.std.proofs.Common.{◌≡◌, ℕ, Bool, List, subst}
 use Rattle.bw_ring.specs.declared.lane.Lane.{Lane}
-use Rattle.bw_core.specs.declared.fault.StoreFault.{StoreFault}
+use Rattle.bw_terms.specs.declared.fault.StoreFault.{StoreFault}
 use Rattle.bw_core.specs.Following.{RefusedAfter, RefusedAt}
 use Rattle.bw_core.specs.Kept.{Kept}
 

@@ -2,7 +2,7 @@
 
 use Rattle.std.specs.Prelude.{ℕ, ◌≡◌, Bool, List, Some, None}
 use Rattle.bw_ring.specs.declared.lane.Lane.{Lane}
-use Rattle.bw_core.specs.declared.fault.StoreFault.{StoreFault}
+use Rattle.bw_terms.specs.declared.fault.StoreFault.{StoreFault}
 use Rattle.bw_core.specs.Following.{Follows, RefusedAt}
 use Rattle.bw_core.specs.Kept.{Kept}
 use Rattle.bw_core.specs.Settling.{SettleRefuses}

@@ -6,7 +6,7 @@ use Rattle.bw_core.specs.Cleaning.{CleanLeaves, HasBoxesBut, HasFloorBut}
 use Rattle.bw_core.specs.Counting.{CountsClean}
 use Rattle.bw_core.specs.Kept.{Kept}
 use Rattle.bw_core.specs.Noted.{Noted}
-use Rattle.bw_core.specs.declared.fault.StoreFault.{StoreFault}
+use Rattle.bw_terms.specs.declared.fault.StoreFault.{StoreFault}
 use Rattle.bw_site.specs.Faults.{fault_of_store, IsOfSite}
 use Rattle.bw_site.specs.declared.fault.HomeFault.{HomeFault}
 

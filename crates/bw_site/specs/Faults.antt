@@ -1,7 +1,7 @@
 -- Why a home was refused, by whether its site refused or its store.
 
-use Rattle.bw_core.specs.declared.fault.StoreFault.{StoreFault}
-use Rattle.bw_core.specs.declared.fault.StoreFault.TheVariants as store
+use Rattle.bw_terms.specs.declared.fault.StoreFault.{StoreFault}
+use Rattle.bw_terms.specs.declared.fault.StoreFault.TheVariants as store
 use Rattle.bw_site.specs.declared.fault.HomeFault.{HomeFault}
 use Rattle.bw_site.specs.declared.fault.HomeFault.TheVariants.{NoMemory, Folder, Made, Lease, Recovery, Store}
 

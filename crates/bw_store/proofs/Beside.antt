@@ -3,7 +3,7 @@
 
 use Rattle.std.proofs.Common.{◌≡◌, ◌∙◌, ◌⊎◌, inl, Result, Ok, Err}
 use Rattle.bw_device.specs.Holding.{Holding}
-use Rattle.bw_core.specs.declared.fault.StoreFault.{StoreFault}
+use Rattle.bw_terms.specs.declared.fault.StoreFault.{StoreFault}
 use Rattle.bw_core.specs.Going as going
 use Rattle.bw_core.specs.Looking as core
 use Rattle.bw_core.specs.Machine as core_machine

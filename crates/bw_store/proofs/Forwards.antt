@@ -11,9 +11,9 @@ use Rattle.bw_core.specs.Noted.{Noted}
 use Rattle.bw_core.specs.Kept as core
 use Rattle.bw_core.specs.Following as follow
 use Rattle.bw_core.specs.Settling as settling
-use Rattle.bw_core.specs.declared.fault.StoreFault.{StoreFault}
-use Rattle.bw_core.specs.declared.fault.StoreFault.TheVariants.{NoMemory}
-use Rattle.bw_core.specs.declared.fault.TurnFault.{TurnFault}
+use Rattle.bw_terms.specs.declared.fault.StoreFault.{StoreFault}
+use Rattle.bw_terms.specs.declared.fault.StoreFault.TheVariants.{NoMemory}
+use Rattle.bw_terms.specs.declared.fault.TurnFault.{TurnFault}
 use Rattle.bw_store.specs.Following.{Turned}
 use Rattle.bw_store.specs.Kept.{Kept, AreVersions, EndAtCuts, IsSound, Beside, core_of, with_versions}
 use Rattle.bw_store.specs.Showing.{AreUnseen, Hides, Settles, SettleRefuses, Shows}

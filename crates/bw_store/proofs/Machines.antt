@@ -7,8 +7,8 @@ use Rattle.bw_history.specs.History.{AreCuts, cut}
 use Rattle.bw_history.specs.Machine.{Machine, Stops, TakesAndKeeps, TakesAndStops, TakesMany, TakesOne, keeps, shows, takes}
 use Rattle.bw_core.specs.Kept as core
 use Rattle.bw_core.specs.Machine as core_machine
-use Rattle.bw_core.specs.declared.fault.StoreFault.{StoreFault}
-use Rattle.bw_core.specs.declared.fault.TurnFault.{TurnFault}
+use Rattle.bw_terms.specs.declared.fault.StoreFault.{StoreFault}
+use Rattle.bw_terms.specs.declared.fault.TurnFault.{TurnFault}
 use Rattle.bw_core.proofs.Machines.{may_leave}
 use Rattle.bw_core.proofs.RecordMore.{cut_within}
 use Rattle.bw_store.specs.Kept.{IsSound, Kept, core_of}

@@ -6,8 +6,8 @@ use Rattle.bw_versions.specs.Batches.{BatchData}
 use Rattle.bw_versions.specs.Versioned.{Versioned}
 use Rattle.bw_versions.specs.Posted.{posted_of}
 use Rattle.bw_ring.specs.declared.lane.Lane.{Lane}
-use Rattle.bw_core.specs.declared.fault.StoreFault.{StoreFault}
-use Rattle.bw_core.specs.declared.fault.StoreFault.TheVariants.{NoMemory}
+use Rattle.bw_terms.specs.declared.fault.StoreFault.{StoreFault}
+use Rattle.bw_terms.specs.declared.fault.StoreFault.TheVariants.{NoMemory}
 use Rattle.bw_core.specs.Faults.{FlushAnswers}
 use Rattle.bw_core.specs.Cleaning as cleaning
 use Rattle.bw_core.specs.Following as core

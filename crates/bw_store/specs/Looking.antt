@@ -3,8 +3,8 @@
 
 use Rattle.std.specs.Prelude.{ℕ, ◌≡◌, false, Result, IfErr}
 use Rattle.bw_device.specs.Holding.{Holding}
-use Rattle.bw_core.specs.declared.fault.StoreFault.{StoreFault}
-use Rattle.bw_core.specs.declared.fault.StoreFault.TheVariants.{NoMemory}
+use Rattle.bw_terms.specs.declared.fault.StoreFault.{StoreFault}
+use Rattle.bw_terms.specs.declared.fault.StoreFault.TheVariants.{NoMemory}
 use Rattle.bw_store.specs.declared.store.Store.{Store}
 use Rattle.bw_store.specs.Following.{Follows, HasBoxes}
 use Rattle.bw_store.specs.Reading.{HasRead, WalkLeaves}

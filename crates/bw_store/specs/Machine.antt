@@ -4,7 +4,7 @@ use Rattle.std.specs.Prelude.{◌≡◌, ◌⊎◌, MatchResult, Result, length}
 use Rattle.bw_versions.specs.Posted.{entries_in, posted_of}
 use Rattle.bw_history.specs.Machine.{Machine, Stops, TakesAndKeeps, keeps, shows}
 use Rattle.bw_core.specs.Machine as core
-use Rattle.bw_core.specs.declared.fault.StoreFault.{StoreFault}
+use Rattle.bw_terms.specs.declared.fault.StoreFault.{StoreFault}
 use Rattle.bw_store.specs.Kept.{EachCutStands, Kept, core_of}
 
 -- what a store took and kept, and how much of it is published

@@ -10,9 +10,10 @@ use Rattle.bw_ring.specs.declared.feed.Feed.{Feed}
 use Rattle.bw_log.specs.Contents.{Contents}
 use Rattle.bw_log.specs.Limits.{IsFit}
 use Rattle.bw_versions.specs.Versioned.{Versioned}
-use Rattle.bw_core.specs.declared.fault.StoreFault.{StoreFault}
+use Rattle.bw_terms.specs.declared.fault.StoreFault.{StoreFault}
 use Rattle.bw_core.specs.Opened.{AreUnused, IsUnmade}
 use Rattle.bw_core.specs.Opened as core
+use Rattle.bw_terms.specs.Ranges as terms
 use Rattle.bw_core.specs.Reopened as core_again
 use Rattle.bw_store.specs.Kept.{Kept, with_versions}
 use Rattle.bw_store.specs.declared.config.Config.{Config}
@@ -30,7 +31,7 @@ reopened rings last filed newest making log versions =
 
 -- so many writers with rings of so many places each, 1 to 64 and 1 to 4,096, and 1 to 64 places for readers
 abbrev pub AreEnds : ℕ → ℕ → ℕ → Type 0
-AreEnds writers places readers = core.AreEnds writers places × (1 ≤ readers) × (readers ≤ 64)
+AreEnds writers places readers = terms.AreEnds writers places × (1 ≤ readers) × (readers ≤ 64)
 
 abbrev pub AreWriters : Config → Type 0
 AreWriters c = AreEnds c.writers c.places c.readers

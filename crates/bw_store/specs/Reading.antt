@@ -4,7 +4,7 @@
 use Rattle.std.specs.Prelude.{ℕ, Result, List}
 use Rattle.bw_record.specs.declared.leaf.Leaf.{Leaf}
 use Rattle.bw_device.specs.Holding.{Holding}
-use Rattle.bw_core.specs.declared.fault.StoreFault.{StoreFault}
+use Rattle.bw_terms.specs.declared.fault.StoreFault.{StoreFault}
 use Rattle.bw_core.specs.Reading as core
 use Rattle.bw_store.specs.Kept.{Kept, Beside, core_of, with_versions}
 

@@ -6,8 +6,8 @@ use Rattle.bw_versions.specs.Posted.{posted_of}
 use Rattle.bw_versions.specs.Versioned.{IsUpTo, Versioned}
 use Rattle.bw_page.specs.Shown.{Shown}
 use Rattle.bw_ring.specs.declared.lane.Lane.{Lane}
-use Rattle.bw_core.specs.declared.fault.StoreFault.{StoreFault}
-use Rattle.bw_core.specs.declared.fault.StoreFault.TheVariants.{NoMemory}
+use Rattle.bw_terms.specs.declared.fault.StoreFault.{StoreFault}
+use Rattle.bw_terms.specs.declared.fault.StoreFault.TheVariants.{NoMemory}
 use Rattle.bw_history.specs.History.{upto}
 use Rattle.bw_core.specs.Faults.{FlushAnswers}
 use Rattle.bw_core.specs.Faults as faults

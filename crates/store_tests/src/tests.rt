@@ -1,7 +1,6 @@
 //! Calls on a core, and on a store with readers, as tables of steps: each is walked over both to the
 //! first step that goes otherwise than told.
 
-mod boxes;
 mod cleaning;
 mod counting;
 mod cutting;

@@ -4,8 +4,7 @@ ghost use Rattle.std.specs.Prelude.{IfSome};
 ghost use Rattle.bw_care.specs.Found.{IsRecovered};
 ghost use Rattle.test_subjects.specs.Views.{IsSoundBeside};
 
-use super::boxes::{LEAST, fused, maker_of, plain, supplied};
-use super::opening::{Held, Supply, opened, reopened, shut};
+use super::opening::{Held, opened, reopened, shut};
 use super::steps::Step;
 use super::steps::Step::{Cuts, Flush, Frame, Lives, Page, Put, Refused, Segments, Turn};
 use super::telling::{holds, went};
@@ -15,6 +14,7 @@ use bw_care::{RecoverCause, Recovered, recover};
 use bw_store::StoreFault;
 use std::alloc::Global;
 use std::sync::Wait;
+use test_subjects::boxes::{LEAST, Supply, fused, maker_of, plain, supplied};
 use test_subjects::putting::AGAIN;
 use test_subjects::subject::{BOTH, Over, config_of};
 

@@ -3,15 +3,15 @@
 
 ghost use Rattle.test_subjects.specs.Views.{AreItsFeeds, IsSoundBeside};
 
-use super::boxes::{dying, fused, supplied};
 use super::cutting::THREE;
-use super::opening::{Held, Supply, opened, shut};
+use super::opening::{Held, opened, shut};
 use super::steps::Step::{Clean, Evict, Frame, Frames, Get, Page, Put, Turn};
 use super::steps::{Step, goes};
 use super::telling::{all_went, holds};
 use super::walking::{lives_on, wrong_step};
 use bw_care::{RecoverCause, recover};
 use std::sync::Wait;
+use test_subjects::boxes::{Supply, dying, fused, supplied};
 use test_subjects::putting::FIVE;
 use test_subjects::subject::{BOTH, Over, config_of};
 

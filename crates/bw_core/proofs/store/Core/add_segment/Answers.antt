@@ -1,5 +1,5 @@
 use Rattle.std.proofs.Common.{◌∙◌, ap, sym}
-use Rattle.bw_core.specs.Faults.{fault_of}
+use Rattle.bw_terms.specs.Told.{fault_of}
 use Rattle.bw_core.proofs.Logs.{added_counts, log_follows, log_sound, only_bad}
 use Rattle.bw_core.proofs.store.Core.add_segment.Goals as goal
 

@@ -5,7 +5,7 @@ use Rattle.bw_care.specs.declared.cleaner.Cleaned.{Cleaned}
 use Rattle.bw_care.specs.Moving.{IsCleaned, Refuses}
 use Rattle.bw_core.specs.Cleaning.{MoveLeaves}
 use Rattle.bw_core.proofs.CleanedMore.{goes_on, live_stay, gives_floor, gives_follows, move_boxes, not_nothing}
-use Rattle.bw_core.specs.declared.fault.StoreFault.TheVariants.{NothingOld}
+use Rattle.bw_terms.specs.declared.fault.StoreFault.TheVariants.{NothingOld}
 use Rattle.bw_care.specs.declared.tally.Tally.{Tally}
 use Rattle.bw_core.specs.Counting.{counted_gone}
 use Rattle.bw_core.specs.Noted.{Noted}

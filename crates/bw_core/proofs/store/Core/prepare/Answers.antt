@@ -1,7 +1,8 @@
 use Rattle.std.proofs.Common.{ℕ, Bool, subst, refl}
 use Rattle.std.proofs.lemmas.Result.{err_from_is_err_and}
 use Rattle.bw_log.specs.Appends.{refusal}
-use Rattle.bw_core.specs.Faults.{IsRefused, fault_of}
+use Rattle.bw_core.specs.Faults.{IsRefused}
+use Rattle.bw_terms.specs.Told.{fault_of}
 use Rattle.bw_core.specs.Sparing.{takes_last}
 use Rattle.bw_core.specs.Views.{kept_by}
 use Rattle.bw_core.proofs.Refusing.{checked}

@@ -7,7 +7,7 @@ use Rattle.bw_core.specs.Kept.{Kept}
 use Rattle.bw_core.specs.Upgrading.{UpgradeMoves}
 use Rattle.bw_core.proofs.CleanedMore.{goes_on, gives_floor, gives_follows, not_nothing}
 use Rattle.bw_core.proofs.UpgradedMore.{old_stay, upgrade_boxes}
-use Rattle.bw_core.specs.declared.fault.StoreFault.TheVariants.{NothingOld}
+use Rattle.bw_terms.specs.declared.fault.StoreFault.TheVariants.{NothingOld}
 use Rattle.bw_care.specs.declared.tally.Tally.{Tally}
 use Rattle.bw_core.specs.Counting.{counted_gone}
 use Rattle.bw_core.specs.Noted.{Noted}

@@ -2,7 +2,7 @@ use Rattle.std.proofs.Common.{[], sym, ap, ◌∙◌}
 use Rattle.bw_page.specs.Shown.{Shown}
 use Rattle.bw_core.specs.Kept as kept
 use Rattle.bw_core.specs.Opened.{one_empty}
-use Rattle.bw_core.specs.declared.config.Config.{Config}
+use Rattle.bw_terms.specs.declared.config.Config.{Config}
 use Rattle.bw_store.proofs.Forwards.{begun_sound}
 use Rattle.bw_store.proofs.store.Store.open.Goals as goal
 

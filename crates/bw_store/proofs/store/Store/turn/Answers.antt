@@ -1,7 +1,7 @@
 use Rattle.std.proofs.Common.{refl, rules}
 use Rattle.bw_core.specs.Following as follow
 use Rattle.bw_core.specs.Views as core
-use Rattle.bw_core.specs.declared.fault.TurnFault.{TurnFault}
+use Rattle.bw_terms.specs.declared.fault.TurnFault.{TurnFault}
 use Rattle.bw_store.specs.Kept.{with_versions}
 use Rattle.bw_store.specs.Views.{kept_by}
 use Rattle.bw_store.proofs.Forwards.{err_beside, ok_beside, turned_beside, turned_continues}

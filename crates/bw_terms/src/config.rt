@@ -1,7 +1,7 @@
 //! What a store is opened with.
 
 ghost use Rattle.std.specs.Prelude.{◌↔◌, IsTrue};
-ghost use Rattle.bw_core.specs.Opened.{AreWriters, IsConfig};
+ghost use Rattle.bw_terms.specs.Ranges.{AreWriters, IsConfig};
 ghost use Rattle.bw_log.specs.Limits.{AreLimits};
 
 use bw_codec::limits::{MAX_FRAME, MAX_PAIRS, MIN_FRAME, MIN_PAIRS};
@@ -20,7 +20,8 @@ pub struct Config {
 }
 
 impl Config {
-    pub(crate) fn is_lawful(&self) -> bool
+    /// Whether all numbers are in their ranges: a store may be opened with them.
+    pub fn is_lawful(&self) -> bool
         ensures { IsTrue result ↔ IsConfig self.now }
     {
         self.are_writers() && self.are_limits()

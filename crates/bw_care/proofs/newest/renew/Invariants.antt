@@ -2,7 +2,7 @@ use Rattle.std.proofs.Common.{◌≡◌, ◌≤◌, ◌-◌, ℕ, length, slice_
 use Rattle.bw_log.specs.Contents.{counted}
 use Rattle.bw_log.specs.Places.{place_of}
 use Rattle.bw_care.specs.Views.{seen}
-use Rattle.bw_core.proofs.newest.renew.Given as goal
+use Rattle.bw_care.proofs.newest.renew.Given as goal
 
 abbrev pub invariant-pages : goal.invariant-pages
 invariant-pages g l = record {

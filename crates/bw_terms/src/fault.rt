@@ -1,9 +1,8 @@
 //! Why a call on a store was refused.
 
 ghost use Rattle.std.specs.Prelude.{◌≡◌};
-ghost use Rattle.bw_core.specs.declared.fault.StoreFault.TheVariants.{NoMemory};
-ghost use Rattle.bw_core.specs.Cleaning.{fault_of_clean};
-ghost use Rattle.bw_core.specs.Faults.{fault_of, fault_of_apply};
+ghost use Rattle.bw_terms.specs.declared.fault.StoreFault.TheVariants.{NoMemory};
+ghost use Rattle.bw_terms.specs.Told.{fault_of_clean, fault_of, fault_of_apply};
 
 use bw_care::CleanFault;
 use bw_device::Segment;

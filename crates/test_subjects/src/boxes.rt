@@ -1,21 +1,28 @@
-//! Boxes in memory.
+//! Boxes in memory, over which a core or a store is opened.
 
-use super::opening::Supply;
 use bw_device::{DeadSegment, Desk, FuseSegment, MemSegment, Segment};
 use std::alloc::Global;
 
+/// The boxes that a store is opened over, and those that there are more.
+#[derive(Drop)]
+pub struct Supply {
+    pub boxes: Vec<Box<dyn Segment>>,
+    pub more: Vec<Box<dyn Segment>>,
+}
+
 /// The least capacity of a box for frames of 65,536 bytes.
-pub(super) const LEAST: u64 = 65_560;
+pub const LEAST: u64 = 65_560;
 
 /// Where boxes of one capacity come from.
 #[derive(Drop)]
-pub(super) struct Maker {
+pub struct Maker {
     alloc: Global,
     desk: Desk,
     capacity: u64,
 }
 
-pub(super) fn maker_of(alloc: Global, capacity: u64) -> Option<Maker> {
+/// What makes boxes of this capacity, of one desk.
+pub fn maker_of(alloc: Global, capacity: u64) -> Option<Maker> {
     Some(Maker {
         alloc,
         desk: Desk::new(alloc, 128).ok()?,
@@ -25,14 +32,14 @@ pub(super) fn maker_of(alloc: Global, capacity: u64) -> Option<Maker> {
 
 impl Maker {
     /// A box more, with these bytes.
-    pub(super) fn push(&mut self, bytes: &[u8], boxes: &mut Vec<Box<dyn Segment>>) -> Option<()> {
+    pub fn push(&mut self, bytes: &[u8], boxes: &mut Vec<Box<dyn Segment>>) -> Option<()> {
         let lease = self.desk.take().ok()?;
         let segment = MemSegment::with_bytes(self.alloc, lease, self.capacity, bytes).ok()?;
         boxes.push(Box::new(self.alloc, segment).ok()?).ok()
     }
 
     /// A box more, with the bytes of a text in hex.
-    pub(super) fn push_hex(
+    pub fn push_hex(
         &mut self,
         text: &'static str,
         boxes: &mut Vec<Box<dyn Segment>>,
@@ -42,7 +49,7 @@ impl Maker {
     }
 
     /// So many boxes more.
-    pub(super) fn fill(&mut self, many: u32, boxes: &mut Vec<Box<dyn Segment>>) -> Option<()> {
+    pub fn fill(&mut self, many: u32, boxes: &mut Vec<Box<dyn Segment>>) -> Option<()> {
         for _ in 0..many {
             self.push(&[], boxes)?;
         }
@@ -60,7 +67,7 @@ impl Maker {
 
 /// Six boxes, of which the one with this lease fails for good after so many calls and keeps so many
 /// bytes of an append.
-pub(super) fn dying(alloc: Global, lease: u32, dead: (u64, u64)) -> Option<Supply> {
+pub fn dying(alloc: Global, lease: u32, dead: (u64, u64)) -> Option<Supply> {
     let mut maker = maker_of(alloc, LEAST)?;
     let mut boxes: Vec<Box<dyn Segment>> = Vec::new(alloc);
     maker.fill(lease, &mut boxes)?;
@@ -76,7 +83,7 @@ pub(super) fn dying(alloc: Global, lease: u32, dead: (u64, u64)) -> Option<Suppl
 
 /// A box with the bytes of a text in hex, of which no further failure can be counted, and so many
 /// behind it.
-pub(super) fn worn(alloc: Global, text: &'static str, behind: u32) -> Option<Supply> {
+pub fn worn(alloc: Global, text: &'static str, behind: u32) -> Option<Supply> {
     let mut maker = maker_of(alloc, LEAST)?;
     let mut boxes: Vec<Box<dyn Segment>> = Vec::new(alloc);
     let bytes = hex::decode(alloc, text).ok()?;
@@ -93,19 +100,19 @@ pub(super) fn worn(alloc: Global, text: &'static str, behind: u32) -> Option<Sup
 
 /// Which boxes there are, each of this capacity.
 #[derive(Clone, Copy)]
-pub(super) struct Row {
-    pub(super) boxes: u32,
+pub struct Row {
+    pub boxes: u32,
     /// Behind them one that fails once, after so many calls, and keeps so many bytes of an append.
-    pub(super) fuse: Option<(u64, u64)>,
+    pub fuse: Option<(u64, u64)>,
     /// So many behind that one.
-    pub(super) behind: u32,
+    pub behind: u32,
     /// So many more.
-    pub(super) more: u32,
-    pub(super) capacity: u64,
+    pub more: u32,
+    pub capacity: u64,
 }
 
 /// So many boxes of the least capacity, and so many more.
-pub(super) fn plain(boxes: u32, more: u32) -> Row {
+pub fn plain(boxes: u32, more: u32) -> Row {
     Row {
         boxes,
         fuse: None,
@@ -116,7 +123,7 @@ pub(super) fn plain(boxes: u32, more: u32) -> Row {
 }
 
 /// So many boxes of that capacity, then one that fails so, and so many behind it.
-pub(super) fn fused(boxes: u32, fuse: (u64, u64), behind: u32) -> Row {
+pub fn fused(boxes: u32, fuse: (u64, u64), behind: u32) -> Row {
     Row {
         fuse: Some(fuse),
         behind,
@@ -125,7 +132,7 @@ pub(super) fn fused(boxes: u32, fuse: (u64, u64), behind: u32) -> Row {
 }
 
 /// The boxes of a row, of one desk.
-pub(super) fn supplied(alloc: Global, row: &Row) -> Option<Supply> {
+pub fn supplied(alloc: Global, row: &Row) -> Option<Supply> {
     let mut maker = maker_of(alloc, row.capacity)?;
     let mut supply = Supply {
         boxes: Vec::new(alloc),

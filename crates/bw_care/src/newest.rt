@@ -14,8 +14,8 @@ use bw_codec::Place;
 use bw_log::Log;
 use std::alloc::{AllocError, Global};
 
-// So many places, which are noted later.
-pub(crate) fn blank_places(alloc: Global, pages: usize) -> Result<Vec<Place>, AllocError>
+/// So many places, which are noted later.
+pub fn blank_places(alloc: Global, pages: usize) -> Result<Vec<Place>, AllocError>
     ensures { IfOk result (λ places. length places.items ≡ pages) }
 {
     let mut places = Vec::with_capacity(alloc, pages)?;
@@ -26,7 +26,7 @@ pub(crate) fn blank_places(alloc: Global, pages: usize) -> Result<Vec<Place>, Al
 }
 
 /// Notes the last block of each page as the log has it. Nothing waits in the frame in the making.
-pub(crate) fn renew(newest: &mut Vec<Place>, log: &Log)
+pub fn renew(newest: &mut Vec<Place>, log: &Log)
     requires sound { IsSound log.now holding }
     requires count { length newest.old.items < 2 ^ 32 }
     requires there { (p : ℕ) → 1 ≤ p → p ≤ length newest.old.items

@@ -1,6 +1,6 @@
 use Rattle.std.proofs.Common.{◌≡◌, ◌≤◌, ◌+◌, ◌-◌, length, vec_len}
 use Rattle.std.specs.Vec.{vec_capacity}
-use Rattle.bw_core.proofs.newest.blank_places.Given as goal
+use Rattle.bw_care.proofs.newest.blank_places.Given as goal
 
 abbrev pub invariant-pages : goal.invariant-pages
 invariant-pages l = record {

@@ -2,8 +2,8 @@ use Rattle.std.proofs.Common.{◌+◌, length, ap, ◌∙◌, arith}
 use Rattle.bw_log.specs.Contents.{counted}
 use Rattle.bw_log.specs.Places.{place_of}
 use Rattle.bw_care.specs.Views.{seen}
-use Rattle.bw_core.proofs.FramesBehind.{each_next}
-use Rattle.bw_core.proofs.newest.renew.Goals as goal
+use Rattle.bw_care.proofs.EachPlace.{each_next}
+use Rattle.bw_care.proofs.newest.renew.Goals as goal
 
 pub renew_at-requires-clause-there : goal.renew_at-requires-clause-there
 renew_at-requires-clause-there g c =

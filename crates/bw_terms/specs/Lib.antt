@@ -1,0 +1,3 @@
+-- What callers see, in the order in which to read it.
+pub mod Ranges
+pub mod Told
