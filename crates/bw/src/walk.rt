@@ -1,6 +1,6 @@
 //! A walk over the pairs of a home in the order of their keys, from call to call.
 
-ghost use Rattle.std.specs.Prelude.{◌≡◌, ◌↔◌, false, [], ◌∷◌, None, Some, IfOk, IfSome, IsTrue, OnErr, nat_eq};
+ghost use Rattle.std.specs.Prelude.{◌≡◌, ◌↔◌, false, [], None, Some, IfOk, IfSome, IsTrue, OnErr, nat_eq};
 ghost use Rattle.std.specs.List.{starts_with};
 ghost use Rattle.bw_record.specs.Keys.{IsKey};
 ghost use Rattle.bw_leaf.specs.Changed.{Bytes, Map};

@@ -1,6 +1,6 @@
 //! Pages alone, with no ring, log or reader: what a record costs at least.
 
-ghost use Rattle.std.specs.Prelude.{◌≡◌, [], IfOk};
+ghost use Rattle.std.specs.Prelude.{◌≡◌, []};
 
 use crate::bench::Bench;
 use crate::shape::{Shape, Span, WHOLE};

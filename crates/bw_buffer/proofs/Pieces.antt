@@ -1,6 +1,6 @@
 -- One more piece of an arena, and one more row or a longer one.
 
-use Rattle.std.proofs.Common.{◌≡◌, ℕ, zero, suc, ◌+◌, ◌<◌, ◌≤◌, ◌≢◌, Bool, Some, List, [], ◌∷◌, ◌++◌, length, map, set, take, drop, refl, sym, ap}
+use Rattle.std.proofs.Common.{◌≡◌, ℕ, zero, suc, ◌+◌, ◌<◌, ◌≤◌, ◌≢◌, Bool, Some, List, [], ◌∷◌, ◌++◌, length, set, take, drop, refl, sym, ap}
 use Rattle.std.proofs.Common.{◌∙◌, subst, arith, ◌⊎◌, inl, inr}
 use Rattle.std.proofs.Common.{append_assoc, append-nil, if◌then◌else◌, length-append}
 use Rattle.std.specs.Prelude.{◌==◌}

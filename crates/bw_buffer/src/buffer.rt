@@ -10,10 +10,10 @@
 //! they belong to. Records of one page join in one Delta until another block of that page comes. A
 //! sealed buffer takes nothing more: its bytes may be half on the disk.
 
-ghost use Rattle.std.specs.Prelude.{ℕ, nat_eq, is_some, Some, None, if◌then◌else◌, ◌≡◌, ◌≤◌, ◌<◌, ◌+◌, ◌/◌, ◌∷◌, ◌++◌, ◌↔◌, ◌⊎◌, [], true, false, length, slice_get, IsTrue, IfOk, OnOk, OnErr, IfSome, IsErrOf};
-ghost use Rattle.std.specs.List.{AllByRecursion, flat_map};
+ghost use Rattle.std.specs.Prelude.{ℕ, Some, None, if◌then◌else◌, ◌≡◌, ◌≤◌, ◌<◌, ◌+◌, ◌/◌, ◌∷◌, ◌++◌, ◌↔◌, ◌⊎◌, [], true, false, length, slice_get, IsTrue, IfOk, OnOk, OnErr, IfSome, IsErrOf};
+ghost use Rattle.std.specs.List.{AllByRecursion};
 ghost use Rattle.std.specs.Option.{option_map};
-ghost use Rattle.bw_codec.specs.Grammar.{op_bytes, block_bytes, frame_bytes, IsBlock};
+ghost use Rattle.bw_codec.specs.Grammar.{block_bytes, frame_bytes, IsBlock};
 ghost use Rattle.bw_record.specs.Touch.{touches};
 ghost use Rattle.bw_record.specs.declared.leaf.Leaf.{Leaf};
 ghost use Rattle.bw_record.specs.declared.block.Place.{Place as PlaceValue};

@@ -21,7 +21,7 @@ use Rattle.bw_page.specs.Standing.{Stand}
 use Rattle.bw_log.specs.Appends.{last_of}
 use Rattle.bw_log.specs.Contents.{Contents, Image, limits_of, IsBounded, IsRoomy, IsLeft, AreTorn, IsImage, IsSound, boxes, image, counted, counted_in}
 use Rattle.bw_log.specs.Places.{all_placed, bad_link, first_number, AreLinked}
-use Rattle.bw_log.specs.Segments.{Limits, version_at, header_with, segment_frames, frames_of, next_of, AreFrom, AreLive, IsLive}
+use Rattle.bw_log.specs.Segments.{Limits, version_at, header_with, segment_frames, frames_of, AreFrom, AreLive, IsLive}
 use Rattle.bw_log.specs.Segments as log
 use Rattle.bw_log.proofs.Adding.{frames_last, live_last, numbered_more}
 use Rattle.bw_log.proofs.Shortened.{live_shortened}

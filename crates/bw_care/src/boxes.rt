@@ -5,10 +5,10 @@
 //! the lists get their room, and the boxes move last. One that holds a part of a header is dropped:
 //! a crash came while its header was written, nothing stands in it, and its lease comes back.
 
-ghost use Rattle.std.specs.Prelude.{◌≡◌, ◌≤◌, ◌<◌, ◌+◌, ◌∷◌, ◌++◌, [], length, map, zip, vec_len, IfOk, IfSome};
+ghost use Rattle.std.specs.Prelude.{◌≡◌, ◌≤◌, ◌<◌, ◌+◌, length, map, vec_len, IfOk};
 ghost use Rattle.std.specs.Vec.{vec_capacity};
 ghost use Rattle.bw_care.specs.Parting.{place_among, parted_by, parted};
-ghost use Rattle.std.specs.List.{fold, AllByRecursion};
+ghost use Rattle.std.specs.List.{AllByRecursion};
 ghost use Rattle.bw_care.specs.Surveying.{kind_seen, parts_seen, tails_found, IsShortFound};
 
 use crate::order::Found;

@@ -5,7 +5,7 @@
 //! round, a stop in between would lose pages. The frames of a cleaning may take the last spare, and
 //! no other frame may: were it taken by a flush, a log that is full could never win room again.
 
-ghost use Rattle.std.specs.Prelude.{◌≡◌, ◌<◌, ◌≤◌, ◌↔◌, Some, None, Err, true, false, length, IfOk, IfErr, IsErrOf};
+ghost use Rattle.std.specs.Prelude.{◌≡◌, ◌<◌, ◌≤◌, ◌↔◌, Some, Err, true, length, IfOk, IfErr, IsErrOf};
 ghost use Rattle.bw_log.specs.Contents.{KeepsLeaves};
 ghost use Rattle.bw_care.specs.Moving.{IsCleaned, Refuses};
 ghost use Rattle.bw_care.specs.Views.{seen, IsSound};

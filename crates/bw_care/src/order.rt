@@ -11,7 +11,7 @@ ghost use Rattle.std.specs.List.{list_any, AllByRecursion};
 ghost use Rattle.bw_care.specs.Recovery.{placed_by, clash, are_mixed, pairs_of, limit_of};
 ghost use Rattle.bw_care.specs.Parting.{place_among};
 ghost use Rattle.bw_care.specs.Surveying.{HasShortTail};
-ghost use Rattle.bw_care.specs.Ordering.{headers_of, is_clean, is_narrow, any_narrow, follow_from, may_follow, number_found, sorted, moved_to, lines_found, line_number, has_none, IsOrder, CauseIs, order_fault, oldest_number, is_clean_from};
+ghost use Rattle.bw_care.specs.Ordering.{headers_of, is_clean, is_narrow, any_narrow, follow_from, may_follow, number_found, sorted, moved_to, lines_found, line_number, IsOrder, CauseIs, order_fault, oldest_number, is_clean_from};
 
 use crate::boxes::tail_of;
 use crate::scan::{Behind, Scan};

@@ -6,7 +6,7 @@
 //! refused after each loss of power. No beginning of a lawful frame is a whole one or begins
 //! another, so the bytes alone decide.
 
-ghost use Rattle.std.specs.Prelude.{◌≡◌, ◌≤◌, ◌<◌, ◌^◌, ℕ, Some, None, IfOk, IfErr, Result, Ok, Err, length, drop, map, slice_get, OnOk, IfSome};
+ghost use Rattle.std.specs.Prelude.{◌≡◌, ◌≤◌, ◌<◌, ◌^◌, ℕ, None, IfOk, IfErr, Result, Ok, Err, length, map, slice_get, OnOk, IfSome};
 ghost use Rattle.bw_codec.specs.Grammar.{IsFront};
 ghost use Rattle.bw_codec.specs.Checking.{IsSeen};
 ghost use Rattle.bw_codec.specs.Reading.{Gives, front_at};

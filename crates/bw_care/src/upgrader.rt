@@ -6,7 +6,7 @@
 //! it. A stop in between leaves younger ones of version 1: they are lawful, and the next call goes
 //! on.
 
-ghost use Rattle.std.specs.Prelude.{◌≡◌, ◌<◌, ◌≤◌, ◌↔◌, ℕ, Some, None, Err, true, false, length, take, slice_get, IfOk, IfErr, IfSome, IsErrOf};
+ghost use Rattle.std.specs.Prelude.{◌≡◌, ◌<◌, ◌≤◌, ◌↔◌, ℕ, Some, Err, true, false, length, take, slice_get, IfOk, IfErr, IfSome, IsErrOf};
 ghost use Rattle.bw_log.specs.Contents.{counted, KeepsLeaves};
 ghost use Rattle.bw_log.specs.Oldest.{IsAfter, last_number};
 ghost use Rattle.bw_log.specs.Places.{base_of};

@@ -5,7 +5,7 @@
 //! here the same is asked of bytes as by `read_frame`, and nothing is kept but where the next part
 //! begins.
 
-ghost use Rattle.std.specs.Prelude.{◌≡◌, Ok, Some, length, IfOk, IfErr};
+ghost use Rattle.std.specs.Prelude.{◌≡◌, Ok, Some, IfOk, IfErr};
 ghost use Rattle.std.specs.Option.{option_map};
 ghost use Rattle.bw_codec.specs.declared.head.FrameRead.{FrameRead};
 ghost use Rattle.bw_codec.specs.Grammar.{IsFront};

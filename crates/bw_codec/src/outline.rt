@@ -1,7 +1,7 @@
 //! What is told of a block without its records and pairs: a reader that looks for the blocks of one
 //! page steps over all others.
 
-ghost use Rattle.std.specs.Prelude.{◌≡◌, ◌+◌, ◌^◌, ◌<◌, ◌++◌, ℕ, List, Some, IfErr};
+ghost use Rattle.std.specs.Prelude.{◌≡◌, ◌^◌, ◌<◌, ◌++◌, ℕ, List, Some, IfErr};
 ghost use Rattle.bw_codec.specs.Grammar.{block_bytes_in, IsBlockIn};
 ghost use Rattle.bw_codec.specs.Reading.{Gives};
 ghost use Rattle.bw_record.specs.declared.block.Block.{Block};

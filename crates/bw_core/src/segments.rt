@@ -4,7 +4,7 @@
 //! them do at the end: they hold what is durable, and what waits is lost with the store, as a stop
 //! would lose it.
 
-ghost use Rattle.std.specs.Prelude.{◌≡◌, ◌+◌, ◌++◌, ◌↔◌, ◌⊎◌, ℕ, true, false, map, MatchOption, OnOk, OnErr, IfOk, IfErr, IsErrAnd};
+ghost use Rattle.std.specs.Prelude.{◌≡◌, ◌++◌, ◌↔◌, ◌⊎◌, ℕ, true, false, map, MatchOption, OnOk, OnErr, IfOk, IfErr, IsErrAnd};
 ghost use Rattle.bw_care.specs.Laws.{shorten_newest};
 ghost use Rattle.bw_log.specs.Limits.{IsNotTaken};
 ghost use Rattle.bw_log.specs.Reads.{IsNumbered, segment_at};

@@ -1,5 +1,5 @@
 // A segment in memory.
-ghost use Rattle.std.specs.Prelude.{◌≡◌, ◌+◌, ◌<◌, ◌≤◌, ◌↔◌, ◌⊎◌, length, take, drop, [], vec_len, IsOk, IfOk, OnOk, IfErr, IsErrAnd, IsErrOf};
+ghost use Rattle.std.specs.Prelude.{◌≡◌, ◌+◌, ◌<◌, ◌≤◌, ◌↔◌, ◌⊎◌, length, take, drop, [], vec_len, IsOk, IfOk, IfErr, IsErrAnd, IsErrOf};
 ghost use Rattle.std.specs.Vec.{vec_capacity};
 ghost use Rattle.bw_device.specs.declared.memory.TheConstants.{MAX_CAPACITY};
 

@@ -1,5 +1,5 @@
 // The check of bytes against a row of sums.
-ghost use Rattle.std.specs.Prelude.{◌≡◌, ◌≤◌, ◌↔◌, length, IsTrue, IsOk, IfOk, IfErr};
+ghost use Rattle.std.specs.Prelude.{◌≡◌, ◌≤◌, ◌↔◌, length, IsOk, IfOk, IfErr};
 ghost use Rattle.bw_digest.specs.Sums.{follows, sums_in, with_all, no_sums, Fits, IsDamagedAt};
 ghost use Rattle.bw_digest.specs.Rows.{reach};
 ghost use Rattle.bw_digest.specs.Checked.{checked, IsAnswer};

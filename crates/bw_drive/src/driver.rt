@@ -1,6 +1,6 @@
 //! Writers in threads of their own over one store.
 
-ghost use Rattle.std.specs.Prelude.{List, Vec, ◌≡◌, ◌≤◌, length, map, vec_len, IfOk, IfErr, MatchResult};
+ghost use Rattle.std.specs.Prelude.{List, Vec, ◌≡◌, ◌≤◌, map, vec_len, IfOk, IfErr, MatchResult};
 ghost use Rattle.std.specs.Vec.{vec_capacity};
 ghost use Rattle.std.specs.declared.alloc.Global.{Global};
 ghost use Rattle.bw_record.specs.declared.record.Record.{Record};

@@ -1,6 +1,6 @@
 //! Turns are counted where they are made, and nowhere else.
 
-ghost use Rattle.std.specs.Prelude.{◌≡◌, ◌+◌, ◌<◌, IfErr, MatchResult};
+ghost use Rattle.std.specs.Prelude.{◌≡◌, ◌+◌, ◌<◌, MatchResult};
 ghost use Rattle.bw_store.specs.Views.{away_in, kept_by, lanes_of, IsSound};
 ghost use Rattle.bw_store.specs.Following.{Follows, HasBoxes, RefusedAt};
 ghost use Rattle.bw_drive.specs.Pace.{TurnedOnce};

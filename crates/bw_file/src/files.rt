@@ -7,7 +7,7 @@ ghost use Rattle.bw_file.specs.FileHolding.{IsOpened};
 ghost use Rattle.bw_file.specs.declared.refusals.FolderFault.TheVariants.{BadConfig};
 
 use crate::refusals::{FolderFault, NotOpened};
-use bw_device::{Lease, MAX_CAPACITY, MemSegment, NotMade};
+use bw_device::{Lease, MAX_CAPACITY, MemSegment};
 use std::alloc::Global;
 use std::fs::{File, OpenFile, TryLockError};
 use std::os::unix::fs::FileExt;

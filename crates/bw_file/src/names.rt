@@ -1,5 +1,5 @@
 // The names of the files in a folder, and which leases have one.
-ghost use Rattle.std.specs.Prelude.{◌≡◌, ◌≢◌, ◌<◌, All, IfOk, IfSome, IfErr};
+ghost use Rattle.std.specs.Prelude.{◌≢◌, ◌<◌, All, IfOk, IfSome, IfErr};
 ghost use Rattle.bw_device.specs.declared.leases.TheConstants.{MAX_LEASES};
 ghost use Rattle.std.specs.List.Sorted.{IsStrictlyIncreasing};
 ghost use Rattle.bw_file.specs.declared.refusals.FolderFault.TheVariants.{BadConfig};

@@ -1,6 +1,6 @@
 //! Lanes and the history: what is taken from a lane stands in the history at once.
 
-ghost use Rattle.std.specs.Prelude.{true, false, ◌≡◌, ◌≤◌, ◌<◌, ◌↔◌, ◌+◌, ◌-◌, ◌∷◌, ◌++◌, [], take, drop, length, map, replicate, vec_len, IsTrue, IfSome, IfNone, IfOk, slice_set, slice_index_or, OnOk};
+ghost use Rattle.std.specs.Prelude.{true, false, ◌≡◌, ◌≤◌, ◌<◌, ◌↔◌, ◌+◌, ◌-◌, ◌∷◌, ◌++◌, [], take, drop, length, map, replicate, vec_len, IsTrue, IfSome, IfOk, slice_set, slice_index_or, OnOk};
 ghost use mathlib.Core.List.{IsPrefix};
 ghost use Rattle.std.specs.List.{AllByRecursion};
 ghost use Rattle.bw_ring.specs.Ends.{accepted, taken, known, given, places_of, ring_of_feed, ring_of_lane};

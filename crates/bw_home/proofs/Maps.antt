@@ -1,6 +1,6 @@
 -- A change that was put, and then taken, changes the map.
 
-use Rattle.std.proofs.Common.{◌≡◌, ℕ, ◌<◌, ◌≤◌, Bool, true, false, List, [], ◌∷◌, ◌++◌, length, map, refl, sym, ap, ◌∙◌, subst, arith, if◌then◌else◌}
+use Rattle.std.proofs.Common.{◌≡◌, ℕ, ◌<◌, Bool, true, false, List, [], ◌∷◌, ◌++◌, length, map, refl, sym, ap, ◌∙◌, subst, arith, if◌then◌else◌}
 use Rattle.std.specs.Prelude.{◌==◌, slice_index_or, slice_set, take}
 use Rattle.std.specs.List.{AllByRecursion as All, fold}
 use Rattle.std.proofs.lemmas.Bool.{eq-eqb}
@@ -8,7 +8,7 @@ use Rattle.std.proofs.lemmas.List.{length-map, map-append, take_all}
 use Rattle.std.proofs.lemmas.List.Sums.{fold-append}
 use Rattle.bw_record.specs.declared.record.Record.{Record}
 use Rattle.bw_record.specs.declared.leaf.Leaf.{Leaf}
-use Rattle.bw_leaf.specs.Changed.{Map, changed_map}
+use Rattle.bw_leaf.specs.Changed.{changed_map}
 use Rattle.bw_page.specs.Leaves.{plain}
 use Rattle.bw_ring.specs.Ends.{Ring, accepted, ring_of_feed}
 use Rattle.bw_ring.specs.Marks.{Marked, marked}

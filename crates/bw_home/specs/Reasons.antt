@@ -1,6 +1,6 @@
 -- Why a put was refused, or a call on the map.
 
-use Rattle.std.specs.Prelude.{ℕ, ◌≡◌, Bool, List, Some, None}
+use Rattle.std.specs.Prelude.{ℕ, Bool, List, Some, None}
 use Rattle.bw_ring.specs.declared.lane.Lane.{Lane}
 use Rattle.bw_terms.specs.declared.fault.StoreFault.{StoreFault}
 use Rattle.bw_core.specs.Following.{Follows, RefusedAt}

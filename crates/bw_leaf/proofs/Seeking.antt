@@ -3,7 +3,6 @@
 use Rattle.std.proofs.Common.{◌≡◌, ℕ, suc, ◌+◌, ◌-◌, ◌<◌, ◌≤◌, [], ◌∷◌, length, take, drop, Result, Ok, Err, refl, ap, subst, sym, ◌∙◌, one-add, arith}
 use Rattle.std.proofs.Common.{length-append, length-take, length-drop, length-set}
 use Rattle.std.specs.Prelude.{slice_set, insert, remove}
-use Rattle.std.specs.FinMap.{slice_cmp-IsAntisymmetric, nat_cmp-IsAntisymmetric}
 use Rattle.std.specs.FinMap.Entries.{put, by_order}
 use Rattle.std.specs.declared.cmp.Ordering.TheVariants.{Less, Equal, Greater}
 use Rattle.bw_record.specs.declared.leaf.Leaf.{Leaf}

@@ -1,6 +1,6 @@
 -- The first pair of a page at or above a key, and those behind it, stand where a search for the key ends.
 
-use Rattle.std.proofs.Common.{◌≡◌, ℕ, suc, ◌+◌, ◌-◌, true, false, cond, if◌then◌else◌, Option, Some, None, List, [], ◌∷◌, take, drop, length, Result, Ok, Err}
+use Rattle.std.proofs.Common.{◌≡◌, ℕ, suc, ◌+◌, ◌-◌, true, false, cond, if◌then◌else◌, Some, None, [], ◌∷◌, take, drop, length, Result, Ok, Err}
 use Rattle.std.proofs.Common.{refl, sym, ap, ◌∙◌, subst, arith, one-add}
 use Rattle.std.specs.Prelude.{slice_get, min}
 use Rattle.std.specs.List.{AllByRecursion as All}

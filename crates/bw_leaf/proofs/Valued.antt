@@ -1,7 +1,7 @@
 -- A search in sorted pairs finds the value of a key.
 
 use Rattle.std.specs.Prelude.{is_ok, is_none, is_some, not}
-use Rattle.std.proofs.Common.{◌≡◌, ℕ, ◌-◌, cond, false, Option, Some, None, Result, Ok, Err, List, [], ◌∷◌, get_or, refl, sym, ap, ◌∙◌, subst, one-add}
+use Rattle.std.proofs.Common.{◌≡◌, ℕ, cond, false, Option, Some, None, Result, Ok, Err, [], ◌∷◌, get_or, refl, sym, ap, ◌∙◌, subst, one-add}
 use Rattle.std.specs.Ordering.{is_lt, is_eq, eq_by_cmp}
 use Rattle.std.specs.FinMap.Entries.{find, by_order}
 use Rattle.std.specs.declared.cmp.Ordering.TheVariants.{Less, Equal, Greater}

@@ -1,6 +1,6 @@
 -- The pairs of a page at or above a key.
 
-use Rattle.std.specs.Prelude.{ℕ, ◌-◌, if◌then◌else◌, Option, Some, None, List, [], ◌∷◌, ◌++◌, take, length}
+use Rattle.std.specs.Prelude.{ℕ, ◌-◌, if◌then◌else◌, Option, Some, None, [], ◌∷◌, ◌++◌, take, length}
 use Rattle.bw_record.specs.Keys.{is_below}
 use Rattle.bw_leaf.specs.Changed.{Bytes, Pairs}
 

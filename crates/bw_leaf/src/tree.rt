@@ -1,6 +1,6 @@
 //! Pairs in a tree: as many as there may be, a record costs a search.
 
-ghost use Rattle.std.specs.Prelude.{◌≡◌, ◌<◌, ◌++◌, ◌∷◌, [], true, false, length, IfOk, OnOk, IsTrue};
+ghost use Rattle.std.specs.Prelude.{◌≡◌, ◌<◌, ◌++◌, ◌∷◌, [], false, length, IfOk, OnOk, IsTrue};
 ghost use Rattle.std.specs.List.{filter};
 ghost use Rattle.bw_record.specs.Keys.{ascends, is_below};
 ghost use Rattle.bw_leaf.specs.Changed.{Bytes, Pairs, changed_pairs};

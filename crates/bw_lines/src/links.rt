@@ -5,14 +5,13 @@
 
 ghost use Rattle.std.specs.Prelude.{◌≡◌, ◌∷◌, ◌++◌, [], Some, None, Ok, true, false, ◌<◌, ◌^◌, length, is_some, OnOk, IfOk, IfErr, if◌then◌else◌, nat_eq, List, ℕ};
 ghost use Rattle.std.specs.Option.{option_map};
-ghost use Rattle.std.specs.List.{AllByRecursion};
 ghost use Rattle.std.specs.BTreeMap as tree;
 ghost use Rattle.std.specs.Ordering.{nat_cmp};
 ghost use Rattle.bw_leaf.specs.Changed.{all_changed};
 ghost use Rattle.bw_leaf.specs.Forwards.{kept_below};
 ghost use Rattle.bw_record.specs.declared.block.Block.TheVariants.{Base as BlockBase, Split as BlockSplit};
-ghost use Rattle.bw_log.specs.Places.{is_place, is_back, fault_at, fault_of, placed, all_placed, bad_link};
-ghost use Rattle.bw_lines.specs.Reading.{place_in, at_in, leaf_in, changed_by, line_after, AreLines, IsRead, LinkFaultIs, IsUnlinked};
+ghost use Rattle.bw_log.specs.Places.{is_place, is_back, fault_at, fault_of, placed, bad_link};
+ghost use Rattle.bw_lines.specs.Reading.{place_in, at_in, leaf_in, changed_by, AreLines, IsRead, LinkFaultIs, IsUnlinked};
 ghost use Rattle.bw_record.specs.declared.block.Place.{Place as PlaceValue};
 ghost use Rattle.bw_record.specs.declared.block.Block.{Block as BlockValue};
 

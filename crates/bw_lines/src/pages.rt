@@ -1,6 +1,6 @@
 //! Which page is at fault. Nothing is as large as a page number: a page is a line of the map.
 
-ghost use Rattle.std.specs.Prelude.{◌≡◌, ◌≤◌, ◌==◌, ◌||◌, ◌<◌, [], Some, None, nat_lt, map, IfErr, length, drop, IfOk, OnOk, List, ℕ, if◌then◌else◌};
+ghost use Rattle.std.specs.Prelude.{◌≡◌, ◌≤◌, ◌==◌, ◌||◌, ◌<◌, [], Some, None, nat_lt, map, IfErr, length, IfOk, OnOk, List, if◌then◌else◌};
 ghost use Rattle.std.specs.List.{list_any, AllByRecursion};
 ghost use Rattle.std.specs.BTreeMap as tree;
 ghost use Rattle.std.specs.Ordering.{nat_cmp};

@@ -11,7 +11,7 @@
 //! An ordinary append leaves one spare. A cleaning writes before it gives room back, and without
 //! that spare a log that is full could never be cleaned.
 
-ghost use Rattle.std.specs.Prelude.{◌≡◌, ◌+◌, ◌-◌, ◌^◌, ◌/◌, ◌<◌, ◌≤◌, ◌∷◌, ◌++◌, Some, None, Ok, Err, true, false, length, map, slice_get, IfSome, OnOk, MatchResult, vec_len};
+ghost use Rattle.std.specs.Prelude.{◌≡◌, ◌+◌, ◌-◌, ◌^◌, ◌/◌, ◌<◌, ◌≤◌, Some, None, Ok, Err, true, false, length, map, slice_get, IfSome, OnOk, MatchResult, vec_len};
 ghost use Rattle.std.specs.Vec.{vec_capacity};
 ghost use Rattle.bw_codec.specs.Grammar.{frame_bytes};
 ghost use Rattle.bw_buffer.specs.Filling.{frame_of};

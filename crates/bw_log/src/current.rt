@@ -5,7 +5,7 @@
 //! segment whose count of failures is at its greatest is asked nothing: a failure that cannot be
 //! counted would be told as none.
 
-ghost use Rattle.std.specs.Prelude.{◌≡◌, ◌<◌, length, map, slice_get};
+ghost use Rattle.std.specs.Prelude.{◌≡◌, map, slice_get};
 ghost use Rattle.bw_log.specs.Appends.{has_room, is_worn, last_of};
 
 use bw_device::{Segment, capacity_of, failures_of, len_of};

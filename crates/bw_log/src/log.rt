@@ -9,15 +9,14 @@
 //! behind bytes at which recovery ends, and be lost although it was answered. So a log that failed
 //! takes no frame any more, and only recovery says what is there.
 
-ghost use Rattle.std.specs.Prelude.{◌≡◌, ◌+◌, ◌-◌, ◌<◌, ◌≤◌, ◌==◌, ◌↔◌, ◌⊎◌, ◌∷◌, ◌++◌, [], length, map, Some, None, false, slice_get, if◌then◌else◌, IsTrue, IfOk, IfErr, OnOk, IfSome, MatchOption, MatchResult, IsErrAnd, vec_len};
+ghost use Rattle.std.specs.Prelude.{◌≡◌, ◌+◌, ◌-◌, ◌<◌, ◌≤◌, ◌==◌, ◌↔◌, ◌⊎◌, ◌∷◌, ◌++◌, [], length, map, Some, None, false, slice_get, if◌then◌else◌, IsTrue, IfOk, IfErr, OnOk, MatchOption, MatchResult, IsErrAnd, vec_len};
 ghost use Rattle.std.specs.Vec.{vec_capacity};
 ghost use Rattle.std.specs.Option.{option_map};
 ghost use Rattle.bw_codec.specs.Reading.{version_in};
 ghost use Rattle.bw_log.specs.Segments.{version_at};
-ghost use Rattle.bw_log.specs.Contents.{IsSpare, counted, some_place};
+ghost use Rattle.bw_log.specs.Contents.{counted, some_place};
 ghost use Rattle.bw_log.specs.Limits.{fresh, AreLimits, IsFit, IsNotTaken};
 ghost use Rattle.bw_log.specs.Reads.{IsPage};
-ghost use Rattle.bw_log.specs.Oldest.{last_number};
 ghost use Rattle.bw_log.specs.Places.{place_of, base_of, walk_of};
 
 use crate::fault::LogFault;

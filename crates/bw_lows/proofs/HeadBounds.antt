@@ -1,16 +1,13 @@
 -- A row of heads goes along with its lows, and tells where a key parts them.
 
-use Rattle.std.proofs.Common.{◌≡◌, ◌≢◌, false, ℕ, zero, suc, ◌+◌, Option, Some, None, IsSome, ◌<◌, ◌≤◌, inl, inr, List, [], ◌∷◌, ◌++◌, length, get_or, take, drop, map, insert, remove}
-use Rattle.std.proofs.Common.{refl, sym, ap, ◌∙◌, subst, arith, Less, Equal, Greater}
-use Rattle.std.proofs.lemmas.List.{length-map, map-append, take-map, drop-map, map-set, take-append-drop, append-nil}
+use Rattle.std.proofs.Common.{◌≡◌, ◌≢◌, ℕ, zero, suc, ◌+◌, Option, Some, None, IsSome, ◌<◌, ◌≤◌, inl, inr, List, [], ◌∷◌, ◌++◌, length, get_or, take, drop, map, insert, remove}
+use Rattle.std.proofs.Common.{refl, sym, ap, ◌∙◌, subst, arith}
+use Rattle.std.proofs.lemmas.List.{length-map, map-append, take-map, drop-map, map-set, take-append-drop}
 use Rattle.std.specs.Prelude.{slice_set, IfSome}
 use Rattle.std.specs.List.{AllByRecursion}
-use Rattle.std.specs.Ordering.{MatchOrdering, nat_cmp, is_lt, ordering_then}
-use Rattle.std.specs.Cmp.{ranked}
-use Rattle.std.specs.Cmp.Lexicographic.{slice_cmp}
 use Rattle.bw_record.specs.Keys.{is_below, IsBytes}
 use Rattle.bw_record.specs.Heads.{head}
-use Rattle.bw_record.proofs.Order.{below_beginning, below_by_head, below_behind, above_beginning, Below, UpTo, must_not, below_upto, below-upto, upto_apart_below, tied}
+use Rattle.bw_record.proofs.Order.{below_beginning, below_by_head, below_behind, above_beginning, Below, UpTo, below_upto}
 use Rattle.bw_lows.specs.LowHeads.{Bytes}
 use Rattle.bw_lows.specs.Rows.{Low, nothing, low_at, IsBetween}
 use Rattle.bw_lows.specs.LowRow.{Begins, head_behind, IsHeadBehind, IsWholeRow, IsRow, IsHeadRun}

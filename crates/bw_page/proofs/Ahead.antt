@@ -1,26 +1,22 @@
 -- A walk in the order of keys, page by page in the order of lows, finds the first pair at or above a key.
 
-use Rattle.std.proofs.Common.{◌≡◌, ℕ, suc, ◌+◌, ◌≤◌, true, false, cond, if◌then◌else◌, Option, Some, None, IsSome, IfSome, List, [], ◌∷◌, drop, Result, Ok, Err}
-use Rattle.std.proofs.Common.{refl, sym, ap, ◌∙◌, subst, arith, one-add}
-use Rattle.std.specs.Prelude.{slice_get}
+use Rattle.std.proofs.Common.{◌≡◌, ℕ, ◌+◌, ◌≤◌, true, false, cond, if◌then◌else◌, Option, Some, None, IsSome, IfSome, List, [], ◌∷◌, drop}
+use Rattle.std.proofs.Common.{refl, sym, ap, ◌∙◌, subst, arith}
 use Rattle.std.specs.List.{AllByRecursion as All}
-use Rattle.std.specs.Ordering.{is_gt, is_lt, eq_by_cmp}
+use Rattle.std.specs.Ordering.{eq_by_cmp}
 use Rattle.std.specs.FinMap as finite
-use Rattle.std.specs.FinMap.Entries.{find, by_order}
-use Rattle.std.specs.declared.cmp.Ordering.{Ordering}
-use Rattle.std.specs.declared.cmp.Ordering.TheVariants.{Less, Equal, Greater}
+use Rattle.std.specs.FinMap.Entries.{find}
 use Rattle.bw_record.specs.Keys.{is_below}
 use Rattle.bw_codec.specs.Grammar.{IsBase}
 use Rattle.bw_record.specs.declared.leaf.Leaf.{Leaf}
-use Rattle.bw_record.proofs.Order.{Below, UpTo, not_both, must_be, must_not, upto-trans, upto-refl, upto-antisymm, upto_empty, below-upto, below-trans, below_upto, below_apart, above_apart, greater_is_below, tied, itself}
-use Rattle.bw_leaf.specs.Changed.{Bytes, Pairs, order}
+use Rattle.bw_record.proofs.Order.{Below, UpTo, not_both, must_be, must_not, upto-trans, upto-refl, upto-antisymm, upto_empty, below-upto, below-trans, below_upto, tied}
+use Rattle.bw_leaf.specs.Changed.{Bytes, order}
 use Rattle.bw_page.specs.Leaves.{home, union, AtHome, AreLeaves}
 use Rattle.bw_page.specs.Lows.{lows_of}
 use Rattle.bw_lows.specs.LowHeads.{IsLeastLow, HasNoHigher}
 use Rattle.bw_leaf.specs.Above.{pair_above}
 use Rattle.bw_page.specs.Ahead.{HasNoPair, IsFirstPair, HasCome, HasNoLowAbove, IsNextLow, ahead}
-use Rattle.bw_leaf.specs.Seek.{seek_of, passed, end_of}
-use Rattle.bw_leaf.proofs.Sorted.{all-map, Rises, ascends_rises, find-none}
+use Rattle.bw_leaf.proofs.Sorted.{all-map, Rises, ascends_rises}
 use Rattle.bw_leaf.proofs.Sought.{above-all, above_from, above_found, above_between, above_none}
 use Rattle.bw_page.proofs.Homes.{home-all, home-low, home-max, same_home}
 use Rattle.bw_page.proofs.Indexed.{some_either, lows_found}

@@ -1,26 +1,21 @@
 -- A walk from page to page, in the order of their lows, gathers a stretch of the map's pairs.
 
-use Rattle.std.proofs.Common.{◌≡◌, ◌⊎◌, inl, inr, ℕ, zero, suc, ◌+◌, ◌-◌, ◌≤◌, ◌<◌, true, false, cond, if◌then◌else◌, Some, None, IsSome, Ok, Err}
-use Rattle.std.proofs.Common.{nat_le, List, [], ◌∷◌, ◌++◌, take, drop, length}
-use Rattle.std.specs.Prelude.{min}
-use Rattle.std.proofs.lemmas.List.{length-drop, take_min}
-use Rattle.std.specs.FinMap.Entries.{by_order}
-use Rattle.std.specs.declared.cmp.Ordering.TheVariants.{Less, Equal, Greater}
+use Rattle.std.proofs.Common.{◌≡◌, ◌⊎◌, inl, inr, ℕ, zero, suc, ◌-◌, ◌≤◌, ◌<◌, true, false, cond, if◌then◌else◌, Some, None, IsSome}
+use Rattle.std.proofs.Common.{nat_le, List, [], ◌∷◌, ◌++◌, take, length}
 use Rattle.std.proofs.Common.{refl, sym, ap, ◌∙◌, subst, arith, length-take, length-append}
 use Rattle.std.proofs.lemmas.Bool.{leb-true, leb-false}
 use Rattle.std.specs.List.{AllByRecursion as All}
-use Rattle.std.specs.Ordering.{eq_by_cmp, is_gt}
+use Rattle.std.specs.Ordering.{eq_by_cmp}
 use Rattle.std.specs.FinMap as finite
 use Rattle.std.specs.FinMap.Entries.{find}
 use Rattle.bw_record.specs.Keys.{is_below}
 use Rattle.bw_record.specs.declared.leaf.Leaf.{Leaf}
-use Rattle.bw_record.proofs.Order.{Below, UpTo, greater_is_below, not_both, must_be, upto-trans, upto-refl, below-upto, upto-below, below-trans, below_upto, below_apart, above_apart, tied}
+use Rattle.bw_record.proofs.Order.{Below, UpTo, not_both, must_be, upto-trans, upto-refl, below-upto, upto-below, below-trans, below_upto, below_apart, above_apart, tied}
 use Rattle.bw_leaf.specs.Changed.{Bytes, Pairs, order}
 use Rattle.bw_page.specs.Leaves.{home, union, AtHome, AreLeaves}
 use Rattle.bw_page.specs.Lows.{lows_of}
 use Rattle.bw_leaf.specs.Above.{pairs_above, with_some}
 use Rattle.bw_page.specs.Ahead.{Reaches, IsStretch, HasGone, HasNoLowAbove, IsNextLow}
-use Rattle.bw_leaf.specs.Seek.{seek_of, passed, end_of}
 use Rattle.bw_leaf.proofs.Sorted.{all-map, all-take, Rises, ascends_rises, rises_ascends, rises-take, find-none}
 use Rattle.bw_page.proofs.Homes.{home-all, home-low, home-max, same_home}
 use Rattle.bw_page.proofs.Law.{get-union}

@@ -1,7 +1,7 @@
 -- Pages with low keys, what a record does to them, and the map that they hold. Leaves are listed by page, from 1.
 
-use Rattle.std.specs.Prelude.{ℕ, ◌+◌, ◌-◌, ◌/◌, ◌^◌, ◌<◌, zero, suc, ◌≡◌, nat_le, Bool, if◌then◌else◌, not, ◌&&◌, Option, None, List, [], ◌∷◌, ◌++◌, length}
-use Rattle.std.specs.Prelude.{take, drop, slice_get, slice_set}
+use Rattle.std.specs.Prelude.{ℕ, ◌+◌, ◌-◌, ◌^◌, ◌<◌, zero, suc, ◌≡◌, nat_le, Bool, if◌then◌else◌, not, ◌&&◌, Option, None, List, [], ◌∷◌, ◌++◌, length}
+use Rattle.std.specs.Prelude.{slice_get, slice_set}
 use Rattle.std.specs.List.{fold, flat_map, AllByRecursion}
 use Rattle.std.specs.FinMap as finite
 use Rattle.bw_record.specs.Keys.{is_below}

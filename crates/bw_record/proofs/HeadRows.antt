@@ -1,18 +1,12 @@
 -- Heads tell an order of keys, and a row of them goes along with its pairs.
 
-use Rattle.std.proofs.Common.{◌≡◌, ◌≢◌, ℕ, zero, suc, ◌*◌, ◌^◌, ◌<◌, ◌≤◌, false, inl, inr, get_or, List, [], ◌∷◌, ◌++◌, length, take, drop, map, insert, remove}
-use Rattle.std.proofs.Common.{refl, sym, ap, ◌∙◌, subst, arith, Less, Equal, Greater}
+use Rattle.std.proofs.Common.{◌≡◌, ◌≢◌, ℕ, zero, suc, ◌<◌, ◌≤◌, false, inl, inr, get_or, List, [], ◌∷◌, ◌++◌, length, take, drop, map, insert, remove}
+use Rattle.std.proofs.Common.{refl, sym, ap, ◌∙◌, subst, arith}
 use Rattle.std.proofs.lemmas.List.{length-map, map-append, take-map, drop-map, map-set}
-use Rattle.std.proofs.Math.Nat.{mul-le-mul_right}
 use Rattle.std.proofs.Math.Seq.{drop-append_seam}
 use Rattle.std.specs.Prelude.{slice_set}
 use Rattle.std.specs.Bool.{IsTrue}
 use Rattle.std.specs.List.{AllByRecursion}
-use Rattle.std.specs.Ordering.{MatchOrdering, nat_cmp, is_lt, ordering_then}
-use Rattle.std.specs.Cmp.{ranked}
-use Rattle.std.specs.Cmp.Lexicographic.{slice_cmp}
-use Rattle.byteorder.specs.Endian.{big_from}
-use Rattle.byteorder.specs.Numbers.{big_from-cons, big_from-lt}
 use Rattle.bw_record.specs.Keys.{is_below, IsBytes}
 use Rattle.bw_record.specs.Heads.{PairList, head, heads, BeginsWith, Share, IsRow, AreBelow, BeginAbove}
 use Rattle.bw_record.proofs.Order.{below_by_head, below_behind, above_beginning, below_beginning}

@@ -1,6 +1,6 @@
 //! A record in no more room than it takes, whose bytes are shared by all that hold it.
 
-ghost use Rattle.std.specs.Prelude.{◌≡◌, IfOk, MatchResult, IsTrue, true, false};
+ghost use Rattle.std.specs.Prelude.{◌≡◌, IfOk, MatchResult, true, false};
 ghost use Rattle.bw_record.specs.Record.{key_of};
 ghost use Rattle.bw_record.specs.Lawful.{IsOp};
 ghost use Rattle.bw_record.specs.declared.record.Record.TheVariants.{Put, Del};

@@ -8,7 +8,7 @@ use bw_codec::Leaf;
 use bw_look::{Counts, Image, Printer, Scene, Survey, write_counts, write_image, write_picture};
 use bw_page::Leaves;
 use bw_watch::{Watch, Work};
-use bw_words::{Met, Miss, Refusal, Stop, System, View, missed, refuse};
+use bw_words::{Met, Refusal, Stop, System, View, missed, refuse};
 use std::alloc::{AllocError, Global};
 use std::io::{Read, Write};
 

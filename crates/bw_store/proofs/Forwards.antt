@@ -1,11 +1,9 @@
 -- What a call of the core says, as the store says it.
 
-use Rattle.std.proofs.Common.{◌≡◌, ℕ, ◌≤◌, Bool, false, inl, inr, Option, Result, Ok, Err, List, [], take, refl, sym, ap, ◌∙◌, subst, arith, IfOk, IfErr, MatchResult}
+use Rattle.std.proofs.Common.{◌≡◌, ℕ, ◌≤◌, Bool, inl, inr, Result, Ok, Err, List, [], refl, ap, ◌∙◌, arith, IfOk, IfErr, MatchResult}
 use Rattle.std.specs.Prelude.{max, min}
-use mathlib.Core.List.{IsPrefix}
 use Rattle.bw_page.specs.Shown.{Shown}
 use Rattle.bw_ring.specs.declared.lane.Lane.{Lane}
-use Rattle.bw_versions.specs.Batches.{BatchData, entries_of}
 use Rattle.bw_versions.specs.Versioned.{Versioned}
 use Rattle.bw_core.specs.Noted.{Noted}
 use Rattle.bw_core.specs.Kept as core
@@ -15,7 +13,7 @@ use Rattle.bw_terms.specs.declared.fault.StoreFault.{StoreFault}
 use Rattle.bw_terms.specs.declared.fault.StoreFault.TheVariants.{NoMemory}
 use Rattle.bw_terms.specs.declared.fault.TurnFault.{TurnFault}
 use Rattle.bw_store.specs.Following.{Turned}
-use Rattle.bw_store.specs.Kept.{Kept, AreVersions, EndAtCuts, IsSound, Beside, core_of, with_versions}
+use Rattle.bw_store.specs.Kept.{Kept, IsSound, Beside, core_of, with_versions}
 use Rattle.bw_store.specs.Showing.{AreUnseen, Hides, Settles, SettleRefuses, Shows}
 use Rattle.bw_store.proofs.Readers.{unseen_begins, unseen_ends}
 

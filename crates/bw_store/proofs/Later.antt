@@ -1,6 +1,6 @@
 -- A step of the core leaves what readers have a beginning of what is durable.
 
-use Rattle.std.proofs.Common.{◌≡◌, ℕ, zero, suc, ◌+◌, ◌≤◌, ◌<◌, inl, inr, List, [], ◌∷◌, ◌++◌, length, length-append, take, refl, sym, ap, ◌∙◌, subst, arith}
+use Rattle.std.proofs.Common.{◌≡◌, ℕ, zero, suc, ◌≤◌, ◌<◌, inl, inr, List, [], ◌∷◌, ◌++◌, length, take, refl, sym, ap, ◌∙◌, subst, arith}
 use Rattle.std.specs.Prelude.{get_or}
 use Rattle.std.proofs.lemmas.List.{get_or_append_left, take-append-le}
 use mathlib.Core.List.{IsPrefix}

@@ -1,18 +1,17 @@
 -- A store with readers makes the steps of the machine.
 
-use Rattle.std.proofs.Common.{◌≡◌, ◌⊎◌, ℕ, zero, suc, ◌≤◌, inl, inr, Option, Some, None, Result, Ok, Err, length, take, refl, sym, ap, ◌∙◌, MatchResult}
+use Rattle.std.proofs.Common.{◌≡◌, ◌⊎◌, ℕ, zero, suc, inl, inr, Option, Some, Result, Ok, Err, length, ap, ◌∙◌, MatchResult}
 use Rattle.std.proofs.lemmas.List.{length-take-le}
 use Rattle.bw_versions.specs.Posted.{Posted, entries_in, posted_of}
-use Rattle.bw_history.specs.History.{AreCuts, cut}
-use Rattle.bw_history.specs.Machine.{Machine, Stops, TakesAndKeeps, TakesAndStops, TakesMany, TakesOne, keeps, shows, takes}
+use Rattle.bw_history.specs.History.{cut}
+use Rattle.bw_history.specs.Machine.{Machine, Stops, TakesAndKeeps, TakesAndStops, TakesMany, TakesOne, keeps, shows}
 use Rattle.bw_core.specs.Kept as core
 use Rattle.bw_core.specs.Machine as core_machine
-use Rattle.bw_terms.specs.declared.fault.StoreFault.{StoreFault}
 use Rattle.bw_terms.specs.declared.fault.TurnFault.{TurnFault}
 use Rattle.bw_core.proofs.Machines.{may_leave}
 use Rattle.bw_core.proofs.RecordMore.{cut_within}
 use Rattle.bw_store.specs.Kept.{IsSound, Kept, core_of}
-use Rattle.bw_store.specs.Machine.{MayBeStopped, ShowsAs, TakesKeepsShows, machine_of}
+use Rattle.bw_store.specs.Machine.{MayBeStopped, TakesKeepsShows, machine_of}
 use Rattle.bw_store.specs.Showing.{Hides, Shows}
 
 -- a machine of which so many entries are shown

@@ -3,13 +3,11 @@
 use Rattle.std.proofs.Common.{◌≡◌, ℕ, zero, suc, ◌+◌, ◌-◌, ◌≤◌, Some, Result, Ok, Err, IsOk, OnOk, OnErr, MatchResult, List, [], ◌∷◌, ◌++◌, length, length-append, length-take, length-take-le, take, drop, refl, sym, ap, ◌∙◌, ◌⊎◌, inl, inr, append-nil, append_assoc, subst, arith}
 use Rattle.std.specs.declared.alloc.AllocError.{AllocError}
 use mathlib.Core.List.{IsPrefix}
-use Rattle.bw_record.specs.declared.leaf.Leaf.{Leaf}
 use Rattle.bw_page.specs.Shown.{Shown}
 use Rattle.bw_versions.specs.Batches.{BatchData, entries_of}
 use Rattle.bw_versions.specs.Posted.{posted_of}
 use Rattle.bw_versions.specs.Versioned.{EntersWhole, IsUpTo, Versioned}
 use Rattle.bw_history.specs.declared.entry.Entry.{Entry}
-use Rattle.bw_versions.proofs.Fronts.{prefix_trans}
 use Rattle.bw_history.specs.History.{cut, upto}
 use Rattle.bw_store.specs.Kept.{Kept, AreVersions, EndAtCuts, IsSound, core_of, with_batches}
 use Rattle.bw_store.specs.Showing.{Hides, Shows, with_places}

@@ -1,20 +1,19 @@
 -- What follows from a publication.
 
-use Rattle.std.proofs.Common.{◌≡◌, ℕ, false, inl, inr, Option, Some, None, Result, Ok, Err, List, [], ◌++◌, length, take, take_all, refl, sym, ap, ◌∙◌, subst, arith, append-nil, append_assoc}
+use Rattle.std.proofs.Common.{◌≡◌, ℕ, inr, Option, Some, None, Ok, Err, List, [], ◌++◌, length, take, take_all, refl, sym, ap, ◌∙◌, subst, arith, append-nil, append_assoc}
 use Rattle.bw_log.specs.Contents.{roster}
 use Rattle.bw_versions.specs.Batches.{BatchData}
 use Rattle.bw_versions.specs.Versioned.{Versioned}
 use Rattle.bw_versions.specs.Posted.{posted_of}
-use Rattle.bw_ring.specs.declared.lane.Lane.{Lane}
 use Rattle.bw_terms.specs.declared.fault.StoreFault.{StoreFault}
 use Rattle.bw_terms.specs.declared.fault.StoreFault.TheVariants.{NoMemory}
 use Rattle.bw_core.specs.Faults.{FlushAnswers}
 use Rattle.bw_core.specs.Cleaning as cleaning
 use Rattle.bw_core.specs.Following as core
 use Rattle.bw_core.proofs.FollowMore as more
-use Rattle.bw_store.specs.Kept.{Kept, IsSound, core_of, start_of, with_batches}
-use Rattle.bw_store.specs.Following.{Continues, Follows, HasBoxes, TookSome}
-use Rattle.bw_store.specs.Showing.{Emptied, FlushLeaves, FlushShows, Hides, IsAllCut, IsSettled, Settles, SettleRefuses, Shows, flush_refusal, with_places}
+use Rattle.bw_store.specs.Kept.{Kept, core_of, start_of, with_batches}
+use Rattle.bw_store.specs.Following.{Continues, Follows, HasBoxes}
+use Rattle.bw_store.specs.Showing.{FlushLeaves, FlushShows, Hides, IsAllCut, Shows, flush_refusal, with_places}
 use Rattle.bw_store.specs.Renewing.{HasBoxesAfter, HasFloorAfter}
 use Rattle.bw_store.proofs.Readers.{places_are, reading}
 

@@ -12,7 +12,7 @@ use Rattle.bw_core.specs.Upgrading as upgrading
 use Rattle.bw_care.specs.declared.tally.Tally.{Tally}
 use Rattle.bw_terms.specs.declared.fault.StoreFault.{StoreFault}
 use Rattle.bw_terms.specs.declared.fault.StoreFault.TheVariants.{NoMemory}
-use Rattle.bw_store.specs.Kept.{Kept, Beside, core_of}
+use Rattle.bw_store.specs.Kept.{Kept, Beside}
 use Rattle.bw_store.specs.Showing.{ThenShows}
 
 -- a cleaning, and then a publication

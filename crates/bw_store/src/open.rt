@@ -1,8 +1,7 @@
 //! A store is opened over empty segments.
 
-ghost use Rattle.std.specs.Prelude.{◌≡◌, ◌≤◌, ◌↔◌, map, IfOk, IfErr, MatchResult};
+ghost use Rattle.std.specs.Prelude.{◌≡◌, ◌≤◌, map, IfOk, IfErr, MatchResult};
 ghost use Rattle.bw_ring.specs.Ends.{ring_of_feed};
-ghost use Rattle.bw_log.specs.Limits.{AreLimits};
 ghost use Rattle.bw_core.specs.Counting.{noted_from};
 ghost use Rattle.bw_core.specs.Opened.{one_empty};
 ghost use Rattle.bw_store.specs.Opened.{opened, AreFresh, AreTaken, IsOpenFault};

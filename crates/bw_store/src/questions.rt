@@ -1,6 +1,6 @@
 //! What a store answers of itself: the core's calls. None of them takes memory.
 
-ghost use Rattle.std.specs.Prelude.{◌≡◌, ◌≤◌, ◌+◌, ◌-◌, ◌↔◌, true, Some, None, drop, length, map, slice_get, IsTrue, MatchOption};
+ghost use Rattle.std.specs.Prelude.{◌≡◌, ◌+◌, ◌↔◌, true, Some, None, drop, length, map, slice_get, IsTrue, MatchOption};
 ghost use Rattle.bw_care.specs.Upgrading.{old_segments};
 ghost use Rattle.bw_log.specs.Contents.{counted};
 ghost use Rattle.bw_log.specs.Places.{walk_of};

@@ -5,7 +5,7 @@
 //! two fronts one is a beginning of the other. That is all that a reader has to compare. The
 //! batches themselves take no bytes there: what is shared is one word, which counts them.
 
-ghost use Rattle.std.specs.Prelude.{◌≡◌, ◌+◌, ◌==◌, ◌<◌, ◌≤◌, ◌^◌, ◌++◌, ◌∷◌, [], length, MatchBool};
+ghost use Rattle.std.specs.Prelude.{◌≡◌, ◌+◌, ◌==◌, ◌<◌, ◌^◌, ◌++◌, ◌∷◌, [], length, MatchBool};
 ghost use Rattle.bw_versions.specs.BookRule.{head_of, IsLonger};
 ghost use mathlib.Core.List.{IsPrefix};
 

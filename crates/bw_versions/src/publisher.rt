@@ -3,7 +3,7 @@
 //! A batch is entered in the book before the writer takes it, so one whose publication is refused
 //! is kept, and the next publication brings it, as a batch of its own.
 
-ghost use Rattle.std.specs.Prelude.{◌≡◌, ◌↔◌, ◌++◌, ◌∷◌, ◌<◌, ◌-◌, ◌^◌, [], Some, None, Err, IsOk, IsTrue, IfOk, OnOk, OnErr, IfErr, MatchResult, drop};
+ghost use Rattle.std.specs.Prelude.{◌≡◌, ◌↔◌, ◌++◌, ◌∷◌, ◌<◌, ◌-◌, ◌^◌, [], Some, None, Err, IsOk, IsTrue, IfOk, OnOk, OnErr, IfErr, drop};
 ghost use mathlib.Core.List.{IsPrefix};
 ghost use Rattle.bw_versions.specs.Sending.{waiting_of};
 ghost use Rattle.bw_versions.specs.Refusals.{WasKept};

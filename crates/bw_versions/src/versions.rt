@@ -5,7 +5,7 @@
 //! publication that is refused memory may have entered its batch in the book already; it is counted
 //! as entered then, or the next one would bring the same entries again.
 
-ghost use Rattle.std.specs.Prelude.{◌≡◌, ◌↔◌, ◌++◌, ◌+◌, ◌∷◌, ◌≤◌, ◌<◌, ◌-◌, ◌^◌, [], Some, Err, IsOk, IfOk, OnOk, OnErr, drop, length};
+ghost use Rattle.std.specs.Prelude.{◌≡◌, ◌↔◌, ◌+◌, ◌≤◌, ◌-◌, [], Some, Err, IsOk, IfOk, OnOk, OnErr, length};
 ghost use mathlib.Core.List.{IsPrefix};
 ghost use Rattle.bw_versions.specs.Batches.{entries_of};
 ghost use Rattle.bw_versions.specs.Posted.{posted_of};

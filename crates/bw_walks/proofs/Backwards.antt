@@ -5,9 +5,8 @@ use Rattle.std.specs.Prelude.{slice_get, IsTrue, IsOk, IfOk, IfSome}
 use Rattle.std.specs.Result.{result_ok}
 use Rattle.std.specs.List.{AllByRecursion as All}
 use Rattle.std.specs.Option.{IsSomeAnd}
-use Rattle.std.specs.Ordering.{MatchOrdering, nat_cmp, is_lt, is_gt, ordering_then, eq_by_cmp}
+use Rattle.std.specs.Ordering.{MatchOrdering, nat_cmp, is_lt, is_gt, eq_by_cmp}
 use Rattle.std.specs.Cmp.{ranked}
-use Rattle.std.specs.Cmp.Lexicographic.{slice_cmp}
 use Rattle.std.specs.FinMap as finite
 use Rattle.std.specs.FinMap.Entries.{find, by_order}
 use Rattle.std.specs.declared.cmp.Ordering.TheVariants.{Less, Equal, Greater}

@@ -1,7 +1,6 @@
 //! Readers beside the writers of `bwlog threads`. Each looks keys up in a thread of its own while
 //! the writers put, and none may see a key go back.
 
-ghost use Rattle.std.specs.Prelude.{◌≡◌};
 ghost use Rattle.bw_home.specs.Sharing.{IsShared};
 
 use bw_codec::{Key, Record, Value};

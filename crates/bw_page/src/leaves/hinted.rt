@@ -1,7 +1,7 @@
 //! Records whose page is guessed: a look at it tells whether it is the right one, and a search
 //! among the pages follows only where it does not.
 
-ghost use Rattle.std.specs.Prelude.{◌≡◌, Err, IfOk, IfSome, OnOk, OnErr, IsTrue, length};
+ghost use Rattle.std.specs.Prelude.{◌≡◌, Err, IfOk, IfSome, OnOk, OnErr, IsTrue};
 ghost use Rattle.bw_record.specs.Record.{key_of};
 ghost use Rattle.bw_leaf.specs.Changed.{changed_map};
 ghost use Rattle.bw_page.specs.Leaves.{union};

@@ -1,21 +1,19 @@
 //! Bytes, blocks, leaves and buffers.
 
-ghost use Rattle.std.specs.Prelude.{◌≤◌, length, IfSome};
-ghost use Rattle.std.specs.List.{AllByRecursion};
+ghost use Rattle.std.specs.Prelude.{IfSome};
 ghost use Rattle.bw_codec.specs.Grammar.{IsBlock};
 
 use super::changed;
 use bw_buffer::Buffer;
 use bw_codec::limits::{LATEST, MIN_FRAME};
 use bw_codec::{
-    Block, Blocks, CodecFault, FrameRead, Head, Header, HeaderRead, Key, Leaf, Low, Ops, Outline,
-    Pair, Pairs, Place, Record, Value, block_length, encode_block, encode_frame_head,
-    encode_header, frame_cells, header_cells, is_before, read_block, read_frame, read_header,
+    Block, CodecFault, FrameRead, Header, Key, Leaf, Low, Pair, Pairs, Value, encode_block,
+    encode_frame_head, encode_header, read_block, read_frame,
 };
 use std::alloc::Global;
 use std::sync::Wait;
 use std::thread::Threads;
-use test_marks::{begin, begin_without, end};
+use test_marks::{begin, end};
 use test_refusals::{Ask, Row, Try, asked_again, then, tried, wrong_row};
 use test_vectors::{is, shows};
 

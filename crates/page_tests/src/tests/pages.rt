@@ -1,6 +1,6 @@
 //! Calls on all leaves, of which each is in memory.
 
-ghost use Rattle.std.specs.Prelude.{◌≤◌, ◌≡◌, []};
+ghost use Rattle.std.specs.Prelude.{◌≡◌, []};
 
 use super::evicted::two_pages;
 use super::leads;

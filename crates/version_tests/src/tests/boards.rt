@@ -1,7 +1,5 @@
 //! A board by itself.
 
-ghost use Rattle.std.specs.Prelude.{◌≡◌, []};
-
 use super::{entries, is_value, start};
 use bw_codec::Key;
 use bw_versions::{Board, batches_are_joined};

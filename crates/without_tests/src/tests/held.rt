@@ -8,7 +8,7 @@ ghost use Rattle.bw_codec.specs.Grammar.{IsBlock};
 use super::{asked, spared};
 use bw_buffer::{Buffer, Mark};
 use bw_codec::limits::MIN_FRAME;
-use bw_codec::{Block, Blocks, Key, Leaf, Packed, Place, Value, encode_block};
+use bw_codec::{Block, Blocks, Key, Leaf, Packed, Place, encode_block};
 use bw_page::{Chain, Draft, Leaves, change, count_after, empty_page, keep_below, value_in};
 use std::alloc::Global;
 use test_marks::begin_without;

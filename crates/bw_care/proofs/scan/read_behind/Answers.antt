@@ -1,4 +1,4 @@
-use Rattle.std.proofs.Common.{List, [], ◌∷◌, ◌++◌, ◌≡◌, ◌<◌, ◌^◌, map, arith, rules, subst, ◌∙◌, ap}
+use Rattle.std.proofs.Common.{List, [], ◌∷◌, ◌++◌, ◌<◌, ◌^◌, map, arith, rules, subst, ◌∙◌, ap}
 use Rattle.std.specs.List.{flat_map, AllByRecursion}
 use Rattle.bw_codec.specs.Grammar.{frame_bytes_in, IsFrameIn}
 use Rattle.bw_record.specs.declared.block.Frame.{Frame}

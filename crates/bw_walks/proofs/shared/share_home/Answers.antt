@@ -3,7 +3,6 @@ use Rattle.std.specs.Option.{option_copied}
 use Rattle.std.specs.Result.{OnOk}
 use Rattle.bw_record.specs.declared.leaf.Leaf.{Leaf}
 use Rattle.bw_leaf.specs.Above.{pairs_above, with_some}
-use Rattle.bw_leaf.specs.Changed.{Bytes, Pairs}
 use Rattle.bw_page.specs.Leaves.{home, leaf_at}
 use Rattle.bw_page.specs.Shown.{Shown, is_evicted_page, leaf_here}
 use Rattle.bw_page.proofs.PageByPage.{home_there}

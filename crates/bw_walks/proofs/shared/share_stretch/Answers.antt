@@ -1,8 +1,7 @@
-use Rattle.std.proofs.Common.{◌∙◌, refl, sym, ap, subst, arith}
-use Rattle.bw_leaf.specs.Above.{pairs_above, with_some}
+use Rattle.std.proofs.Common.{refl, sym, subst, arith}
 use Rattle.bw_leaf.specs.Changed.{Bytes, Pairs}
 use Rattle.bw_page.specs.Ahead.{IsStretch, HasGone}
-use Rattle.bw_page.specs.Leaves.{home, union}
+use Rattle.bw_page.specs.Leaves.{union}
 use Rattle.bw_page.proofs.Ahead.{ahead_less}
 use Rattle.bw_page.proofs.Stretch.{gone_first, gone_more, gone_last, gone_full}
 use Rattle.bw_walks.proofs.shared.share_stretch.Goals as goal

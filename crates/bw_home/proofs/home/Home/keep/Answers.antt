@@ -1,4 +1,4 @@
-use Rattle.std.proofs.Common.{◌≡◌, length, refl, sym, ◌∙◌, arith}
+use Rattle.std.proofs.Common.{◌≡◌, length, refl, ◌∙◌, arith}
 use Rattle.bw_core.proofs.FollowMore.{follows_as}
 use Rattle.bw_home.proofs.Maps.{now_put, plain_all, same_count, same_map}
 use Rattle.bw_home.proofs.home.Home.keep.Goals as goal
