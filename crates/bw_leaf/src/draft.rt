@@ -12,7 +12,7 @@ ghost use Rattle.bw_leaf.specs.Forwards.{after, kept_below};
 
 use crate::changes::empty_page;
 use crate::room::fitted;
-use crate::tree::{change_tree, split_tree, row_of, tree_of};
+use crate::tree::{change_tree, row_of, split_tree, tree_of};
 use crate::{changes, replay};
 use bw_codec::{Block, Key, Leaf, Packed, Pairs, Value, ascend};
 use std::alloc::AllocError;

@@ -24,11 +24,11 @@ mod batch;
 mod hinted;
 mod walk;
 
-use crate::splits::split_one;
 use crate::fault::ApplyError;
 use crate::index::{copy_all, index_of};
 use crate::journal::Displaced;
 use crate::seats::Seats;
+use crate::splits::split_one;
 pub use batch::{HasRecord, Step};
 use bw_codec::{Key, Leaf, Packed, Record, Value};
 use bw_leaf::{count_found, count_packed, empty_page, find_key};

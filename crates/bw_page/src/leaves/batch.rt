@@ -226,7 +226,12 @@ impl Leaves {
         };
         let mut whole = leaf.copy()?;
         change_packed(&mut whole, change)?;
-        let Halves { lower: _, upper } = split_in_two(self.leaves.allocator(), self.m, whole, made)?;
+        let Halves { lower: _, upper } = split_in_two(
+            self.leaves.allocator(),
+            self.m,
+            whole,
+            made,
+        )?;
         Ok(Some(upper))
     }
 

@@ -28,7 +28,11 @@ fn has(run: &Run, head: u8, first: &[u8], second: &[u8]) -> bool {
             *byte == head
                 && rest.len() == first.len() + second.len()
                 && rest.iter().zip(first).all(|(a, b)| *a == *b)
-                && rest.iter().skip(first.len()).zip(second).all(|(a, b)| *a == *b)
+                && rest
+                    .iter()
+                    .skip(first.len())
+                    .zip(second)
+                    .all(|(a, b)| *a == *b)
         }
         [] => false,
     }
@@ -80,5 +84,11 @@ fn shared_goes(alloc: Global, count: &usize) -> Option<bool> {
 #[test]
 fn owners_read_the_same_bytes_while_one_is_left(rt: HostRuntime) {
     let alloc = rt.alloc();
-    assert_eq!(rt; wrong_row(&[1, 2, 3, 1_000, 100_000], |count| shared_goes(alloc, count)), None);
+    assert_eq!(rt;
+        wrong_row(
+            &[1, 2, 3, 1_000, 100_000],
+            |count| shared_goes(alloc, count)
+        ),
+        None
+    );
 }

@@ -7,8 +7,8 @@ use super::versions::entries;
 use bw_codec::{Block, Key, Leaf, Ops, Packed, Place};
 use bw_history::PackedEntry;
 use bw_page::{
-    Applied, ApplyError, Chain, Draft, Leaves, Start, change, change_all, split_in_two, empty_page,
-    read_block, read_blocks,
+    Applied, ApplyError, Chain, Draft, Leaves, Start, change, change_all, empty_page, read_block,
+    read_blocks, split_in_two,
 };
 use std::alloc::{AllocError, Global};
 use std::sync::Wait;

@@ -4,7 +4,9 @@ ghost use Rattle.std.specs.Prelude.{IsTrue};
 ghost use Rattle.bw_record.specs.Keys.{ascends};
 
 use bw_codec::{Key, Leaf, Record};
-use bw_page::{Halves, change, change_all, count_after, split_in_two, empty_page, keep_below, value_in};
+use bw_page::{
+    Halves, change, change_all, count_after, empty_page, keep_below, split_in_two, value_in,
+};
 use std::alloc::Global;
 use test_tables::wrong_row;
 use test_vectors::{all_packed, del, is_shown, leaf_of, put};

@@ -15,9 +15,19 @@ is_shared-requires-sync-T c κs = search (marked.the_sync, front.the_sync, the_s
 
 pub is_sent-requires-send-T : goal.is_sent-requires-send-T
 is_sent-requires-send-T c κs =
-  search (reader.the_send, marked.the_sync, front.the_sync, the_sync, crosses, sendable) depth 60 fits 100000
+    search (reader.the_send, marked.the_sync, front.the_sync, the_sync, crosses, sendable) depth 60 fits 100000
 
 pub is_sent-requires-2-send-T : goal.is_sent-requires-2-send-T
 is_sent-requires-2-send-T c κs =
-  search (reader.the_send, marked.the_sync, front.the_sync, the_sync, crosses, sendable,
-    view_send, recorded_send, struct_send, param_send) depth 80 fits 1000000
+    search (
+      reader.the_send,
+      marked.the_sync,
+      front.the_sync,
+      the_sync,
+      crosses,
+      sendable,
+      view_send,
+      recorded_send,
+      struct_send,
+      param_send,
+    ) depth 80 fits 1000000
