@@ -3,3 +3,4 @@ pub mod Fronts
 pub mod Adding
 pub mod Books
 pub mod Sends
+pub mod Crossing
