@@ -1,0 +1,5 @@
+use Rattle.bw_versions.proofs.Crossing.{readers}
+use Rattle.reader_tests.proofs.tests.readers.race.Goals as goal
+
+pub spawn-requires-send-F : goal.spawn-requires-send-F
+spawn-requires-send-F g c κs within = search readers depth 60 fits 100000
