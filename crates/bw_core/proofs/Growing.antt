@@ -22,7 +22,7 @@ use Rattle.bw_leaf.specs.Forwards.{after, content, blocks_of}
 use Rattle.bw_page.specs.Standing.{Stand}
 use Rattle.bw_leaf.proofs.Sorted.{all-push}
 use Rattle.bw_page.proofs.Indexed.{home_within}
-use Rattle.bw_page.proofs.Law.{applied-lawful, cut_within, upper_in, home_base}
+use Rattle.bw_page.proofs.Law.{applied-lawful, split_within, upper_in, home_base}
 use Rattle.bw_page.proofs.Law as law
 use Rattle.bw_log.specs.Places.{place_of, AreLinked}
 use Rattle.bw_making.specs.Adding.{with_blocks, count_after, here_for, last_for, result_of, blocks_for, places_after}
@@ -223,14 +223,14 @@ module _ (m : ℕ) (counted : List Frame) (o : Frame) (leaves : List Leaf) (newe
             let over = leb-false _ _ e in
             let x = result_of leaves r in
             let d = law.directed m leaves r lawful_now t.op in
-            let within = cut_within m leaves (key_of r) x one lawful_now d over in
+            let within = split_within m leaves (key_of r) x one lawful_now d over in
             let up = upper_in m leaves (key_of r) x one lawful_now d over (t.room over) in
             let long = length-drop ((m + 1) / 2) x.pairs in
             let h = here in (
               delta,
               (
                 record {
-                  cuts = base.page;
+                  splits = base.page;
                   links = end_lawful;
                   makes = up.base;
                   low = refl;

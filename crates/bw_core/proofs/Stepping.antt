@@ -19,7 +19,7 @@ use Rattle.bw_leaf.specs.SplitRule.{lower_of, upper_of}
 use Rattle.bw_leaf.specs.Forwards.{kept_below, after}
 use Rattle.bw_page.proofs.Homes.{put_in}
 use Rattle.bw_page.proofs.PageByPage.{home_there, put_at}
-use Rattle.bw_page.proofs.Law.{directed, cut_within, applied-whole, applied-split}
+use Rattle.bw_page.proofs.Law.{directed, split_within, applied-whole, applied-split}
 use Rattle.bw_page.proofs.Steps.{kept-lower, leaf_at-push, leaf_at-new}
 use Rattle.bw_making.specs.Adding.{result_of, blocks_for}
 
@@ -61,7 +61,7 @@ module _ (m : ℕ) (leaves : List Leaf) (r : Record) (some : 1 ≤ m) (a : AreLe
       → kept_below (upper_of m (length leaves + 1) (result_of leaves r)).low (result_of leaves r) ≡ lower_of m (result_of leaves r)
   cut_lower over =
       let t = Rattle.bw_page.proofs.Law.directed m leaves r a op in
-      kept-lower m (length leaves + 1) (result_of leaves r) (cut_within m leaves (key_of r) (result_of leaves r) some a t over) t.rises
+      kept-lower m (length leaves + 1) (result_of leaves r) (split_within m leaves (key_of r) (result_of leaves r) some a t over) t.rises
 
   -- an old page after the Delta and the Split
   split_leaves : (back here : Place) (p : ℕ) → p ≤ length leaves → m < length (result_of leaves r).pairs

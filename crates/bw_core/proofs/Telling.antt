@@ -10,7 +10,7 @@ use Rattle.bw_record.specs.declared.block.Block.TheVariants.{Delta, Split}
 use Rattle.bw_page.specs.Leaves.{directed_at, applied, pages}
 use Rattle.bw_leaf.specs.SplitRule.{upper_of}
 use Rattle.bw_buffer.specs.Joining.{added}
-use Rattle.bw_making.specs.Share.{ops_at, cuts_in, bases_in, directed, cut_by, cuts_by, Tells}
+use Rattle.bw_making.specs.Share.{ops_at, splits_in, bases_in, directed, split_by, splits_by, Tells}
 use Rattle.bw_making.specs.Adding.{result_of, blocks_for}
 use Rattle.bw_making.proofs.Joins.{added_ops, added_splits, added_bases}
 
@@ -22,12 +22,12 @@ directed_more m p leaves (x ∷ rs) r =
     ap (λ (l : List Record). here ++ l) (directed_more m p (applied m leaves x) rs r)
     ∙ sym (append_assoc here (directed m p (applied m leaves x) rs) (if directed_at (pages m leaves (x ∷ rs)) r == p then r ∷ [] else []))
 
-cuts_more : (m : ℕ) (leaves : List Leaf) (rs : List Record) (r : Record)
-    → cuts_by m leaves (rs ++ r ∷ []) ≡ cuts_by m leaves rs ++ cut_by m (pages m leaves rs) r
-cuts_more m leaves [] r = append-nil (cut_by m leaves r)
-cuts_more m leaves (x ∷ rs) r =
-    ap (λ (l : List (ℕ × ℕ)). cut_by m leaves x ++ l) (cuts_more m (applied m leaves x) rs r)
-    ∙ sym (append_assoc (cut_by m leaves x) (cuts_by m (applied m leaves x) rs) (cut_by m (pages m leaves (x ∷ rs)) r))
+splits_more : (m : ℕ) (leaves : List Leaf) (rs : List Record) (r : Record)
+    → splits_by m leaves (rs ++ r ∷ []) ≡ splits_by m leaves rs ++ split_by m (pages m leaves rs) r
+splits_more m leaves [] r = append-nil (split_by m leaves r)
+splits_more m leaves (x ∷ rs) r =
+    ap (λ (l : List (ℕ × ℕ)). split_by m leaves x ++ l) (splits_more m (applied m leaves x) rs r)
+    ∙ sym (append_assoc (split_by m leaves x) (splits_by m (applied m leaves x) rs) (split_by m (pages m leaves (x ∷ rs)) r))
 
 module _ (m : ℕ) (now : List Leaf) (back here : Place) (r : Record) where
   ops_for : (p : ℕ) → ops_at p (blocks_for m now back here r) ≡ (if directed_at now r == p then r ∷ [] else [])
@@ -38,9 +38,9 @@ module _ (m : ℕ) (now : List Leaf) (back here : Place) (r : Record) where
         | false ↦ append-nil (if directed_at now r == p then r ∷ [] else [])
       ]
 
-  cuts_for : cuts_in (blocks_for m now back here r) ≡ cut_by m now r
-  cuts_for = elim (nat_le (length (result_of now r).pairs) m) as
-      (λ b. cuts_in (if b then Delta (directed_at now r) back (r ∷ []) ∷ [] else Delta (directed_at now r) back (r ∷ []) ∷ Split (directed_at now r) here
+  splits_for : splits_in (blocks_for m now back here r) ≡ split_by m now r
+  splits_for = elim (nat_le (length (result_of now r).pairs) m) as
+      (λ b. splits_in (if b then Delta (directed_at now r) back (r ∷ []) ∷ [] else Delta (directed_at now r) back (r ∷ []) ∷ Split (directed_at now r) here
       (upper_of m (length now + 1) (result_of now r)) ∷ []) ≡ (if b then [] else (directed_at now r, length now + 1) ∷ [])) [
         | true ↦ refl
         | false ↦ refl
@@ -60,8 +60,8 @@ tells_more m leaves rs blocks back here r t =
     record {
       deltas = λ p. added_ops p blocks more ∙ ap (λ (l : List Record). l ++ ops_at p more) (t.deltas p)
           ∙ ap (λ (l : List Record). directed m p leaves rs ++ l) (ops_for m now back here r p) ∙ sym (directed_more m p leaves rs r);
-      splits = added_splits blocks more ∙ ap (λ (l : List (ℕ × ℕ)). l ++ cuts_in more) t.splits
-          ∙ ap (λ (l : List (ℕ × ℕ)). cuts_by m leaves rs ++ l) (cuts_for m now back here r) ∙ sym (cuts_more m leaves rs r);
+      splits = added_splits blocks more ∙ ap (λ (l : List (ℕ × ℕ)). l ++ splits_in more) t.splits
+          ∙ ap (λ (l : List (ℕ × ℕ)). splits_by m leaves rs ++ l) (splits_for m now back here r) ∙ sym (splits_more m leaves rs r);
       bases = added_bases blocks more ∙ ap (λ (l : List Leaf). l ++ bases_in more) t.bases ∙ bases_for m now back here r;
     }
 

@@ -57,7 +57,7 @@ block_newer v m n (Delta page back ops) more law = record {
 }
 block_newer v m n (Base leaf) more law = base_newer v m n leaf more law
 block_newer v m n (Split page back upper) more law = record {
-  cuts = law.cuts;
+  splits = law.splits;
   links = law.links;
   makes = base_newer v m n upper more law.makes;
   low = law.low;

@@ -71,7 +71,7 @@ small_is_sound lease = record {
   holds = record {
     limits = (lit≤ tt, lit≤ tt, lit≤ tt, lit≤ tt);
     numbers = lit≤ tt;
-    live = (65536, (record { cut = []; whole = whole }, tt));
+    live = (65536, (record { torn = []; whole = whole }, tt));
     news = lit< tt;
     ends = λ _ _. whole;
     every = λ _. rw first_is_read refl;

@@ -51,7 +51,7 @@ fifth_lawful = record {
     put_lawful 4 (record { frame = 4; index = 0 }) 101 53 (place 4 0 (lit≤ tt) (lit< tt) (lit< tt)),
     (
       record {
-        cuts = (lit≤ tt, lit< tt);
+        splits = (lit≤ tt, lit< tt);
         links = place 5 0 (lit≤ tt) (lit< tt) (lit< tt);
         makes = upper_lawful;
         low = refl;

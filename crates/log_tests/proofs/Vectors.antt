@@ -29,12 +29,12 @@ unfolding segment_frames frames_at heading_of front_at text_at value_at op_at pa
     head_at number_bytes
 first_is_read = refl
 
--- cut by one byte it holds no whole frame, and cut in its header none either
-first_is_cut : segment_frames (take 76 first_segment) ++ segment_frames (take 23 first_segment) ≡ []
+-- torn at its last byte it holds no whole frame, and torn in its header none either
+first_is_torn : segment_frames (take 76 first_segment) ++ segment_frames (take 23 first_segment) ≡ []
 unfolding segment_frames frames_at heading_of front_at text_at value_at op_at pair_at many_at place_at page_at pairs_at delta_at base_at upper_at
     split_at block_at
     head_at number_bytes
-first_is_cut = refl
+first_is_torn = refl
 
 first_places : (place_of 1 (first_example ∷ []) ≡ Some (record { frame = 1; index = 1 }))
     × (base_of 1 (first_example ∷ []) ≡ Some (record { frame = 1; index = 0 })) × (place_of 2 (first_example ∷ []) ≡ None)

@@ -1,4 +1,4 @@
--- What recovery says of worked boxes: the vectors cut, exchanged, doubled and changed.
+-- What recovery says of worked boxes: the vectors torn, exchanged, doubled and changed.
 
 use Rattle.std.proofs.Common.{◌≡◌, ℕ, suc, ◌+◌, Bool, true, Some, ap, ◌∙◌, Result, Ok, Err, List, [], ◌∷◌, ◌++◌, length, take, drop, refl}
 use Rattle.std.specs.List.{AllByRecursion}
@@ -87,7 +87,7 @@ unfolding segment_frames frames_at heading_of front_at text_at value_at op_at pa
     head_at number_bytes rest_of first_such contents
 vectors_whole = (refl, (refl, (refl, (refl, (refl, (refl, tt))))))
 
--- vectors cut, and with bytes behind
+-- vectors torn, and with bytes behind
 pub vectors_cut : AreTold (
     (box (take 296 second) ∷ [], found (page_one ((97 ∷ [], 49 ∷ []) ∷ (98 ∷ [], 50 ∷ []) ∷ (99 ∷ [], 51 ∷ []) ∷ (100 ∷ [], 52 ∷ []) ∷ []) ∷ []) 1 4 84 0) ∷
     (box (take 76 second) ∷ [], Err Empty) ∷

@@ -25,7 +25,7 @@ const FIFTH: &str = "46524d32 0100000000000000 41000000 02000000 \
 const LATER: &str = "46524d32 0100000000000000 1a000000 01000000 \
     01 01000000 0100000000000000 02000000 0100 01 02 627a 0100 36";
 
-/// Five puts of page 1, which is cut then: the Delta, and behind it the Split.
+/// Five puts of page 1, which is split then: the Delta, and behind it the Split.
 const CUT: &str = "46524d32 0100000000000000 61000000 03000000 \
     02 01000000 00 0000 \
     01 01000000 0100000000000000 00000000 0500 01 01 61 0100 31 01 01 62 0100 32 01 01 63 0100 \
@@ -94,7 +94,7 @@ const JOINED: &[Step] = &[
     Step::Spells(2),
 ];
 
-/// The page is cut behind five puts; a later put joins none of them, and is joined itself.
+/// The page is split behind five puts; a later put joins none of them, and is joined itself.
 const CUT_IN_ONE_FRAME: &[Step] = &[
     Step::Puts(FOUR_PUTS),
     Step::Is(1, 2, 65465, false),

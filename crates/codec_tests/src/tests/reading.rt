@@ -1,4 +1,4 @@
-// Frames that are whole, that were cut, or that are bad.
+// Frames that are whole, that are torn, or that are bad.
 
 use bw_codec::{CodecFault, FrameRead, FrameSeen, Header, check_frame, read_frame};
 use std::alloc::Global;
@@ -46,7 +46,7 @@ pub(crate) fn found_in(alloc: Global, version: u16, m: u16, bytes: &[u8]) -> Opt
     }
 }
 
-// ---- a frame that was cut, or one of whose bytes was changed
+// ---- a frame that is torn, or one of whose bytes was changed
 
 /// The byte at this index of the frame of the first segment of a format, or the one behind it,
 /// becomes this, and so many bytes are left.

@@ -20,13 +20,13 @@ use Row::{Bad, Of, Whole};
 
 const BASES: &[Row] = &[
     Whole("02 01000000 00 0000", 28),
-    // The page: cut, and zero.
+    // The page: torn, and zero.
     Of(2, "02 01000000 00 0000 02 010000", Found::Bad),
     Bad("02 00000000 00 0000"),
-    // The low key: its length is not there, and it is cut.
+    // The low key: its length is not there, and it is torn.
     Of(2, "02 01000000 00 0000 02 01000000", Found::Bad),
     Bad("02 01000000 05 6162"),
-    // The count of pairs: cut, the greatest, and one more.
+    // The count of pairs: torn, the greatest, and one more.
     Bad("02 01000000 01 61 00"),
     Whole(
         "02 01000000 00 0400 01 61 v00 01 62 v00 01 63 v00 01 64 v00",
@@ -52,12 +52,12 @@ const DELTAS: &[Row] = &[
         43,
     ),
     Whole("01 01000000 0100000000000000 00000000 0100 02 01 61", 42),
-    // The page: zero. The place back: its frame is cut, is zero, its index is cut.
+    // The page: zero. The place back: its frame is torn, is zero, its index is torn.
     Bad("01 00000000 0100000000000000 00000000 0100 02 01 61"),
     Bad("01 01000000 01000000"),
     Bad("01 01000000 0000000000000000 00000000 0100 02 01 61"),
     Bad("01 01000000 0100000000000000 0000"),
-    // The count of records: cut, and zero; fewer records than it tells, and more.
+    // The count of records: torn, and zero; fewer records than it tells, and more.
     Bad("01 01000000 0100000000000000 00000000 01"),
     Bad("01 01000000 0100000000000000 00000000 0000"),
     Bad("01 01000000 0100000000000000 00000000 0200 02 01 61"),
@@ -65,7 +65,7 @@ const DELTAS: &[Row] = &[
     // A record's kind.
     Bad("01 01000000 0100000000000000 00000000 0100 00 01 61"),
     Bad("01 01000000 0100000000000000 00000000 0100 03 01 61"),
-    // Its key: not there, cut, of no byte.
+    // Its key: not there, torn, of no byte.
     Bad("01 01000000 0100000000000000 00000000 0100 02"),
     Bad("01 01000000 0100000000000000 00000000 0100 02 02 61"),
     Bad("01 01000000 0100000000000000 00000000 0100 02 00"),
@@ -76,10 +76,10 @@ const SPLITS: &[Row] = &[
         "03 01000000 0100000000000000 00000000 01 61 02000000 0100 01 61 v00",
         48,
     ),
-    // The page that is cut: zero. The place back: frame zero.
+    // The page that is split: zero. The place back: frame zero.
     Bad("03 00000000 0100000000000000 00000000 01 61 02000000 0100 01 61 v00"),
     Bad("03 01000000 0000000000000000 00000000 01 61 02000000 0100 01 61 v00"),
-    // The new page: cut, page 1, and the page that is cut.
+    // The new page: torn, page 1, and the page that is split.
     Bad("03 01000000 0100000000000000 00000000 01 61 0200"),
     Bad("03 02000000 0100000000000000 00000000 01 61 01000000 0100 01 61 v00"),
     Bad("03 02000000 0100000000000000 00000000 01 61 02000000 0100 01 61 v00"),

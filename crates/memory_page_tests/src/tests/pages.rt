@@ -35,7 +35,7 @@ enum Call {
     CopyLeaves,
     /// They are copied as a start, and leaves are made of that.
     CopyStart,
-    /// A fifth pair, which cuts the page, by each call that applies records.
+    /// A fifth pair, which splits the page, by each call that applies records.
     Apply(Way),
     /// What a fifth pair would do, and a stretch of pairs.
     Look(Way),
@@ -206,7 +206,7 @@ fn applies(leaves: &mut Leaves, change: &Packed, way: Way) -> Result<bool, Apply
     Ok(done == told)
 }
 
-/// What a call tells that leaves the pages as they are: a record cuts the page, and the stretch
+/// What a call tells that leaves the pages as they are: a record splits the page, and the stretch
 /// from b on has two pairs.
 fn looked(
     alloc: Global,
@@ -348,20 +348,20 @@ fn all_change(alloc: Global, count: u8) -> Option<Try> {
     has_all(alloc, made, count as usize)
 }
 
-/// A leaf of five pairs is cut in two.
-fn cuts(alloc: Global) -> Option<Try> {
+/// A leaf of five pairs is split in two.
+fn splits(alloc: Global) -> Option<Try> {
     let records = lettered(alloc, b"abcde")?;
     let leaf = change_all(empty_page(alloc), records.as_slice()).ok()?;
     if leaf.pairs.as_slice().len() <= 4 {
         return None;
     }
     begin(alloc);
-    let cut = split_in_two(alloc, 4, leaf, 7);
+    let halves = split_in_two(alloc, 4, leaf, 7);
     let refused = end(alloc);
-    match cut {
-        Ok(cut) => {
-            let is_so = shows(&cut.lower, b": a= b=") && shows(&cut.upper, b"c: c= d= e=");
-            tried(true, refused, is_so && cut.upper.page == 7)
+    match halves {
+        Ok(halves) => {
+            let is_so = shows(&halves.lower, b": a= b=") && shows(&halves.upper, b"c: c= d= e=");
+            tried(true, refused, is_so && halves.upper.page == 7)
         }
         Err(_) => tried(false, refused, true),
     }
@@ -527,7 +527,7 @@ impl Ask for Call {
             Call::CopyStart => copies_start(alloc),
             Call::ChangeAll(count) => all_change(alloc, *count),
             Call::Read(how, count) => reads(alloc, *how, *count),
-            _ => cuts(alloc),
+            _ => splits(alloc),
         }
     }
 }

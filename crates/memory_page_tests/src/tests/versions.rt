@@ -21,7 +21,7 @@ enum Call {
     /// A group's first record, as a history keeps it.
     Pack,
     NewBoard,
-    /// Five entries on a board, which cut its page.
+    /// Five entries on a board, which split its page.
     OnBoard,
     OpenPublisher,
     /// A batch, by a publisher.

@@ -81,25 +81,25 @@ fn lettered(alloc: Global, keys: &str) -> Option<Leaf> {
 }
 
 /// The most pairs, the keys, and the two parts.
-type ToCut = (u16, &'static str, &'static str, &'static str);
+type ToSplit = (u16, &'static str, &'static str, &'static str);
 
-/// Whether the leaf of these keys, cut where it has more than so many pairs, gives these parts.
-fn to_cut_goes(alloc: Global, row: &ToCut) -> Option<bool> {
+/// Whether the leaf of these keys, split where it has more than so many pairs, gives these parts.
+fn to_split_goes(alloc: Global, row: &ToSplit) -> Option<bool> {
     let (m, keys, lower, upper) = *row;
     let leaf = lettered(alloc, keys)?;
     if m == 0 || leaf.pairs.as_slice().len() <= usize::from(m) {
         return None;
     }
-    let cut = split_in_two(alloc, m, leaf, 7).ok()?;
-    Some(are_parts(&cut, lower, upper))
+    let halves = split_in_two(alloc, m, leaf, 7).ok()?;
+    Some(are_parts(&halves, lower, upper))
 }
 
-fn are_parts(cut: &Halves, lower: &str, upper: &str) -> bool {
-    let pages = cut.lower.page == 1 && cut.upper.page == 7;
-    pages && is_shown(Some(&cut.lower), lower) && is_shown(Some(&cut.upper), upper)
+fn are_parts(halves: &Halves, lower: &str, upper: &str) -> bool {
+    let pages = halves.lower.page == 1 && halves.upper.page == 7;
+    pages && is_shown(Some(&halves.lower), lower) && is_shown(Some(&halves.upper), upper)
 }
 
-const CUTS: &[ToCut] = &[
+const SPLITS: &[ToSplit] = &[
     (4, "abcde", ": a= b=", "c: c= d= e="),
     (4, "abcdef", ": a= b=", "c: c= d= e= f="),
     (5, "abcdef", ": a= b= c=", "d: d= e= f="),
@@ -109,7 +109,10 @@ const CUTS: &[ToCut] = &[
 
 #[test]
 fn a_leaf_is_split_in_two(rt: HostRuntime) {
-    assert_eq!(rt; wrong_row(CUTS, |row| to_cut_goes(rt.alloc(), row)), None);
+    assert_eq!(rt;
+        wrong_row(SPLITS, |row| to_split_goes(rt.alloc(), row)),
+        None
+    );
 }
 
 /// The keys, the first key that goes, and what is kept.

@@ -387,7 +387,7 @@ fn wrong_filled(alloc: Global, table: &Filled) -> Option<usize> {
 const FILLS: &[Filled] = &[(4, 2, 3), (5, 3, 3), (32, 16, 17)];
 
 #[test]
-fn a_page_is_cut_where_it_has_one_pair_too_many(rt: HostRuntime) {
+fn a_page_is_split_where_it_has_one_pair_too_many(rt: HostRuntime) {
     let wrong = wrong_table(FILLS, |table| wrong_filled(rt.alloc(), table));
     assert_eq!(rt; wrong, None);
 }
