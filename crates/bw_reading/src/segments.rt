@@ -4,8 +4,9 @@ ghost use Rattle.std.specs.Prelude.{◌≡◌, [], map, IfOk};
 ghost use Rattle.bw_reading.specs.Pages.{ArePagesOf};
 
 use crate::answer::Fault;
-use bw_care::{Begun, RecoverCause, RecoverFault, begun_in, recover};
+use bw_care::{RecoverCause, RecoverFault, recover};
 use bw_codec::limits::{HEADER_LEN, MAX_FRAME};
+use bw_codec::{HeaderRead, read_header};
 use bw_device::{Desk, MemSegment, Segment};
 use bw_digest::check;
 use bw_page::Leaves;
@@ -51,10 +52,32 @@ fn copies_of(
     Ok(copies)
 }
 
-// Whether these segments, which have no whole frame, hold the beginning of a first one at most, of
+// Whether a segment, of a log in which no frame is whole, may be the first that was ever begun: it
+// has no bytes or a part of a header, or the header of segment 1.
+fn may_be_first(one: &mut Box<dyn Segment>) -> bool {
+    let mut front = [0u8; 24];
+    if one.len() < 24 {
+        return true;
+    }
+    if one.failures() == u64::MAX || one.read(0, &mut front).is_err() {
+        return false;
+    }
+    matches!(read_header(&front), HeaderRead::Whole(header) if header.number == 1)
+}
+
+// Whether these segments, which have no whole frame, hold the beginning of a first one alone, of
 // which nothing was ever durable: whoever writes there begins anew.
 fn are_begun(boxes: &mut [Box<dyn Segment>]) -> bool {
-    begun_in(boxes) != Begun::Other
+    let mut count = 0usize;
+    for one in boxes {
+        if one.len() > 0 {
+            count = count.saturating_add(1);
+            if !may_be_first(one) {
+                return false;
+            }
+        }
+    }
+    count <= 1
 }
 
 // The pages of these segments: one empty page where nothing was ever durable in them.
