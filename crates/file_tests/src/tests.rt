@@ -9,10 +9,12 @@ mod recovered;
 mod steps;
 mod stored;
 mod summed;
-mod watched;
 
 use std::fs;
 use std::test::*;
+
+/// The system, watched.
+type Watched = test_files::Watched<HostRuntime>;
 
 /// A folder and its files are gone, if they were there.
 fn clear(rt: HostRuntime, path: &str) {

@@ -1,8 +1,8 @@
 //! The end of a file is written again when it is opened: all of a short one, and of a long one as many
 //! bytes as a header and the longest frame have.
 
+use super::Watched;
 use super::steps::lease_of;
-use super::watched::Watched;
 use bw_file::Folder;
 use std::fs;
 

@@ -1,14 +1,14 @@
 //! Steps on one folder with up to two of its segments, and how each goes.
 
-use super::clear;
 use super::listed::are_listed;
 use super::recovered::{Said, goes_opened};
-use super::watched::{Watched, WatchedFile, numbers_of};
+use super::{Watched, clear};
 use bw_device::{Desk, Lease, MAX_CAPACITY, Segment};
 use bw_file::{FileSegment, Folder, FolderFault, FolderReader, NotOpened, Sound};
 use std::alloc::Global;
 use std::fs::{self, OpenOptions};
 use std::os::unix::fs::symlink;
+use test_files::{WatchedFile, numbers_of};
 
 /// One step. Segments have a place, 0 or 1, which is also their lease.
 #[derive(Drop)]

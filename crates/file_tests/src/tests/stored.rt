@@ -4,12 +4,11 @@
 ghost use Rattle.bw_care.specs.Views.{IsSound as IsSoundLog};
 ghost use Rattle.bw_store.specs.Views.{IsSound};
 
-use super::clear;
 use super::recovered::Said::Found;
 use super::recovered::{Said, Worked, boxes_of, wrong_worked};
 use super::steps::Act::{First, Tells};
 use super::steps::goes_outside;
-use super::watched::{Watched, WatchedFile};
+use super::{Watched, clear};
 use bw_care::{Cleaned, clean};
 use bw_codec::{Key, Record, Value};
 use bw_device::Segment;
@@ -18,6 +17,7 @@ use bw_log::Log;
 use bw_ring::Feed;
 use bw_store::{Config, Store, StoreFault};
 use std::sync::Wait;
+use test_files::WatchedFile;
 use test_vectors::{THIRD_LOST, THIRD_OLDER};
 
 const KV: &[(&str, &str)] = &[("k", "v")];

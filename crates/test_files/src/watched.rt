@@ -1,9 +1,8 @@
-//! A runtime whose files say what is asked of them, and of which one call fails.
+// What is asked of a runtime's files, and which call fails.
 
-use super::clear;
 use bw_file::SegmentFile;
 use std::alloc::{Alloc, Allocator, Global};
-use std::fs::{File, Metadata, OpenFile, OpenOptions, TryLockError};
+use std::fs::{self, File, Metadata, OpenFile, OpenOptions, TryLockError};
 use std::io::{self, ErrorKind, Read, Seek, SeekFrom, Write};
 use std::os::unix::fs::FileExt;
 use std::rt::Files;
@@ -15,7 +14,7 @@ const HIGHEST: u64 = 72_057_594_037_927_936;
 
 /// What was asked, and what is to fail.
 #[derive(Drop)]
-pub(super) struct Watch {
+pub struct Watch<F = File> {
     /// The letters of the last eight calls, the last one in the lowest byte.
     letters: AtomicU64,
     /// Those of the eight before them.
@@ -30,11 +29,11 @@ pub(super) struct Watch {
     /// Whether writes go to a device that is full.
     is_full: AtomicBool,
     /// That device.
-    full: File,
+    full: F,
 }
 
-/// Such letters as numbers: of the last eight, and of the eight before them.
-pub(super) fn numbers_of(letters: &str) -> (u64, u64) {
+/// The letters of calls as numbers: of the last eight, and of the eight before them.
+pub fn numbers_of(letters: &str) -> (u64, u64) {
     let mut last = 0u64;
     let mut earlier = 0u64;
     for letter in letters.as_bytes() {
@@ -44,9 +43,9 @@ pub(super) fn numbers_of(letters: &str) -> (u64, u64) {
     (last, earlier)
 }
 
-impl Watch {
-    /// No call was made, and none is to fail.
-    fn new(full: File) -> Watch {
+impl<F> Watch<F> {
+    // No call was made, and none is to fail.
+    fn new(full: F) -> Watch<F> {
         Watch {
             letters: AtomicU64::new(0),
             earlier: AtomicU64::new(0),
@@ -61,18 +60,18 @@ impl Watch {
 
     /// After so many more calls one fails, and none after `u64::MAX`; if it is a write it keeps so
     /// many bytes.
-    pub(super) fn fail_after(&self, passes: u64, keep: u64) {
+    pub fn fail_after(&self, passes: u64, keep: u64) {
         self.passes.store(passes, Ordering::SeqCst);
         self.keep.store(keep, Ordering::SeqCst);
     }
 
-    /// Whether the system has room for what is written from here on.
-    pub(super) fn fill(&self, is_full: bool) {
+    /// Whether what is written from here on goes to a device that is full.
+    pub fn fill(&self, is_full: bool) {
         self.is_full.store(is_full, Ordering::SeqCst);
     }
 
     /// The letters of the calls since the last look, as numbers.
-    pub(super) fn take_letters(&self) -> (u64, u64) {
+    pub fn take_letters(&self) -> (u64, u64) {
         let letters = self.letters.load(Ordering::SeqCst);
         let earlier = self.earlier.load(Ordering::SeqCst);
         self.letters.store(0, Ordering::SeqCst);
@@ -81,7 +80,7 @@ impl Watch {
     }
 
     /// Where the last write went, and how many bytes it had.
-    pub(super) fn wrote(&self) -> (u64, u64) {
+    pub fn wrote(&self) -> (u64, u64) {
         (
             self.at.load(Ordering::SeqCst),
             self.many.load(Ordering::SeqCst),
@@ -119,26 +118,29 @@ impl Watch {
     }
 }
 
-/// The system's files, watched, and a folder.
+/// A runtime whose files are watched, and a folder.
 #[derive(Drop)]
-pub(super) struct Watched {
-    /// The system, unwatched.
-    pub(super) rt: HostRuntime,
-    pub(super) path: &'static str,
-    pub(super) watch: Arc<Watch>,
+pub struct Watched<R, F = File> {
+    /// The runtime, unwatched.
+    pub rt: R,
+    /// The path of the folder.
+    pub path: &'static str,
+    /// What the runtime and its files share.
+    pub watch: Arc<Watch<F>>,
 }
 
-impl Watched {
-    /// The folder and its files are gone, if they were there.
-    pub(super) fn new(rt: HostRuntime, path: &'static str) -> Option<Watched> {
-        clear(rt, path);
+impl<R: AllocGlobal + Files<File = F> + Drop, F: SegmentFile> Watched<R, F> {
+    /// Nothing was asked yet, and no call is to fail. The folder and its files are gone, if they were
+    /// there. None where there is no memory, or no device `/dev/full`.
+    pub fn new(rt: R, path: &'static str) -> Option<Watched<R, F>> {
+        let _ = fs::remove_dir_all(&rt, path);
         let full = OpenOptions::new().write(true).open(&rt, "/dev/full").ok()?;
         let watch = Arc::new(rt.alloc(), Watch::new(full)).ok()?;
         Some(Watched { rt, path, watch })
     }
 }
 
-impl Alloc for Watched {
+impl<R: AllocGlobal, F> Alloc for Watched<R, F> {
     type A = Global;
 
     fn alloc(&self) -> Global {
@@ -146,12 +148,12 @@ impl Alloc for Watched {
     }
 }
 
-impl Files for Watched {
-    type File = WatchedFile;
+impl<R: Files<File = F>, F: SegmentFile + Read + Write + Seek> Files for Watched<R, F> {
+    type File = WatchedFile<F>;
 
-    type Dir = <HostRuntime as Files>::Dir;
+    type Dir = R::Dir;
 
-    fn open_file(&self, how: &OpenOptions, path: &str) -> io::Result<WatchedFile> {
+    fn open_file(&self, how: &OpenOptions, path: &str) -> io::Result<WatchedFile<F>> {
         self.watch.ask(b'o')?;
         Ok(WatchedFile {
             file: self.rt.open_file(how, path)?,
@@ -159,7 +161,7 @@ impl Files for Watched {
         })
     }
 
-    fn open_dir(&self, path: &str) -> io::Result<<HostRuntime as Files>::Dir> {
+    fn open_dir(&self, path: &str) -> io::Result<R::Dir> {
         self.rt.open_dir(path)
     }
 
@@ -199,19 +201,14 @@ impl Files for Watched {
     }
 }
 
-/// A file of the system, watched.
-pub(super) struct WatchedFile {
-    file: File,
-    watch: Arc<Watch>,
+/// An open file, watched.
+#[derive(Drop)]
+pub struct WatchedFile<F = File> {
+    file: F,
+    watch: Arc<Watch<F>>,
 }
 
-impl Drop for WatchedFile {
-    fn drop(self) {
-        let WatchedFile { file: _, watch: _ } = self;
-    }
-}
-
-impl FileExt for WatchedFile {
+impl<F: SegmentFile> FileExt for WatchedFile<F> {
     fn read_at(&self, buf: &mut [u8], offset: u64) -> io::Result<usize> {
         self.watch.ask(b'r')?;
         self.file.read_at(buf, offset)
@@ -232,7 +229,7 @@ impl FileExt for WatchedFile {
     }
 }
 
-impl OpenFile for WatchedFile {
+impl<F: SegmentFile> OpenFile for WatchedFile<F> {
     fn metadata(&self) -> io::Result<Metadata> {
         self.watch.ask(b'm')?;
         self.file.metadata()
@@ -254,7 +251,7 @@ impl OpenFile for WatchedFile {
     }
 }
 
-impl SegmentFile for WatchedFile {
+impl<F: SegmentFile> SegmentFile for WatchedFile<F> {
     fn lock_alone(&self) -> Result<(), TryLockError> {
         match self.watch.ask(b'l') {
             Ok(()) => self.file.lock_alone(),
@@ -271,13 +268,13 @@ impl SegmentFile for WatchedFile {
 }
 
 // A runtime's files are streams too. Nothing here reads or writes one as such.
-impl Read for WatchedFile {
+impl<F: Read> Read for WatchedFile<F> {
     fn read(&mut self, buf: &mut [u8]) -> io::Result<usize> {
         self.file.read(buf)
     }
 }
 
-impl Write for WatchedFile {
+impl<F: Write> Write for WatchedFile<F> {
     fn write(&mut self, buf: &[u8]) -> io::Result<usize> {
         self.file.write(buf)
     }
@@ -287,7 +284,7 @@ impl Write for WatchedFile {
     }
 }
 
-impl Seek for WatchedFile {
+impl<F: Seek> Seek for WatchedFile<F> {
     fn seek(&mut self, to: SeekFrom) -> io::Result<u64> {
         self.file.seek(to)
     }
