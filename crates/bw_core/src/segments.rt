@@ -94,7 +94,7 @@ impl Core {
     /// beginning of the piece, also all of it. It finds the pages up to the last durable cut or,
     /// where that piece was a whole frame, up to the cut of this frame. A stop in the middle of any
     /// call leaves no other boxes, since nothing is appended behind a failed append. Where none
-    /// failed, the newest segment may even be cut short, as a file is by a loss of power: what is
+    /// failed, the newest segment may even be shortened, as a file is by a loss of power: what is
     /// left shows the pages up to a cut.
     pub fn shut(self) -> (Vec<Box<dyn Segment>>, Vec<Box<dyn Segment>>)
         requires { IsSoundBeside self holding }

@@ -8,7 +8,7 @@
 //! refused finds the same group first in its ring, and may ask again.
 //!
 //! A record by itself is the common case, and nearly none splits its page: it is lent all the way
-//! down, and written where it belongs. Where its page is cut, its blocks are planned first, by
+//! down, and written where it belongs. Where its page is split, its blocks are planned first, by
 //! `plan`. Several records are planned one behind the other (`groups.rt`) before the first of them
 //! changes a page.
 
@@ -141,7 +141,7 @@ impl Core {
     {
         let found = self.pages.leaves.place_on(page, item.key().as_slice());
         if self.pages.leaves.is_split_by(page, found, item) {
-            return self.take_cut(lane, item, page);
+            return self.take_split(lane, item, page);
         }
         self.take_delta(lane, item, page, found)
     }
@@ -176,7 +176,7 @@ impl Core {
     }
 
     // The same, where it does: its blocks are planned.
-    fn take_cut(&mut self, lane: usize, item: &Record, page: u32) -> Result<(), StoreFault>
+    fn take_split(&mut self, lane: usize, item: &Record, page: u32) -> Result<(), StoreFault>
         requires comes { Comes lane (item.now ∷ []) self.old holding }
         requires at { IsAt page item.now self.old }
         ensures takes { TakesGroup lane self.old result self.new holding }

@@ -2,7 +2,7 @@ use Rattle.std.proofs.Common.{◌∷◌, [], false, inl, refl, arith}
 use Rattle.bw_core.proofs.Planned.{entered_or_not, fits_empty, flushed_empty, flushed_or_not, no_room, one_entered, plan_fits, plan_full, some_room}
 use Rattle.std.proofs.lemmas.Result.{err_from_is_err_and}
 use Rattle.bw_core.proofs.Refusing.{flush_refuses, unplanned_after, worked}
-use Rattle.bw_core.proofs.store.Core.take_cut.Goals as goal
+use Rattle.bw_core.proofs.store.Core.take_split.Goals as goal
 
 pub returns-then-has_room-clause-leaves : goal.returns-then-has_room-clause-leaves
 returns-then-has_room-clause-leaves g c =
