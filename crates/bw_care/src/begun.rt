@@ -18,8 +18,8 @@ pub enum Begun {
     Other,
 }
 
-// Whether a segment with bytes may be the first that was ever begun: it has a part of a header, or
-// the header of segment 1.
+// Whether a segment with bytes may be the first that was ever begun: it has too few for a header,
+// or the header of segment 1.
 fn may_be_first(one: &mut Box<dyn Segment>) -> bool {
     let mut front = [0u8; 24];
     if one.len() < 24 {
@@ -31,8 +31,8 @@ fn may_be_first(one: &mut Box<dyn Segment>) -> bool {
     matches!(read_header(&front), HeaderRead::Whole(header) if header.number == 1)
 }
 
-/// What is in segments of a log in which no frame is whole. At most 24 bytes of each are read, and
-/// no memory is taken.
+/// What is in segments of a log in which no frame is whole, which is not asked here: recovery says
+/// so first. At most 24 bytes of each are read, and no memory is taken.
 pub fn begun_in(boxes: &mut [Box<dyn Segment>]) -> Begun {
     let mut found = Begun::Nothing;
     for one in boxes {

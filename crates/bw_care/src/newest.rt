@@ -14,7 +14,7 @@ use bw_codec::Place;
 use bw_log::Log;
 use std::alloc::{AllocError, Global};
 
-/// So many places, which are noted later.
+/// So many places, of which none is right until `renew` has noted them.
 pub fn blank_places(alloc: Global, pages: usize) -> Result<Vec<Place>, AllocError>
     ensures { IfOk result (λ places. length places.items ≡ pages) }
 {

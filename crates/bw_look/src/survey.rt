@@ -38,7 +38,7 @@ pub enum Kind {
     Base,
     /// It changes a page.
     Delta,
-    /// It cuts a page in two.
+    /// It splits a page in two.
     Split,
 }
 
@@ -53,7 +53,7 @@ pub struct BlockRow {
     pub at: usize,
     pub len: usize,
     pub kind: Kind,
-    /// The page that it sets, changes or cuts.
+    /// The page that it sets, changes or splits.
     pub page: u32,
     /// The page that it makes, if it is a Split.
     pub made: Option<u32>,

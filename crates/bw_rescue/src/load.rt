@@ -29,7 +29,7 @@ struct Loading<'a, W> {
 }
 
 /// Adds the positions of those that come first, or of the others: of each `m` of them the first ones
-/// are as many as stay in a page that is cut.
+/// are as many as stay in a page that is split.
 fn add_half(
     order: &mut Vec<usize>,
     count: usize,

@@ -28,7 +28,7 @@ impl Model for Run {
 
 impl Run {
     /// A run of this byte and, behind it, of the bytes of both. It takes memory, whose refusal is the
-    /// only error.
+    /// only error but for a run of more than 65,535 bytes.
     pub fn of_parts(alloc: Global, head: u8, first: &[u8], second: &[u8]) -> Result<Run, AllocError>
         ensures { IfOk result (λ run. run.bytes ≡ head ∷ first.now ++ second.now) }
     {

@@ -29,7 +29,7 @@ pub enum StoreFault {
     Spent,
     /// E9: the number is 0 or above the number of pages.
     NoPage,
-    /// E11: fewer than two segments are live.
+    /// E11: fewer than two segments are live; of an upgrade, none is of format 1.
     NothingOld,
 }
 

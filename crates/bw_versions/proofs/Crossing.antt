@@ -1,5 +1,5 @@
--- That versions and readers may cross threads. The lemmas of each struct are named, since a search from nothing opens a leaf once
--- for each field that has one, and gives up.
+-- That a reader may cross threads. The lemmas of each struct are named, since a search from nothing opens a leaf once for each
+-- field that has one, and gives up.
 use denote.Param.Send.{IsSend, sendable}
 use Rattle.std.proofs.Crossing.{crosses}
 use Rattle.std.specs.contracts.alloc.Global as Global
@@ -18,6 +18,7 @@ use Rattle.bw_versions.specs.contracts.view.VersionReaderLooker.TheImpl as looke
 use Rattle.bw_versions.proofs.board.Marked.TheSendSync as marked
 use Rattle.bw_versions.proofs.book.Front.TheSendSync as front
 
+-- what shows it of versions and of what reads them
 pub ruleset versions_cross = (inner.the_send, marked.the_send, marked.the_sync, front.the_send, front.the_sync, the_send, the_sync, crosses, sendable)
 
 -- whoever moves a reader into a thread names this one

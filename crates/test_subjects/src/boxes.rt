@@ -3,7 +3,7 @@
 use bw_device::{DeadSegment, Desk, FuseSegment, MemSegment, Segment};
 use std::alloc::Global;
 
-/// The boxes that a store is opened over, and those that there are more.
+/// The boxes that a store is opened over, and others that it may be handed later.
 #[derive(Drop)]
 pub struct Supply {
     pub boxes: Vec<Box<dyn Segment>>,
@@ -65,8 +65,8 @@ impl Maker {
     }
 }
 
-/// Six boxes, of which the one with this lease fails for good after so many calls and keeps so many
-/// bytes of an append.
+/// Six boxes, or as many as there are up to this lease, whose box fails for good after so many calls
+/// and keeps so many bytes of an append.
 pub fn dying(alloc: Global, lease: u32, dead: (u64, u64)) -> Option<Supply> {
     let mut maker = maker_of(alloc, LEAST)?;
     let mut boxes: Vec<Box<dyn Segment>> = Vec::new(alloc);
@@ -122,7 +122,7 @@ pub fn plain(boxes: u32, more: u32) -> Row {
     }
 }
 
-/// So many boxes of that capacity, then one that fails so, and so many behind it.
+/// So many boxes of the least capacity, then one that fails so, and so many behind it.
 pub fn fused(boxes: u32, fuse: (u64, u64), behind: u32) -> Row {
     Row {
         fuse: Some(fuse),
