@@ -2,8 +2,9 @@
 //!
 //! Work that goes on says to a `Watch` how far it is. `Progress` tells that on a terminal, by one line
 //! that is written over, once the whole has taken a second; where there is no terminal it tells
-//! nothing of it. `Unseen` tells nothing at all. No function has a clause: nothing hangs on what is
-//! told.
+//! nothing of it, and a run pays a call for it. `Unseen` tells nothing at all. Who works tells, and no
+//! thread of its own: standard error has one writer. No function has a clause: nothing hangs on what
+//! is told.
 #![tactic(auto)]
 
 mod amount;
