@@ -78,8 +78,8 @@ impl Run {
         self.alloc
     }
 
-    // The last owner gets the block. No clause tells that it does: where it did not, memory would grow, which
-    // tests/program/steady.py asks of the program.
+    // The last owner gets the block. No clause tells that it does: where it did not, memory would
+    // grow, which tests/program/steady.py asks of the program.
     fn release(self) -> Option<Room>
         ensures { IfSome result (λ room. room.len < 2 ^ 16) }
     {
