@@ -1,6 +1,7 @@
 //! Calls on a core, and on a store with readers, as tables of steps: each is walked over both to the
 //! first step that goes otherwise than told.
 
+mod boxes;
 mod cleaning;
 mod counting;
 mod cutting;
@@ -14,7 +15,6 @@ mod reopening;
 mod rewriting;
 mod settling;
 mod spent;
-mod steps;
 mod stopping;
 mod sweeps;
 mod telling;

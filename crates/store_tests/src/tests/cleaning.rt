@@ -1,14 +1,14 @@
 //! The oldest segment is given up: the tables.
 
-use super::steps::Step;
-use super::steps::Step::{
-    Add, Bytes, Clean, Cuts, Flush, Frame, Get, History, Live, Lives, Page, Put, Refused, Roll,
-    Segments, Settle, Stands, Taken, Uncleaned,
-};
 use super::walking::{Stand, Tables, all_go};
 use bw_store::StoreFault;
 use test_subjects::putting::Op::Set;
 use test_subjects::putting::{AGAIN, TWO};
+use test_subjects::steps::Step;
+use test_subjects::steps::Step::{
+    Add, Bytes, Clean, Cuts, Flush, Frame, Get, History, Live, Lives, Page, Put, Refused, Roll,
+    Segments, Settle, Stands, Taken, Uncleaned,
+};
 use test_vectors::{THIRD_NEWER, THIRD_OLDER};
 
 /// A cleaning that writes a page again, then one with nothing to write, then none.

@@ -1,15 +1,15 @@
 //! What a store counts, how much of a segment is still needed, and when it pays to clean: the
 //! tables.
 
-use super::steps::Step;
-use super::steps::Step::{
-    Clean, Counts, Each, Evict, Flush, Forget, Frame, Needed, Page, Pays, Put, Roll, Same,
-    Segments, Settle, Taken, Uncleaned,
-};
 use super::walking::{Stand, Tables, all_go};
 use bw_store::{Counters, StoreFault};
 use test_subjects::putting::FIVE;
 use test_subjects::putting::Op::Set;
+use test_subjects::steps::Step;
+use test_subjects::steps::Step::{
+    Clean, Counts, Each, Evict, Flush, Forget, Frame, Needed, Page, Pays, Put, Roll, Same,
+    Segments, Settle, Taken, Uncleaned,
+};
 use test_vectors::FIRST;
 
 const NONE: Counters = Counters {

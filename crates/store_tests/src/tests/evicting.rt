@@ -1,13 +1,13 @@
 //! Pages leave memory and are read from their segments: the tables.
 
-use super::steps::Step;
-use super::steps::Step::{
-    Below, Clean, Del, Each, Evict, Flush, Frame, Get, Last, Page, Pages, Put, Segments, Settle,
-    Stands, Stops, Stretch, Taken, Turn, Unread, Walk,
-};
 use super::walking::{Stand, Tables, all_go};
 use bw_store::StoreFault;
 use test_subjects::putting::{BESIDE_ZERO, FOUR, TWO};
+use test_subjects::steps::Step;
+use test_subjects::steps::Step::{
+    Below, Clean, Del, Each, Evict, Flush, Frame, Get, Last, Page, Pages, Put, Segments, Settle,
+    Stands, Stops, Stretch, Taken, Turn, Unread, Walk,
+};
 use test_vectors::FIRST;
 
 /// A page that no frame has yet stays. One that left is read from its segment, which fails once,

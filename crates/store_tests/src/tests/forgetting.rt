@@ -1,12 +1,12 @@
 //! The history leaves memory, receipts of writers, and how many pairs there are: the tables.
 
-use super::steps::Step;
-use super::steps::Step::{
+use super::walking::{Stand, Tables, all_go};
+use test_subjects::putting::Op::{Set, Unset};
+use test_subjects::steps::Step;
+use test_subjects::steps::Step::{
     Clean, Count, Cuts, Del, Evict, Flush, Forget, Frame, Get, Group, History, Page, Put, Puts,
     Reads, Receipt, Roll, Settle, Stands, Turn,
 };
-use super::walking::{Stand, Tables, all_go};
-use test_subjects::putting::Op::{Set, Unset};
 
 /// What was only taken stays in memory, and what was flushed leaves it once. Receipts count what
 /// was flushed, of each writer by itself.

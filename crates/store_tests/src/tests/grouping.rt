@@ -3,22 +3,22 @@
 ghost use Rattle.std.specs.Prelude.{IfSome};
 ghost use Rattle.bw_care.specs.Found.{IsRecovered};
 
+use super::boxes::{LEAST, maker_of, plain, supplied};
 use super::cutting::{dumped, shows};
-use super::opening::{opened, shut};
-use super::steps::Step;
-use super::steps::Step::{
-    Cuts, Evict, Flush, Frame, Full, FullGroup, Get, Group, History, Live, Page, Pages, Put, Same,
-    Settle, Stops, Turn,
-};
+use super::opening::{Supply, opened, shut};
 use super::telling::went;
 use super::walking::{Stand, Tables, all_go, wrong_step};
 use bw_care::{Recovered, recover};
 use bw_store::StoreFault;
 use std::alloc::Global;
 use std::sync::Wait;
-use test_subjects::boxes::{LEAST, Supply, maker_of, plain, supplied};
 use test_subjects::putting::Op::{Set, Unset};
 use test_subjects::putting::{FOUR, NEXT};
+use test_subjects::steps::Step;
+use test_subjects::steps::Step::{
+    Cuts, Evict, Flush, Frame, Full, FullGroup, Get, Group, History, Live, Page, Pages, Put, Same,
+    Settle, Stops, Turn,
+};
 use test_subjects::subject::{BOTH, Over, config_of};
 
 /// A turn counts groups and answers records; a settling takes one lane after the other.

@@ -4,14 +4,15 @@ ghost use Rattle.std.specs.Prelude.{◌≡◌, ◌<◌, length, map};
 ghost use Rattle.bw_ring.specs.Ends.{ring_of_feed};
 ghost use Rattle.test_subjects.specs.Views.{AreItsFeeds, IsSoundBeside};
 
-use super::opening::{Held, opened, shut};
-use super::steps::Step::{Puts, Reads, Roll, Settle};
+use super::boxes::{Row, supplied};
+use super::opening::{opened, shut};
 use super::telling::holds;
 use super::walking::wrong_step;
 use bw_ring::Feed;
 use std::sync::Wait;
-use test_subjects::boxes::{Row, supplied};
 use test_subjects::putting::{is_put, record};
+use test_subjects::steps::Held;
+use test_subjects::steps::Step::{Puts, Reads, Roll, Settle};
 use test_subjects::subject::{Over, config_of};
 
 /// Three segments of 24 MiB.

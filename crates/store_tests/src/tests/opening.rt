@@ -4,6 +4,7 @@ ghost use Rattle.std.specs.Prelude.{IfSome};
 ghost use Rattle.bw_care.specs.Found.{IsRecovered};
 ghost use Rattle.test_subjects.specs.Views.{AreItsFeeds, IsSoundBeside};
 
+use super::boxes::{plain, supplied};
 use super::telling::went;
 use bw_care::Recovered;
 use bw_device::Segment;
@@ -11,13 +12,13 @@ use bw_ring::Feed;
 use bw_store::{Config, StoreFault};
 use std::mem;
 use std::sync::Wait;
-use test_subjects::boxes::{Supply, plain, supplied};
+use test_subjects::steps::Held;
 use test_subjects::subject::{BOTH, Over, Subject};
 
-/// A core or a store with a feed for each of its writers, and the boxes that there are more.
-pub(super) struct Held {
-    pub(super) store: Subject,
-    pub(super) feeds: Vec<Feed>,
+/// The boxes that a store is opened over, and those that there are more.
+#[derive(Drop)]
+pub(super) struct Supply {
+    pub(super) boxes: Vec<Box<dyn Segment>>,
     pub(super) more: Vec<Box<dyn Segment>>,
 }
 

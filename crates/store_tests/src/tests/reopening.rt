@@ -1,11 +1,11 @@
 //! A store is opened again over the bytes of worked segments: the tables.
 
-use super::steps::Step;
-use super::steps::Step::{
-    Bytes, Clean, Cuts, Flush, Get, History, Live, Page, Put, Refused, Roll, Settle, Stands,
-};
 use super::walking::{Stand, Tables, all_go};
 use bw_store::StoreFault;
+use test_subjects::steps::Step;
+use test_subjects::steps::Step::{
+    Bytes, Clean, Cuts, Flush, Get, History, Live, Page, Put, Refused, Roll, Settle, Stands,
+};
 use test_vectors::{FIRST, GREATEST, THIRD_NEWER, THIRD_OLDER};
 
 /// After the first worked segment: frame 2 in a segment of its own has the bytes of the third.

@@ -1,12 +1,12 @@
 //! Pages are written again, and pages that are evicted answer from their newest frame: the tables.
 
-use super::steps::Step;
-use super::steps::Step::{
+use super::walking::{Stand, Tables, all_go};
+use bw_store::StoreFault;
+use test_subjects::steps::Step;
+use test_subjects::steps::Step::{
     Add, Clean, Cuts, Del, Evict, Flush, Get, History, Live, Needed, Page, Put, Rewrite, Roll,
     Settle, Taken, Unread, Walk,
 };
-use super::walking::{Stand, Tables, all_go};
-use bw_store::StoreFault;
 
 /// A frame has 20 bytes around its blocks, a Delta of one put 25, a Base of two pairs 18. What
 /// waits is flushed first. A page that is named twice is written twice, and no page is no frame.

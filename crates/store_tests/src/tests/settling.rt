@@ -1,12 +1,12 @@
 //! All that was accepted is taken and flushed: the tables.
 
-use super::steps::Step;
-use super::steps::Step::{
+use super::walking::{Stand, Tables, all_go};
+use bw_store::StoreFault;
+use test_subjects::steps::Step;
+use test_subjects::steps::Step::{
     Add, Cuts, Del, Flush, Full, Get, History, Page, Put, Puts, Reads, Settle, Stands, Stops, Turn,
     Unsettled,
 };
-use super::walking::{Stand, Tables, all_go};
-use bw_store::StoreFault;
 
 /// Rings of two places.
 const TWO_PLACES: &[Step] = &[

@@ -1,12 +1,12 @@
 //! Numbers that stand at their greatest value: what a flush answers, and at which place.
 
-use super::steps::Step;
-use super::steps::Step::{Live, Page, Put, Refused, Roll, Stands, Turn};
+use super::boxes::worn;
 use super::walking::{Stand, Tables, all_go};
 use bw_care::{RecoverCause, recover};
 use bw_store::StoreFault;
 use std::alloc::Global;
-use test_subjects::boxes::worn;
+use test_subjects::steps::Step;
+use test_subjects::steps::Step::{Live, Page, Put, Refused, Roll, Stands, Turn};
 use test_vectors::{FIRST, GREATEST};
 
 /// The first worked segment, with the greatest number.

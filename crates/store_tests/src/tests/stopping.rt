@@ -1,12 +1,12 @@
 //! A store stops, and goes on from its boxes.
 
-use super::steps::Step;
-use super::steps::Step::{Cuts, Flush, Page, Put, Turn};
+use super::boxes::{fused, supplied};
 use super::telling::went;
 use super::turning::FAILED;
 use super::walking::{lives, lives_on};
 use std::sync::Wait;
-use test_subjects::boxes::{fused, supplied};
+use test_subjects::steps::Step;
+use test_subjects::steps::Step::{Cuts, Flush, Page, Put, Turn};
 use test_subjects::subject::{BOTH, Over};
 
 const AGAIN: &[Step] = &[

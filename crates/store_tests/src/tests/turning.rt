@@ -1,13 +1,13 @@
 //! Turns and flushes: the tables.
 
-use super::steps::Step;
-use super::steps::Step::{
-    Add, Bytes, Cuts, Each, Flush, Frame, Frames, Get, History, Live, Page, Pages, Put, Refused,
-    Roll, Stands, Stops, Turn, Unsettled,
-};
 use super::walking::{Stand, Tables, all_go};
 use bw_store::StoreFault;
 use test_subjects::putting::{FIVE, TWO};
+use test_subjects::steps::Step;
+use test_subjects::steps::Step::{
+    Add, Bytes, Cuts, Each, Flush, Frame, Frames, Get, History, Live, Page, Pages, Put, Refused,
+    Roll, Stands, Stops, Turn, Unsettled,
+};
 use test_vectors::{FIRST, JOINED, SECOND, TWO_JOINED};
 
 const ONE_FRAME: &[Step] = &[

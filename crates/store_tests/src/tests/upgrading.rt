@@ -1,17 +1,18 @@
 //! All segments of format 1 are given up: the tables, and an upgrade that runs out of spares.
 
-use super::steps::Step;
-use super::steps::Step::{
-    Add, Bytes, Clean, Counts, Cuts, Flush, Get, History, Live, Lives, NotUpgraded, Page, Pages,
-    Put, Refused, Settle, Stands, Taken, Turn, Upgrade,
-};
+use super::boxes::maker_of;
+use super::opening::Supply;
 use super::telling::went;
 use super::walking::{Stand, Tables, all_go, lives_on};
 use bw_device::Segment;
 use bw_store::{Counters, StoreFault};
 use std::alloc::Global;
 use std::sync::Wait;
-use test_subjects::boxes::{Supply, maker_of};
+use test_subjects::steps::Step;
+use test_subjects::steps::Step::{
+    Add, Bytes, Clean, Counts, Cuts, Flush, Get, History, Live, Lives, NotUpgraded, Page, Pages,
+    Put, Refused, Settle, Stands, Taken, Turn, Upgrade,
+};
 use test_subjects::subject::{BOTH, Over};
 use test_vectors::{
     FIRST, OLD_FIRST, OLD_SECOND, OLD_THIRD_NEWER, OLD_THIRD_OLDER, THIRD_OLDER, UPGRADED,

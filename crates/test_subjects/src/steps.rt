@@ -4,21 +4,27 @@ ghost use Rattle.std.specs.Prelude.{◌≡◌, ◌<◌, length, map};
 ghost use Rattle.bw_ring.specs.Ends.{ring_of_feed};
 ghost use Rattle.test_subjects.specs.Views.{rings_beside, rings_by, AreItsFeeds, IsSound, IsSoundBeside};
 
-use super::opening::Held;
+use crate::asking::{
+    are_bytes, has, is_history, is_last, is_last_below, is_page, is_stretch, is_unread,
+};
+use crate::putting::{Op, are_each_put, are_put, are_same, is_grouped, is_put, record};
+use crate::reading::reads;
+use crate::subject::Subject;
 use bw_device::Segment;
 use bw_ring::Feed;
 use bw_store::{Cleaned, Counters, StoreFault, TurnFault, Upgraded};
 use std::alloc::Global;
 use std::sync::Wait;
-use test_subjects::asking::{
-    are_bytes, has, is_history, is_last, is_last_below, is_page, is_stretch, is_unread,
-};
-use test_subjects::putting::{Op, are_each_put, are_put, are_same, is_grouped, is_put, record};
-use test_subjects::reading::reads;
-use test_subjects::subject::Subject;
+
+/// A core or a store with a feed for each of its writers, and the boxes that there are more.
+pub struct Held {
+    pub store: Subject,
+    pub feeds: Vec<Feed>,
+    pub more: Vec<Box<dyn Segment>>,
+}
 
 #[derive(Drop)]
-pub(super) enum Step {
+pub enum Step {
     /// A record of the first writer, taken and appended: its key, its value, and the frame.
     Frame(&'static [u8], &'static [u8], u64),
     /// These records of the first writer, each taken and appended: the first of the frames.
@@ -119,7 +125,7 @@ fn are_cuts(cuts: &[u64], told: &[u64]) -> bool {
 }
 
 /// Whether the store has a segment more.
-pub(super) fn is_added(store: &mut Subject, more: &mut Vec<Box<dyn Segment>>) -> bool
+pub fn is_added(store: &mut Subject, more: &mut Vec<Box<dyn Segment>>) -> bool
     requires { IsSoundBeside store.old holding }
     ensures sound { IsSoundBeside store.new holding }
     ensures rings { rings_beside store.new holding ≡ rings_beside store.old holding }
@@ -350,7 +356,7 @@ fn are_appended<R: Wait>(rt: &R, opened: &mut Held, ops: &[Op], told: u64, apart
 }
 
 /// Whether the step goes as told.
-pub(super) fn goes<R: Wait>(rt: &R, alloc: Global, opened: &mut Held, step: &Step) -> bool
+pub fn goes<R: Wait>(rt: &R, alloc: Global, opened: &mut Held, step: &Step) -> bool
     requires sound { IsSoundBeside opened.old.store holding }
     requires feeds { AreItsFeeds opened.old.feeds.items opened.old.store holding }
     ensures sound { IsSoundBeside opened.new.store holding }

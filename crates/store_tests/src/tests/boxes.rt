@@ -1,28 +1,21 @@
-//! Boxes in memory, over which a core or a store is opened.
+//! Boxes in memory.
 
+use super::opening::Supply;
 use bw_device::{DeadSegment, Desk, FuseSegment, MemSegment, Segment};
 use std::alloc::Global;
 
-/// The boxes that a store is opened over, and others that it may be handed later.
-#[derive(Drop)]
-pub struct Supply {
-    pub boxes: Vec<Box<dyn Segment>>,
-    pub more: Vec<Box<dyn Segment>>,
-}
-
 /// The least capacity of a box for frames of 65,536 bytes.
-pub const LEAST: u64 = 65_560;
+pub(super) const LEAST: u64 = 65_560;
 
 /// Where boxes of one capacity come from.
 #[derive(Drop)]
-pub struct Maker {
+pub(super) struct Maker {
     alloc: Global,
     desk: Desk,
     capacity: u64,
 }
 
-/// What makes boxes of this capacity, of one desk.
-pub fn maker_of(alloc: Global, capacity: u64) -> Option<Maker> {
+pub(super) fn maker_of(alloc: Global, capacity: u64) -> Option<Maker> {
     Some(Maker {
         alloc,
         desk: Desk::new(alloc, 128).ok()?,
@@ -32,14 +25,14 @@ pub fn maker_of(alloc: Global, capacity: u64) -> Option<Maker> {
 
 impl Maker {
     /// A box more, with these bytes.
-    pub fn push(&mut self, bytes: &[u8], boxes: &mut Vec<Box<dyn Segment>>) -> Option<()> {
+    pub(super) fn push(&mut self, bytes: &[u8], boxes: &mut Vec<Box<dyn Segment>>) -> Option<()> {
         let lease = self.desk.take().ok()?;
         let segment = MemSegment::with_bytes(self.alloc, lease, self.capacity, bytes).ok()?;
         boxes.push(Box::new(self.alloc, segment).ok()?).ok()
     }
 
     /// A box more, with the bytes of a text in hex.
-    pub fn push_hex(
+    pub(super) fn push_hex(
         &mut self,
         text: &'static str,
         boxes: &mut Vec<Box<dyn Segment>>,
@@ -49,7 +42,7 @@ impl Maker {
     }
 
     /// So many boxes more.
-    pub fn fill(&mut self, many: u32, boxes: &mut Vec<Box<dyn Segment>>) -> Option<()> {
+    pub(super) fn fill(&mut self, many: u32, boxes: &mut Vec<Box<dyn Segment>>) -> Option<()> {
         for _ in 0..many {
             self.push(&[], boxes)?;
         }
@@ -65,9 +58,9 @@ impl Maker {
     }
 }
 
-/// Six boxes, or as many as there are up to this lease, whose box fails for good after so many calls
-/// and keeps so many bytes of an append.
-pub fn dying(alloc: Global, lease: u32, dead: (u64, u64)) -> Option<Supply> {
+/// Six boxes, of which the one with this lease fails for good after so many calls and keeps so many
+/// bytes of an append.
+pub(super) fn dying(alloc: Global, lease: u32, dead: (u64, u64)) -> Option<Supply> {
     let mut maker = maker_of(alloc, LEAST)?;
     let mut boxes: Vec<Box<dyn Segment>> = Vec::new(alloc);
     maker.fill(lease, &mut boxes)?;
@@ -83,7 +76,7 @@ pub fn dying(alloc: Global, lease: u32, dead: (u64, u64)) -> Option<Supply> {
 
 /// A box with the bytes of a text in hex, of which no further failure can be counted, and so many
 /// behind it.
-pub fn worn(alloc: Global, text: &'static str, behind: u32) -> Option<Supply> {
+pub(super) fn worn(alloc: Global, text: &'static str, behind: u32) -> Option<Supply> {
     let mut maker = maker_of(alloc, LEAST)?;
     let mut boxes: Vec<Box<dyn Segment>> = Vec::new(alloc);
     let bytes = hex::decode(alloc, text).ok()?;
@@ -100,19 +93,19 @@ pub fn worn(alloc: Global, text: &'static str, behind: u32) -> Option<Supply> {
 
 /// Which boxes there are, each of this capacity.
 #[derive(Clone, Copy)]
-pub struct Row {
-    pub boxes: u32,
+pub(super) struct Row {
+    pub(super) boxes: u32,
     /// Behind them one that fails once, after so many calls, and keeps so many bytes of an append.
-    pub fuse: Option<(u64, u64)>,
+    pub(super) fuse: Option<(u64, u64)>,
     /// So many behind that one.
-    pub behind: u32,
+    pub(super) behind: u32,
     /// So many more.
-    pub more: u32,
-    pub capacity: u64,
+    pub(super) more: u32,
+    pub(super) capacity: u64,
 }
 
 /// So many boxes of the least capacity, and so many more.
-pub fn plain(boxes: u32, more: u32) -> Row {
+pub(super) fn plain(boxes: u32, more: u32) -> Row {
     Row {
         boxes,
         fuse: None,
@@ -122,8 +115,8 @@ pub fn plain(boxes: u32, more: u32) -> Row {
     }
 }
 
-/// So many boxes of the least capacity, then one that fails so, and so many behind it.
-pub fn fused(boxes: u32, fuse: (u64, u64), behind: u32) -> Row {
+/// So many boxes of that capacity, then one that fails so, and so many behind it.
+pub(super) fn fused(boxes: u32, fuse: (u64, u64), behind: u32) -> Row {
     Row {
         fuse: Some(fuse),
         behind,
@@ -132,7 +125,7 @@ pub fn fused(boxes: u32, fuse: (u64, u64), behind: u32) -> Row {
 }
 
 /// The boxes of a row, of one desk.
-pub fn supplied(alloc: Global, row: &Row) -> Option<Supply> {
+pub(super) fn supplied(alloc: Global, row: &Row) -> Option<Supply> {
     let mut maker = maker_of(alloc, row.capacity)?;
     let mut supply = Supply {
         boxes: Vec::new(alloc),

@@ -1,6 +1,6 @@
 use Rattle.std.specs.Prelude.{◌≡◌}
 use Rattle.test_subjects.specs.Views.{rings_by, IsSound}
-use Rattle.store_tests.proofs.tests.steps.are_pages.Given as goal
+use Rattle.test_subjects.proofs.steps.are_pages.Given as goal
 
 abbrev pub invariant-pages : goal.invariant-pages
 invariant-pages g l =
