@@ -6,14 +6,11 @@ ghost use Rattle.bw_store.specs.Views.{IsSound};
 ghost use Rattle.bw_bench.specs.Lent.{Keeps};
 
 use crate::asking::{evict_all, get_all, read_all, read_back, reader_of};
-use crate::batches::{Cost, bytes_of, put_script};
-use crate::bench::Bench;
-use crate::beside::{Seen, end_if, start_if};
-use crate::shape::{Span, WHOLE};
-use crate::stop::Stop;
+use crate::batches::{bytes_of, put_script};
+use crate::beside::{end_if, start_if};
 use crate::subject::Subject;
 use crate::walks::walks;
-use crate::watch::resident;
+use bw_load::{Bench, Cost, Seen, Span, Stop, WHOLE, resident};
 use bw_ring::Feed;
 use bw_store::Store;
 use std::sync::Wait;
@@ -21,15 +18,6 @@ use std::thread::Threads;
 
 /// Of how many keys one is asked for when all pages are evicted.
 const KEYS_AWAY: u64 = 16;
-
-/// What the puts, turns and flushes of a span took.
-pub fn tell_cost(bench: &Bench, span: Span, cost: Cost) {
-    let count = span.count();
-    bench.tell(span.name, count, cost.all());
-    bench.tell_each("  its puts", count, cost.puts, "ns");
-    bench.tell_each("  its turns", count, cost.turns, "ns");
-    bench.tell_each("  its flushes", count, cost.flushes, "ns");
-}
 
 /// How many bytes the log and the memory have gained over those before.
 fn tell_growth(bench: &Bench, store: &Store, span: Span, before: u64, had: u64)
@@ -92,7 +80,7 @@ impl<R: Threads + Wait> Subject<'_, R> {
         let bench = self.bench;
         let (before, had) = (resident(bench), bytes_of(store));
         let (cost, seen) = self.put(store, feed, span)?;
-        tell_cost(bench, span, cost);
+        bench.tell_cost(span, cost);
         bench.tell_seen(seen)?;
         tell_growth(bench, store, span, before, had);
         let keys = u64::from(bench.options.keys);

@@ -3,17 +3,12 @@
 
 ghost use Rattle.bw_core.specs.Views.{IsSound};
 
-use crate::alone::tell_cost;
-use crate::batches::{Cost, put_all};
-use crate::bench::Bench;
-use crate::boxes::{CAPACITY, count_of, memory};
-use crate::shape::{Span, WHOLE};
-use crate::stop::Stop;
-use crate::watch::{Meter, resident};
+use crate::batches::put_all;
 use bw_codec::Record;
 use bw_codec::limits::{MAX_PAIRS, MIN_FRAME};
 use bw_core::{Config, Core};
 use bw_device::{Desk, Segment};
+use bw_load::{Bench, CAPACITY, Cost, Meter, Span, Stop, WHOLE, count_of, memory, resident};
 use bw_ring::Feed;
 
 // Takes so many records, each in a group of its own, and flushes.
@@ -117,7 +112,7 @@ fn put_span(bench: &Bench, core: &mut Core, feed: &mut Feed, span: Span) -> Opti
     let script = bench.options.shape().script(bench.alloc, span, WHOLE)?;
     let (before, had) = (resident(bench), bytes_of(core));
     let cost = put_script(bench, core, feed, &script, span.name)?;
-    tell_cost(bench, span, cost);
+    bench.tell_cost(span, cost);
     let added = bytes_of(core).saturating_sub(had);
     bench.tell_each("  in the log", span.count(), added, "bytes");
     let grown = resident(bench).saturating_sub(before).saturating_sub(added);

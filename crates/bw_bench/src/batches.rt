@@ -5,44 +5,11 @@ ghost use Rattle.bw_ring.specs.Ends.{ring_of_feed};
 ghost use Rattle.bw_store.specs.Views.{IsSound};
 ghost use Rattle.bw_bench.specs.Lent.{Keeps};
 
-use crate::bench::Bench;
-use crate::stop::Stop;
-use crate::watch::Meter;
 use bw_codec::Record;
+use bw_load::{Bench, Cost, Meter, Stop};
 use bw_ring::Feed;
 use bw_store::Store;
 use std::sync::Wait;
-
-/// The nanoseconds of each part of a course.
-#[derive(Clone, Copy)]
-pub struct Cost {
-    pub puts: u64,
-    pub turns: u64,
-    pub flushes: u64,
-}
-
-impl Cost {
-    pub const NONE: Cost = Cost {
-        puts: 0,
-        turns: 0,
-        flushes: 0,
-    };
-
-    pub fn all(self) -> u64 {
-        self.puts
-            .saturating_add(self.turns)
-            .saturating_add(self.flushes)
-    }
-
-    /// With the parts of one more batch, which stand between these times.
-    pub fn and(self, start: u64, put: u64, taken: u64, flushed: u64) -> Cost {
-        Cost {
-            puts: self.puts.saturating_add(put.saturating_sub(start)),
-            turns: self.turns.saturating_add(taken.saturating_sub(put)),
-            flushes: self.flushes.saturating_add(flushed.saturating_sub(taken)),
-        }
-    }
-}
 
 /// Puts all of a batch.
 pub fn put_all(bench: &Bench, feed: &mut Feed, batch: &[Record]) -> Option<()>

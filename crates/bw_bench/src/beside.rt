@@ -4,34 +4,13 @@ ghost use Rattle.bw_store.specs.Views.{IsSound};
 ghost use Rattle.bw_bench.specs.Lent.{Keeps};
 
 use crate::asking::reader_of;
-use crate::bench::Bench;
-use crate::shape::Shape;
-use crate::stop::Stop;
-use bw_codec::Value;
+use bw_load::{Bench, Seen, Shape, Stop};
 use bw_store::{Reader, Store};
 use std::thread;
 use std::thread::{JoinHandle, Threads};
 
 /// After how many look-ups the reader looks whether it is over.
 const LOOKS: u64 = 64;
-
-/// What a reader saw.
-#[derive(Clone, Copy)]
-pub struct Seen {
-    pub lookups: u64,
-    pub found: u64,
-    /// How many values no put has.
-    pub wrong: u64,
-}
-
-/// Whether a value is one of the puts of its key.
-fn is_put(shape: Shape, put: u64, value: &Value, puts: u64) -> bool {
-    let told = shape.told(put, value);
-    match shape.value(told) {
-        Some(expected) => told < puts && *value == expected,
-        None => false,
-    }
-}
 
 /// Whether the reader finds the value of this put, or nothing any more.
 fn is_over(reader: &mut Reader, shape: Shape, put: u64) -> bool {
@@ -53,7 +32,7 @@ fn look_once(reader: &mut Reader, shape: Shape, put: u64, puts: u64, seen: &mut 
     seen.lookups = seen.lookups.saturating_add(1);
     if let Ok(Some(value)) = reader.get(&key) {
         seen.found = seen.found.saturating_add(1);
-        let is_wrong = !is_put(shape, put, &value, puts);
+        let is_wrong = !shape.is_put(put, &value, puts);
         seen.wrong = seen.wrong.saturating_add(u64::from(is_wrong));
     }
 }

@@ -2,35 +2,18 @@
 
 ghost use Rattle.bw_bench.specs.Lent.{AreReady};
 
-use crate::bench::Bench;
-use crate::options::Options;
 use crate::reopened::reopened;
 use crate::subject::{Course, Subject};
 use bw_codec::limits::MIN_FRAME;
-use bw_device::{Desk, MemSegment, Segment};
+use bw_device::{Desk, Segment};
+use bw_load::{Bench, CAPACITY, Options, count_of, memory};
 use bw_ring::Feed;
 use bw_store::{Config, Store};
-use std::alloc::Global;
 use std::sync::Wait;
 use std::thread::Threads;
 
-/// How many bytes a segment has room for, all of which it takes when it is made.
-pub const CAPACITY: u64 = 16_777_216;
-
-/// The most bytes that a put adds to the log beside its key and value, of which a second copy is its
-/// part of a page that is cut.
-const AROUND: u64 = 144;
-
 /// How many readers a store has places for.
 pub const READERS: usize = 4;
-
-/// How many segments hold all puts, with two spares more.
-pub fn count_of(options: Options) -> u32 {
-    let pair = u64::from(options.shared) + u64::from(options.value_length);
-    let bytes = options.puts().saturating_mul(AROUND + 2 * pair);
-    let full = bytes / CAPACITY;
-    u32::try_from(full).unwrap_or(u32::MAX).saturating_add(4)
-}
 
 /// How many writers a course has.
 pub fn writers_of(options: Options, course: Course) -> usize {
@@ -78,18 +61,6 @@ fn over<R: Threads + Wait>(
     let (live, _spares) = store.shut(rt);
     went?;
     Some(live)
-}
-
-/// A segment in memory of the desk's next lease. It has one.
-pub fn memory(
-    alloc: Global,
-    desk: &mut Desk,
-    capacity: u64,
-    bytes: &[u8],
-) -> Option<Box<MemSegment>> {
-    let lease = desk.take().ok()?;
-    let segment = MemSegment::with_bytes(alloc, lease, capacity, bytes).ok()?;
-    Box::new(alloc, segment).ok()
 }
 
 /// Runs the course over these boxes, and then goes on from the live ones.

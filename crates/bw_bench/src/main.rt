@@ -3,39 +3,31 @@
 //! `bw_bench` runs the subjects of `subject` one after the other, each over a store of its own, and
 //! prints what each did and what it read back. With `--times` it also prints nanoseconds and bytes,
 //! and with `--dir` its segments stand in files.
-//! Keys are 8 bytes, behind those that all share, and come in a scattered order; `shape` says which
-//! value each put has.
+//! Keys are 8 bytes, behind those that all share, and come in a scattered order; `bw_load::Shape`
+//! says which value each put has.
 #![tactic(auto)]
 
 mod alone;
 mod asking;
 mod bare;
 mod batches;
-mod bench;
 mod beside;
 mod boxes;
 mod cleaning;
 mod driven;
 mod folders;
-mod options;
 mod pages;
 mod reopened;
-mod report;
-mod shape;
 mod steady;
-mod stop;
 mod subject;
 mod walks;
-mod watch;
 
-use bench::Bench;
 use bw_home::System;
+use bw_load::{Bench, Stop, is_memory, options_of};
 use clap::Error;
-use options::{is_memory, options_of};
 use std::io;
 use std::process::ExitCode;
 use std::thread::Threads;
-use stop::Stop;
 use subject::run;
 
 /// The words after the program's name.

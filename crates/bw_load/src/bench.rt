@@ -28,6 +28,7 @@ pub struct Bench {
 }
 
 impl Bench {
+    /// The clock begins here. A stop of which nobody tells is for want of memory.
     pub fn new(system: HostRuntime, options: Options) -> io::Result<Bench> {
         Ok(Bench {
             system,

@@ -1,8 +1,16 @@
 //! What is printed of a subject.
 
 use crate::bench::Bench;
-use crate::beside::Seen;
 use crate::stop::Stop;
+
+/// What a reader beside saw.
+#[derive(Clone, Copy)]
+pub struct Seen {
+    pub lookups: u64,
+    pub found: u64,
+    /// How many values no put has.
+    pub wrong: u64,
+}
 
 impl Bench {
     /// No value may be wrong.

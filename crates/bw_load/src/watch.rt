@@ -16,6 +16,7 @@ pub struct Meter {
 }
 
 impl Meter {
+    /// One of a subject that has so much to do, from now on.
     pub fn start(bench: &Bench, name: &'static str, all: u64) -> Meter {
         Meter {
             name,
@@ -30,6 +31,7 @@ impl Meter {
         bench.since(self.start)
     }
 
+    /// Tells that so much is done, where another second has gone.
     pub fn tell(&mut self, bench: &Bench, done: u64) {
         let Meter { name, all, .. } = *self;
         let seconds = self.nanos(bench) / 1_000_000_000;
