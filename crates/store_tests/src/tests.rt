@@ -15,6 +15,7 @@ mod reopening;
 mod rewriting;
 mod settling;
 mod spent;
+mod steps;
 mod stopping;
 mod sweeps;
 mod telling;

@@ -2,7 +2,7 @@
 
 ghost use Rattle.std.specs.Prelude.{◌≡◌, ◌<◌, length, map};
 ghost use Rattle.bw_ring.specs.Ends.{ring_of_feed};
-ghost use Rattle.test_subjects.specs.Views.{rings_beside, rings_by, AreItsFeeds, IsSound, IsSoundBeside};
+ghost use Rattle.test_subjects.specs.Views.{rings_by, IsSound};
 
 use crate::asking::{
     are_bytes, has, is_history, is_last, is_last_below, is_page, is_stretch, is_unread,
@@ -10,19 +10,12 @@ use crate::asking::{
 use crate::putting::{Op, are_each_put, are_put, are_same, is_grouped, is_put, record};
 use crate::reading::reads;
 use crate::subject::Subject;
-use bw_device::Segment;
 use bw_ring::Feed;
 use bw_store::{Cleaned, Counters, StoreFault, TurnFault, Upgraded};
 use std::alloc::Global;
 use std::sync::Wait;
 
-/// A core or a store with a feed for each of its writers, and the boxes that there are more.
-pub struct Held {
-    pub store: Subject,
-    pub feeds: Vec<Feed>,
-    pub more: Vec<Box<dyn Segment>>,
-}
-
+/// A call, with what it is told to answer.
 #[derive(Drop)]
 pub enum Step {
     /// A record of the first writer, taken and appended: its key, its value, and the frame.
@@ -114,29 +107,18 @@ pub enum Step {
 }
 
 use Step::{
-    Add, Below, Bytes, Clean, Count, Counts, Cuts, Del, Each, Evict, Flush, Forget, Frame, Frames,
-    Full, FullGroup, Get, Group, History, Last, Live, Lives, Needed, NotUpgraded, Page, Pages,
-    Pays, Put, Puts, Reads, Receipt, Refused, Rewrite, Roll, Same, Segments, Settle, Stands, Stops,
-    Stretch, Taken, Turn, Uncleaned, Unread, Unsettled, Upgrade, Walk,
+    Below, Bytes, Clean, Count, Counts, Cuts, Del, Each, Evict, Flush, Forget, Full, FullGroup,
+    Get, Group, History, Last, Live, Lives, Needed, NotUpgraded, Page, Pages, Pays, Put, Puts,
+    Reads, Receipt, Refused, Rewrite, Same, Stands, Stops, Stretch, Turn, Uncleaned, Unread,
+    Upgrade, Walk,
 };
 
 fn are_cuts(cuts: &[u64], told: &[u64]) -> bool {
     cuts == told
 }
 
-/// Whether the store has a segment more.
-pub fn is_added(store: &mut Subject, more: &mut Vec<Box<dyn Segment>>) -> bool
-    requires { IsSoundBeside store.old holding }
-    ensures sound { IsSoundBeside store.new holding }
-    ensures rings { rings_beside store.new holding ≡ rings_beside store.old holding }
-{
-    match more.pop() {
-        Some(one) => store.is_added(one),
-        None => false,
-    }
-}
-
-fn takes(store: &mut Subject, limit: u32, told: Result<u64, TurnFault>) -> bool
+/// Whether a turn of so many groups takes so many records, or is refused, as told.
+pub fn takes(store: &mut Subject, limit: u32, told: Result<u64, TurnFault>) -> bool
     requires { IsSound store.old holding }
     ensures sound { IsSound store.new holding }
     ensures rings { rings_by store.new holding ≡ rings_by store.old holding }
@@ -147,8 +129,8 @@ fn takes(store: &mut Subject, limit: u32, told: Result<u64, TurnFault>) -> bool
     }
 }
 
-// Whether a record finds a place, or none, as told.
-fn puts_one(
+/// Whether a record finds a place, or none, as told.
+pub fn puts_one(
     feeds: &mut Vec<Feed>,
     writer: usize,
     key: &[u8],
@@ -164,8 +146,8 @@ fn puts_one(
     }
 }
 
-// A step of a writer.
-fn puts(feeds: &mut Vec<Feed>, step: &Step) -> bool
+/// Whether a step of a writer goes as told.
+pub fn puts(feeds: &mut Vec<Feed>, step: &Step) -> bool
     ensures { map ring_of_feed feeds.new.items ≡ map ring_of_feed feeds.old.items }
 {
     let count = feeds.as_slice().len();
@@ -226,8 +208,8 @@ fn are_pages(store: &mut Subject, texts: &[&'static str]) -> bool
     true
 }
 
-// A step that only asks.
-fn answers(alloc: Global, store: &mut Subject, step: &Step) -> bool
+/// Whether a step that only asks is answered as told.
+pub fn answers(alloc: Global, store: &mut Subject, step: &Step) -> bool
     requires { IsSound store.old holding }
     ensures sound { IsSound store.new holding }
     ensures rings { rings_by store.new holding ≡ rings_by store.old holding }
@@ -261,8 +243,8 @@ fn answers(alloc: Global, store: &mut Subject, step: &Step) -> bool
     }
 }
 
-// A step that changes the store alone.
-fn changes<R: Wait>(rt: &R, store: &mut Subject, step: &Step) -> bool
+/// Whether a step that changes the store alone goes as told.
+pub fn changes<R: Wait>(rt: &R, store: &mut Subject, step: &Step) -> bool
     requires { IsSound store.old holding }
     ensures sound { IsSound store.new holding }
     ensures rings { rings_by store.new holding ≡ rings_by store.old holding }
@@ -299,83 +281,13 @@ fn changes<R: Wait>(rt: &R, store: &mut Subject, step: &Step) -> bool
     }
 }
 
-// Whether a record is put by the first writer, and taken.
-fn is_taken(opened: &mut Held, key: &[u8], value: &[u8]) -> bool
-    requires sound { IsSoundBeside opened.old.store holding }
-    requires feeds { AreItsFeeds opened.old.feeds.items opened.old.store holding }
-    ensures sound { IsSoundBeside opened.new.store holding }
-    ensures feeds { AreItsFeeds opened.new.feeds.items opened.new.store holding }
-{
-    if opened.feeds.is_empty() {
-        return false;
-    }
-    let is_put = puts_one(&mut opened.feeds, 0, key, Some(value), true);
-    is_put & takes(&mut opened.store, 9, Ok(1))
-}
-
-// Whether it is then appended as the frame that is told.
-fn is_appended<R: Wait>(rt: &R, opened: &mut Held, key: &[u8], value: &[u8], told: u64) -> bool
-    requires sound { IsSoundBeside opened.old.store holding }
-    requires feeds { AreItsFeeds opened.old.feeds.items opened.old.store holding }
-    ensures sound { IsSoundBeside opened.new.store holding }
-    ensures feeds { AreItsFeeds opened.new.feeds.items opened.new.store holding }
-{
-    let is_taken = is_taken(opened, key, value);
-    is_taken & (opened.store.flush(rt) == Ok(Some(told)))
-}
-
-// Lets no further frame into the current segment, if told.
-fn roll_if(store: &mut Subject, is_told: bool)
+/// Lets no further frame into the current segment, if told.
+pub fn roll_if(store: &mut Subject, is_told: bool)
     requires { IsSound store.old holding }
     ensures sound { IsSound store.new holding }
     ensures rings { rings_by store.new holding ≡ rings_by store.old holding }
 {
     if is_told {
         store.roll();
-    }
-}
-
-// Whether each of these records is, from the frame that is told on; with each in a segment of its
-// own, or not.
-fn are_appended<R: Wait>(rt: &R, opened: &mut Held, ops: &[Op], told: u64, apart: bool) -> bool
-    requires sound { IsSoundBeside opened.old.store holding }
-    requires feeds { AreItsFeeds opened.old.feeds.items opened.old.store holding }
-    ensures sound { IsSoundBeside opened.new.store holding }
-    ensures feeds { AreItsFeeds opened.new.feeds.items opened.new.store holding }
-{
-    'records: for (i, op) in ops.iter().enumerate() {
-        let Op::Set(key, value) = op else {
-            return false;
-        };
-        roll_if(&mut opened.store, apart & (i > 0));
-        if !is_appended(rt, opened, *key, *value, told.saturating_add(i as u64)) {
-            return false;
-        }
-    }
-    true
-}
-
-/// Whether the step goes as told.
-pub fn goes<R: Wait>(rt: &R, alloc: Global, opened: &mut Held, step: &Step) -> bool
-    requires sound { IsSoundBeside opened.old.store holding }
-    requires feeds { AreItsFeeds opened.old.feeds.items opened.old.store holding }
-    ensures sound { IsSoundBeside opened.new.store holding }
-    ensures feeds { AreItsFeeds opened.new.feeds.items opened.new.store holding }
-{
-    match step {
-        Put(..) | Del(..) | Full(..) | Puts(..) => puts(&mut opened.feeds, step),
-        Each(..) | Same(..) | Group(..) | FullGroup(..) => puts(&mut opened.feeds, step),
-        Turn(..) | Stops(..) | Flush(..) | Refused(..) | Clean(..) | Uncleaned(..) | Roll => {
-            changes(rt, &mut opened.store, step)
-        }
-        Upgrade(..) | NotUpgraded(..) | Rewrite(..) => changes(rt, &mut opened.store, step),
-        Taken(key, value) => is_taken(opened, *key, *value),
-        Frame(key, value, told) => is_appended(rt, opened, *key, *value, *told),
-        Frames(told, ops) => are_appended(rt, opened, *ops, *told, false),
-        Segments(told, ops) => are_appended(rt, opened, *ops, *told, true),
-        Settle(count) => opened.store.settle(rt, &mut opened.feeds) == Ok(*count),
-        Unsettled(fault) => opened.store.settle(rt, &mut opened.feeds) == Err(*fault),
-        Add => is_added(&mut opened.store, &mut opened.more),
-        _ => answers(alloc, &mut opened.store, step),
     }
 }

@@ -5,7 +5,7 @@ ghost use Rattle.bw_care.specs.Found.{IsRecovered};
 ghost use Rattle.test_subjects.specs.Views.{IsSoundBeside};
 
 use super::boxes::{LEAST, fused, maker_of, plain, supplied};
-use super::opening::{Supply, opened, reopened, shut};
+use super::opening::{Held, Supply, opened, reopened, shut};
 use super::telling::{holds, went};
 use super::turning::FAILED;
 use super::walking::{lives, wrong_step};
@@ -14,8 +14,8 @@ use bw_store::StoreFault;
 use std::alloc::Global;
 use std::sync::Wait;
 use test_subjects::putting::AGAIN;
+use test_subjects::steps::Step;
 use test_subjects::steps::Step::{Cuts, Flush, Frame, Lives, Page, Put, Refused, Segments, Turn};
-use test_subjects::steps::{Held, Step};
 use test_subjects::subject::{BOTH, Over, config_of};
 
 /// The third append fails.

@@ -5,13 +5,12 @@ ghost use Rattle.bw_ring.specs.Ends.{ring_of_feed};
 ghost use Rattle.test_subjects.specs.Views.{AreItsFeeds, IsSoundBeside};
 
 use super::boxes::{Row, supplied};
-use super::opening::{opened, shut};
+use super::opening::{Held, opened, shut};
 use super::telling::holds;
 use super::walking::wrong_step;
 use bw_ring::Feed;
 use std::sync::Wait;
 use test_subjects::putting::{is_put, record};
-use test_subjects::steps::Held;
 use test_subjects::steps::Step::{Puts, Reads, Roll, Settle};
 use test_subjects::subject::{Over, config_of};
 

@@ -5,7 +5,7 @@ ghost use Rattle.bw_core.specs.Views.{IsSoundBeside as IsSoundCore};
 ghost use Rattle.test_subjects.specs.Views.{AreItsFeeds, IsSoundBeside};
 
 use super::boxes::{Row, fused, plain, supplied};
-use super::opening::{opened, shut};
+use super::opening::{Held, opened, shut};
 use super::telling::went;
 use super::turning::FAILED;
 use super::walking::wrong_step;
@@ -14,8 +14,8 @@ use bw_device::Segment;
 use bw_lives::relive;
 use std::alloc::Global;
 use std::sync::Wait;
+use test_subjects::steps::Step;
 use test_subjects::steps::Step::{Cuts, Flush, Get, History, Page, Put, Turn};
-use test_subjects::steps::{Held, Step};
 use test_subjects::subject::{Over, Subject, config_of};
 
 // The second life of a core, with the same writers.

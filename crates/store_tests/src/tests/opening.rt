@@ -12,13 +12,19 @@ use bw_ring::Feed;
 use bw_store::{Config, StoreFault};
 use std::mem;
 use std::sync::Wait;
-use test_subjects::steps::Held;
 use test_subjects::subject::{BOTH, Over, Subject};
 
 /// The boxes that a store is opened over, and those that there are more.
 #[derive(Drop)]
 pub(super) struct Supply {
     pub(super) boxes: Vec<Box<dyn Segment>>,
+    pub(super) more: Vec<Box<dyn Segment>>,
+}
+
+/// A core or a store with a feed for each of its writers, and the boxes that there are more.
+pub(super) struct Held {
+    pub(super) store: Subject,
+    pub(super) feeds: Vec<Feed>,
     pub(super) more: Vec<Box<dyn Segment>>,
 }
 

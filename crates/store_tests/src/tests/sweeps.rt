@@ -5,14 +5,15 @@ ghost use Rattle.test_subjects.specs.Views.{AreItsFeeds, IsSoundBeside};
 
 use super::boxes::{dying, fused, supplied};
 use super::cutting::THREE;
-use super::opening::{Supply, opened, shut};
+use super::opening::{Held, Supply, opened, shut};
+use super::steps::goes;
 use super::telling::{all_went, holds};
 use super::walking::{lives_on, wrong_step};
 use bw_care::{RecoverCause, recover};
 use std::sync::Wait;
 use test_subjects::putting::FIVE;
+use test_subjects::steps::Step;
 use test_subjects::steps::Step::{Clean, Evict, Frame, Frames, Get, Page, Put, Turn};
-use test_subjects::steps::{Held, Step, goes};
 use test_subjects::subject::{BOTH, Over, config_of};
 
 /// Five records, a frame each; the last one cuts its page.

@@ -5,7 +5,8 @@ ghost use Rattle.bw_care.specs.Found.{IsRecovered};
 ghost use Rattle.test_subjects.specs.Views.{AreItsFeeds, IsSoundBeside};
 
 use super::boxes::{LEAST, Row, fused, maker_of, plain, supplied, worn};
-use super::opening::{Supply, opened, reopened, shut};
+use super::opening::{Held, Supply, opened, reopened, shut};
+use super::steps::goes;
 use super::telling::all_went;
 use bw_care::{Recovered, recover};
 use bw_device::Segment;
@@ -13,7 +14,7 @@ use std::alloc::Global;
 use std::mem;
 use std::process::Abort;
 use std::sync::Wait;
-use test_subjects::steps::{Held, Step, goes};
+use test_subjects::steps::Step;
 use test_subjects::subject::{BOTH, Over, config_of};
 
 // The first step that did not go as told.

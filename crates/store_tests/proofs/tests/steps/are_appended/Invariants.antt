@@ -1,7 +1,7 @@
 use Rattle.std.specs.Prelude.{◌≡◌, map}
 use Rattle.bw_ring.specs.Ends.{ring_of_feed}
 use Rattle.test_subjects.specs.Views.{rings_by, IsSound}
-use Rattle.test_subjects.proofs.steps.are_appended.Given as goal
+use Rattle.store_tests.proofs.tests.steps.are_appended.Given as goal
 
 abbrev pub invariant-records : goal.invariant-records
 invariant-records g l =
