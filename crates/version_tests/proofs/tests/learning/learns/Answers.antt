@@ -1,7 +1,5 @@
-use denote.Param.Send.{sendable}
-use Rattle.std.proofs.Crossing.{crosses}
-use Rattle.bw_versions.proofs.Crossing.{reader_crosses}
+use Rattle.bw_versions.proofs.Crossing.{versions_cross, reader_crosses}
 use Rattle.version_tests.proofs.tests.learning.learns.Goals as goal
 
-pub spawn-requires-send-F : goal.spawn-requires-send-F
-spawn-requires-send-F g c κs within = search (reader_crosses, crosses, sendable) depth 60 fits 100000
+pub spawn-child-requires-send-F : goal.spawn-child-requires-send-F
+spawn-child-requires-send-F g c κs within = search (reader_crosses, versions_cross) depth 60 fits 100000
