@@ -2,9 +2,8 @@
 //!
 //! Whoever opens a store names its numbers, and is told here which are in range; each call that is
 //! refused answers one of these faults. They are the words of a store to those who use it, and the
-//! store stands on them: nothing here knows of a store, of its pages or of its history. A fault of
-//! a page, of a log or of a cleaning is told in the store's words, each by one clause
-//! (`specs/Told.antt`).
+//! store stands on them: nothing here keeps a page, a record or a segment. A fault of a page, of a
+//! log or of a cleaning is told in the store's words, each by one clause (`specs/Told.antt`).
 #![tactic(auto)]
 
 mod config;
