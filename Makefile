@@ -2,10 +2,13 @@
 # make run    proves bwlog and all below it, crates side by side, builds it, and runs the same script
 # make test   the gate: the pages against the tests and the sources, every proof, the wrong bodies, the tests, the programs (from nothing, but for what this machine has
 #             passed); then the program that it built over the cases of tests/program/cases, over drawn scripts beside a map, over 500 hostile cases, under the
-#             clients of clients/, over a million updates of a thousand keys, and timed at several sizes; and the tests of refused memory with each allocation refused in turn, and the program with each fifth, by a shim that cc makes
-# make lib    proves bw_reading and all below it, and makes out/libhechdoram_read.a and .so of it, for other languages; make install PREFIX=/usr/local puts
-#             them there, with their header and a file for pkg-config
-# make wrong  tries the wrong bodies outside the gate, in a copy of the repository
+#             clients of clients/, over the commands of docs/FIRST.md, over a million updates of a thousand keys, in logs that get full, and timed at several sizes; and the tests of refused memory with each allocation refused in turn, and the program with each fifth, by a shim that cc makes
+# make lib    proves bw_reading and all below it, and makes out/libhechdoram_read.a and .so of it, for other languages, beside the client in C
+# make install PREFIX=/usr/local puts there what was made: the program with its manual page and completion, headers, libraries, files for pkg-config;
+#             make uninstall removes them. Nothing is proved by either
+# make check  proves what a change touches, with its tests, in minutes: the crates that changed since the last commit (or SINCE=COMMIT), and those above
+#             only if a clause or a definition changed
+# make wrong  tries the wrong bodies outside the gate, in a copy of what is committed; SINCE=COMMIT takes those of crates that changed since then
 # make memory proves the tests of refused memory, and runs them and the program that make run built with each allocation refused in turn
 # make bench  times the store at a million keys, each subject in a process of its own, at other sizes and beside other stores, draws docs/speed.svg of
 #             that, and then times it over files (docs/MEASURED.md)
@@ -22,7 +25,7 @@ BENCH = --keys 1000000
 JOBS = $(shell n=$$(nproc); echo $$((n < 4 ? n : 4)))
 SUBJECTS = pages cleaning core alone beside late one one-beside many many-beside
 
-.PHONY: run try lib install test wrong memory bench peers crash fuzz
+.PHONY: run try lib install uninstall test check wrong memory bench peers crash fuzz
 
 run:
 	@python3 tools/prove.py bwlog
@@ -39,10 +42,14 @@ lib:
 install:
 	@python3 tools/lib.py install $(PREFIX)
 
+uninstall:
+	@python3 tools/lib.py uninstall $(PREFIX)
+
 test:
 	python3 tools/same.py
 	python3 tools/specs.py --check
 	python3 tools/surface.py
+	python3 tools/pictures.py --check
 	RT_JOBS=$(JOBS) python3 tools/shown.py rt ci
 	python3 tools/manual.py --check
 	python3 tests/program/cases.py
@@ -54,15 +61,18 @@ test:
 	python3 tests/program/rescue.py
 	python3 tests/program/failing.py
 	python3 tests/program/steady.py
+	python3 tests/program/full.py
 	python3 tests/program/people.py crates/bwlog/out/bwlog 100000
 	python3 tests/program/terminal.py
+	python3 tests/program/pages.py
 	python3 tests/program/growth.py
 	python3 tools/refuse.py --every 5
 
+check:
+	@python3 tools/check.py $(SINCE)
+
 wrong:
-	copy=$$(mktemp -d) && git clone -q . $$copy && cd $$copy && for crate in wrong/*; do \
-	  name=$$(basename $$crate); mkdir -p crates/$$name/must-fail; rm -f crates/$$name/must-fail/*.edit; cp $$crate/*.edit crates/$$name/must-fail/; \
-	done && rt must-fail $$(ls wrong)
+	python3 tools/wrong.py $(if $(SINCE),--since $(SINCE))
 
 memory:
 	python3 tools/surface.py

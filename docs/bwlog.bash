@@ -32,15 +32,15 @@ _bwlog() {
         "export --format") COMPREPLY=($(compgen -W "lines dump print" -- "$word")); return ;;
     esac
     case "$mode" in
-        put) COMPREPLY=($(compgen -W "--dir --help" -- "$word")) ;;
+        put) COMPREPLY=($(compgen -W "--dir --raw --help" -- "$word")) ;;
         get) COMPREPLY=($(compgen -W "--dir --raw --hex --help" -- "$word")) ;;
         del) COMPREPLY=($(compgen -W "--dir --help" -- "$word")) ;;
-        list) COMPREPLY=($(compgen -W "--dir --from --to --prefix --limit --reverse --raw --hex --help" -- "$word")) ;;
-        count) COMPREPLY=($(compgen -W "--dir --help" -- "$word")) ;;
-        import) COMPREPLY=($(compgen -W "--dir --format --skip --help" -- "$word")) ;;
-        export) COMPREPLY=($(compgen -W "--dir --format --mapsize --help" -- "$word")) ;;
-        replay) COMPREPLY=($(compgen -W "--writers --places --m --frame --segments --capacity --dir --take --reuse --most-segments --help" -- "$word")) ;;
-        serve) COMPREPLY=($(compgen -W "--places --m --frame --segments --capacity --dir --most-segments --help" -- "$word")) ;;
+        list) COMPREPLY=($(compgen -W "--dir --from --to --prefix --limit --reverse --keys --values --raw --hex --help" -- "$word")) ;;
+        count) COMPREPLY=($(compgen -W "--dir --from --to --prefix --help" -- "$word")) ;;
+        import) COMPREPLY=($(compgen -W "--dir --format --raw --skip --capacity --help" -- "$word")) ;;
+        export) COMPREPLY=($(compgen -W "--dir --from --to --prefix --format --mapsize --help" -- "$word")) ;;
+        replay) COMPREPLY=($(compgen -W "--writers --places --m --frame --segments --capacity --dir --take --raw --reuse --most-segments --help" -- "$word")) ;;
+        serve) COMPREPLY=($(compgen -W "--places --m --frame --segments --capacity --dir --raw --most-segments --help" -- "$word")) ;;
         threads) COMPREPLY=($(compgen -W "--writers --places --m --frame --segments --capacity --dir --limit --flush-every --clean-at --tries --readers --forget --reuse --most-segments --help" -- "$word")) ;;
         scan) COMPREPLY=($(compgen -W "--dir --help" -- "$word")) ;;
         print) COMPREPLY=($(compgen -W "--dir --help" -- "$word")) ;;

@@ -9,6 +9,7 @@
  *              (int)pair.value_len, (const char *)pair.value);
  *   bw_read_close(&reader);
  *
+ * hechdoram.h has the same reader beside a store that can be written, with one face for both.
  * Link with -lhechdoram_read (pkg-config hechdoram_read).
  *
  * Answers. A call answers BW_OK, or BW_NOT_FOUND where there is no such pair, or a number below 0,
@@ -96,6 +97,10 @@ int32_t bw_raw_get(const bw_reader *reader, const uint8_t *key, size_t key_len, 
 int32_t bw_raw_at_or_above(const bw_reader *reader, const uint8_t *key, size_t key_len,
                            uint8_t *key_out, size_t key_room, size_t *key_out_len,
                            uint8_t *value, size_t value_room, size_t *value_len);
+/* The pair with the greatest key below this one; of no bytes, the last pair of all. */
+int32_t bw_raw_below(const bw_reader *reader, const uint8_t *key, size_t key_len, uint8_t *key_out,
+                     size_t key_room, size_t *key_out_len, uint8_t *value, size_t value_room,
+                     size_t *value_len);
 uint64_t bw_raw_count(const bw_reader *reader);
 void bw_raw_close(bw_reader reader);
 
@@ -142,6 +147,18 @@ static inline int bw_read_at(const bw_reader *reader, const void *key, size_t ke
     memcpy(from, key, key_len);
     return (int)bw_raw_at_or_above(reader, from, key_len, pair->key, BW_MAX_KEY, &pair->key_len,
                                    pair->value, BW_MAX_VALUE, &pair->value_len);
+}
+
+/* The pair with the greatest key below this one, which may lie in `pair`; of no bytes, the last pair
+ * of all. */
+static inline int bw_read_below(const bw_reader *reader, const void *key, size_t key_len,
+                                bw_pair *pair) {
+    uint8_t from[BW_MAX_KEY] = {0};
+    if (!reader || !reader->at || (!key && key_len != 0) || !pair) return BW_MISUSE;
+    if (key_len > BW_MAX_KEY) return BW_BAD_LENGTH;
+    if (key_len > 0) memcpy(from, key, key_len);
+    return (int)bw_raw_below(reader, from, key_len, pair->key, BW_MAX_KEY, &pair->key_len,
+                             pair->value, BW_MAX_VALUE, &pair->value_len);
 }
 
 /* The first pair of all. */

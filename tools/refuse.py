@@ -109,6 +109,8 @@ CASES = [
     Case("writers", ["threads", "--limit=2", "--flush-every=1"], "".join("put %d %s%d %d\n" % (w, "ab"[w], it, it) for it in range(4) for w in range(2))),
     Case("readers", ["threads", "--readers=2"], "put 0 a 1\nput 1 b 2\ngroup 0 put a 3 put c 4\ndel 1 b\n"),
     Case("requests", ["serve", "--places=2"], "put k v\nput l w\nput m x\nget k\nnext l\nflush\nevict 1\nnext l\npage 1\nstats\nclean\nzap\n"),
+    Case("room that requests want", ["serve", "--segments=2", "--most-segments=5", "--capacity=65560", "--m=4"],
+         "".join("put k%d %s\n" % (it, "v" * 500) + "flush\n" * (it % 40 == 39) for it in range(160)) + "flush\nstats\n"),
     Case("a scan", ["scan"], "\n" + FIRST + "\n42574c\n"),
     Case("a print", ["print"], "\n" + FIRST + "\n42574c\n"),
     Case("counts", ["stats"], "\n" + FIRST + "\n42574c\n"),
@@ -123,6 +125,7 @@ CASES = [
     Case("a list", ["list", "--dir={}/from", "--from=a", "--to=z", "--prefix=k", "--reverse"], "", segment=FIRST, tells=True),
     Case("an export", ["export", "--dir={}/from", "--format=print"], "", segment=FIRST, tells=True),
     Case("an import", ["import", "--dir={}/store", "--skip"], "a\t1\nb\nc\t0x32\n", tells=True),
+    Case("an import in order", ["import", "--dir={}/store"], "".join("k%02d\t%d\n" % (it, it) for it in range(80)), tells=True),
     Case("an import of a dump", ["import", "--dir={}/store", "--format=dump"], "VERSION=3\nHEADER=END\n 61\n 31\nDATA=END\n", tells=True),
     Case("a folder as of a frame", ["restore", "--dir={}/from", "--to={}/to", "--frame=1"], "", segment=FIRST),
     Case("a folder that is verified", ["verify", "--dir={}/from"], "", segment=FIRST),
@@ -197,6 +200,8 @@ def is_answered(case, answer, whole):
     if answer == whole:
         return True
     if case.tells:
+        # An import says how much of it is durable.
+        told = re.sub(rb"^imported \d+ before that, which are durable\n", b"", told, flags=re.M)
         # (before the words are read no mode is known, and all is printed)
         return status == 5 and (told == REFUSED and whole[1].startswith(printed) or (printed, told) == (REFUSED, b""))
     if status != 5 or not whole[2].startswith(told):
@@ -208,7 +213,7 @@ def case_wrong(shim, program, case, in_folder, every, pool):
     """How many runs of a case went otherwise, and how many there were."""
     # Of writers in threads two runs print the same, whatever the schedule; how many allocations they make differs.
     whole, made, wrong = run_of(shim, program, case, 0, in_folder)
-    if wrong or whole[0] not in (0, 4) or made == 0:
+    if wrong or whole[0] not in (0, 4, 7) or made == 0:
         print("%s goes otherwise with memory: %r, %s" % (case.name, whole, wrong))
         return 1, 1
     numbers = range(1, made + made // 8 + 1, every)

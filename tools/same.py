@@ -12,7 +12,7 @@ EXAMPLES = {
     "README.md": ["crates/first/src/main.rt"],
     "docs/INSIDE.md": ["crates/bw_file/src/segment.rt", "crates/bw_versions/src/writer.rt", "crates/bw_codec/src/check.rt"],
 }
-PAGES = ["README.md"] + ["docs/%s.md" % name for name in ("USING", "FORMAT", "PROMISES", "INSIDE", "DECISIONS", "TESTING", "MEASURED")]
+PAGES = ["README.md"] + ["docs/%s.md" % name for name in ("FIRST", "USING", "FORMAT", "PROMISES", "INSIDE", "DECISIONS", "TESTING", "MEASURED")]
 # What a run or a reader of a page makes.
 MADE = ("out/", "crates/bwlog/out/", "crates/mine")
 VECTORS = "crates/test_vectors/src/lib.rt"

@@ -5,7 +5,7 @@
 
 Its lines are those of `rt ci`, and go to standard output as they come. Where standard error is a terminal, one line that is written
 over says behind them how many crates are proved of how many, and how long the rest takes by the times of the last run, which stand in
-out/test-times.json. Nothing is said where it is no terminal, and the exit status is the command's."""
+out/test-times.json. The processor time of each crate stands in out/cpu-times.json then (tools/times.py makes a table of it). Nothing is said where it is no terminal, and the exit status is the command's."""
 
 import json
 import os
@@ -14,6 +14,8 @@ import subprocess
 import sys
 import threading
 import time
+
+from meter import Meter
 
 HERE = os.path.dirname(os.path.abspath(__file__))
 TOP = os.path.join(HERE, "..")
@@ -141,7 +143,12 @@ def main():
     # A command in Python, as rt is, writes its lines at once then.
     how = {"stdout": subprocess.PIPE, "text": True, "errors": "replace", "env": {**os.environ, "PYTHONUNBUFFERED": "1"}}
     with subprocess.Popen(sys.argv[1:], **how) as ran:
+        meter = Meter(ran.pid)
+        meter.start()
         took = passed_on(ran, line, named, done)
+    meter.is_over.set()
+    meter.join()
+    keep_times("cpu", meter.seconds())
     ended.set()
     if line.is_seen:
         ticker.join()

@@ -22,6 +22,7 @@ GOAL = ("bw_core", "Goal", "Goal", ["exactly", "last_cut", "shares", "whole", "s
 # The title, the function, its crate, its file, and its clauses: none where all are meant. In place of clauses may stand a record that
 # they name, as its crate, its file of specs/, its name and a list of its fields: these alone are meant then.
 THEOREMS = [
+    ("The machine, and any number of lives", "lives_lose_nothing", "bw_history", "laws.rt", None),
     ("The goal", "settle", "bw_core", "settle.rt", GOAL),
     ("All of `settle`", "settle", "bw_core", "settle.rt", None),
     ("`recover`", "recover", "bw_care", "recovery.rt", None),
@@ -52,7 +53,7 @@ def contract(page, function, only):
     """The contract of a function, from its name to its body, or these clauses of it."""
     at = re.search(r"pub fn %s\b" % function, page).start()
     indent = re.search(r"[ \t]*$", page[:at])[0]
-    whole = re.sub(r"//.*", "", page[at : page.index("\n%s{\n" % indent, at)])
+    whole = re.sub(r"//.*", "", page[at : re.compile(r"\n%s\{\}?\n" % indent).search(page, at).start()])
     if only is None:
         return whole
     parts = re.split(r"\n\s*(?=(?:requires|ensures)\b)", whole)

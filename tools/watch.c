@@ -1,7 +1,7 @@
 /* Notes what a program asks of the files below one folder, in the order in which it asks.
    WATCH names the folder and WATCH_LOG the file of notes. A note is a letter, then two numbers of eight bytes, then a name with its length in
    four bytes, then the bytes that are written: `o` a file is there, `w` bytes at an offset, `t` a length that is cut to, `s` the file is
-   synced, `f` the folder is. A call that failed is not noted. WATCH_CUT says which cut of such a file fails, from 1 on, and with it each later
+   synced, `f` the folder is, `r` something got this name, which had another. A call that failed is not noted. WATCH_CUT says which cut of such a file fails, from 1 on, and with it each later
    one: the system then tells a fault of the device. */
 #define _GNU_SOURCE
 #include <dlfcn.h>
@@ -34,21 +34,27 @@ __attribute__((constructor)) static void begin(void)
         notes = open(log, O_WRONLY | O_CREAT | O_APPEND, 0600);
 }
 
+/* What a path has below the folder: nothing of the folder itself; none of any other. */
+static const char *below(const char *path)
+{
+    size_t length = strlen(folder);
+    if (notes < 0 || strncmp(path, folder, length) != 0)
+        return NULL;
+    if (path[length] == 0)
+        return path + length;
+    return path[length] == '/' ? path + length + 1 : NULL;
+}
+
 /* The name of an open file below the folder, the empty name of the folder itself, or none. */
 static const char *name_of(int file, char *room)
 {
     char link[64];
-    size_t length = strlen(folder);
     snprintf(link, sizeof link, "/proc/self/fd/%d", file);
     ssize_t told = readlink(link, room, PATH_MAX - 1);
-    if (notes < 0 || told < 0)
+    if (told < 0)
         return NULL;
     room[told] = 0;
-    if (strncmp(room, folder, length) != 0)
-        return NULL;
-    if (room[length] == 0)
-        return room + length;
-    return room[length] == '/' ? room + length + 1 : NULL;
+    return below(room);
 }
 
 static ssize_t put(const void *bytes, size_t length)
@@ -59,10 +65,8 @@ static ssize_t put(const void *bytes, size_t length)
     return real(notes, bytes, length);
 }
 
-static void note(char letter, int file, uint64_t at, uint64_t length, const void *bytes, size_t count)
+static void note_of(char letter, const char *name, uint64_t at, uint64_t length, const void *bytes, size_t count)
 {
-    char room[PATH_MAX];
-    const char *name = name_of(file, room);
     if (!name)
         return;
     uint32_t letters = (uint32_t)strlen(name);
@@ -70,6 +74,12 @@ static void note(char letter, int file, uint64_t at, uint64_t length, const void
     if (put(&letter, 1) < 0 || put(&at, 8) < 0 || put(&length, 8) < 0 || put(&letters, 4) < 0 || put(name, letters) < 0 || put(bytes, count) < 0)
         abort();
     pthread_mutex_unlock(&one_by_one);
+}
+
+static void note(char letter, int file, uint64_t at, uint64_t length, const void *bytes, size_t count)
+{
+    char room[PATH_MAX];
+    note_of(letter, name_of(file, room), at, length, bytes, count);
 }
 
 static int opened(int file, int flags)
@@ -169,4 +179,13 @@ int fdatasync(int file)
 {
     REAL(int, "fdatasync", int);
     return synced(real(file), file);
+}
+
+int rename(const char *from, const char *to)
+{
+    REAL(int, "rename", const char *, const char *);
+    int answer = real(from, to);
+    if (answer == 0)
+        note_of('r', below(to), 0, 0, "", 0);
+    return answer;
 }

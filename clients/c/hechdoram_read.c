@@ -99,14 +99,14 @@ static int read_whole(int fd, size_t len, run *into, int32_t *reason) {
     return BW_OK;
 }
 
-/* Adds the bytes of a file to a run, and tells how many. Of sums no more are read than a segment
- * may have bytes; a segment that is longer is none. */
+/* Adds the bytes of a file to a run, and says how many: none if it is not there. Of sums no more are
+ * read than a segment may have bytes; a segment that is longer is none. */
 static int add_file(int dir, const char *name, bool is_sums, run *into, uint64_t *len,
                     int32_t *reason) {
     struct stat about;
     int fd = -1, answer = open_plain(dir, name, &fd, reason);
     *len = 0;
-    if (answer == BW_NOT_FOUND) return is_sums ? BW_OK : BW_NO_STORE;
+    if (answer == BW_NOT_FOUND) return BW_OK;
     if (answer != BW_OK) return answer;
     if (fstat(fd, &about) != 0) answer = refusal(reason);
     else if (about.st_size > MAX_FILE && !is_sums) answer = BW_DAMAGED;
@@ -118,11 +118,12 @@ static int add_file(int dir, const char *name, bool is_sums, run *into, uint64_t
     return answer;
 }
 
-/* The number of the lease whose file has this name; -1 of another. */
+/* The number of the lease whose file, or whose file of sums, has this name; -1 of another. Sums
+ * without their file say that it was lost. */
 static int lease_of(const char *name) {
     int number = 0;
-    if (strncmp(name, "segment-", 8) != 0 || strlen(name) != 15 || strcmp(name + 12, ".bw") != 0)
-        return -1;
+    if (strncmp(name, "segment-", 8) != 0 || strlen(name) < 15) return -1;
+    if (strcmp(name + 12, ".bw") != 0 && strcmp(name + 12, ".sum") != 0) return -1;
     for (int at = 8; at < 12; at++) {
         if (name[at] < '0' || name[at] > '9') return -1;
         number = 10 * number + (name[at] - '0');
@@ -130,7 +131,7 @@ static int lease_of(const char *name) {
     return number < MAX_LEASES ? number : -1;
 }
 
-/* Says of each lease whether it has a file. */
+/* Says of each lease whether it has a file, or sums alone. */
 static int list(int dir, bool *has_file, int32_t *reason) {
     int fd = openat(dir, ".", O_RDONLY | O_CLOEXEC | O_DIRECTORY);
     if (fd < 0) return refusal(reason);
@@ -265,11 +266,8 @@ int32_t bw_raw_open(const uint8_t *path, size_t path_len, void **at, int32_t *re
 /* A pair in the image: it is not copied. */
 typedef struct seen { const uint8_t *key, *value; size_t key_len, value_len; } seen;
 
-/* The pair with the least key at or above this one. */
-static bool first_at(const bw_reader *reader, const uint8_t *key, size_t key_len, seen *pair) {
-    const held *all = (const held *)reader->at;
-    size_t at =
-        bw_first_at(all->image.bytes, all->image.len, all->starts, all->count, key, key_len);
+/* The pair of this number, if there are so many. */
+static bool pair_at(const held *all, size_t at, seen *pair) {
     if (at >= all->count) return false;
     const uint8_t *begin = all->image.bytes + all->starts[at];
     pair->key_len = begin[0];
@@ -277,6 +275,24 @@ static bool first_at(const bw_reader *reader, const uint8_t *key, size_t key_len
     pair->key = begin + 3;
     pair->value = pair->key + pair->key_len;
     return true;
+}
+
+/* How many pairs have a key below this one. */
+static size_t count_below(const held *all, const uint8_t *key, size_t key_len) {
+    return bw_first_at(all->image.bytes, all->image.len, all->starts, all->count, key, key_len);
+}
+
+/* The pair with the least key at or above this one. */
+static bool first_at(const bw_reader *reader, const uint8_t *key, size_t key_len, seen *pair) {
+    const held *all = (const held *)reader->at;
+    return pair_at(all, count_below(all, key, key_len), pair);
+}
+
+/* The pair with the greatest key below this one; of no bytes, the last of all. */
+static bool last_below(const bw_reader *reader, const uint8_t *key, size_t key_len, seen *pair) {
+    const held *all = (const held *)reader->at;
+    size_t below = key_len == 0 ? all->count : count_below(all, key, key_len);
+    return below > 0 && pair_at(all, below - 1, pair);
 }
 
 /* Copies as many bytes as there is room for, and says how many there are. */
@@ -301,6 +317,17 @@ int32_t bw_raw_at_or_above(const bw_reader *reader, const uint8_t *key, size_t k
     seen pair;
     if (key_len == 0 || key_len > BW_MAX_KEY) return BW_BAD_LENGTH;
     if (!first_at(reader, key, key_len, &pair)) return BW_NOT_FOUND;
+    *key_out_len = copy(pair.key, pair.key_len, key_out, key_room);
+    *value_len = copy(pair.value, pair.value_len, value, value_room);
+    return BW_OK;
+}
+
+int32_t bw_raw_below(const bw_reader *reader, const uint8_t *key, size_t key_len, uint8_t *key_out,
+                     size_t key_room, size_t *key_out_len, uint8_t *value, size_t value_room,
+                     size_t *value_len) {
+    seen pair;
+    if (key_len > BW_MAX_KEY) return BW_BAD_LENGTH;
+    if (!last_below(reader, key, key_len, &pair)) return BW_NOT_FOUND;
     *key_out_len = copy(pair.key, pair.key_len, key_out, key_room);
     *value_len = copy(pair.value, pair.value_len, value, value_room);
     return BW_OK;

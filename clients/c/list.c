@@ -1,6 +1,7 @@
 /* Prints the pairs of a folder whose key begins with a prefix.
  *
- * cc -O2 -o list list.c $(pkg-config --cflags --libs hechdoram_read), then ./list FOLDER [PREFIX] */
+ * cc -O2 -o list list.c $(pkg-config --cflags --libs hechdoram_read), then
+ * ./list FOLDER [PREFIX] */
 #include <hechdoram_read.h>
 #include <stdio.h>
 
@@ -15,7 +16,8 @@ int main(int count, char **words) {
     }
     got = bw_read_first_of(&reader, prefix, strlen(prefix), &pair);
     for (; got == BW_OK; got = bw_read_next_of(&reader, prefix, strlen(prefix), &pair))
-        printf("%.*s\t%.*s\n", (int)pair.key_len, (const char *)pair.key, (int)pair.value_len, (const char *)pair.value);
+        printf("%.*s\t%.*s\n", (int)pair.key_len, (const char *)pair.key, (int)pair.value_len,
+               (const char *)pair.value);
     bw_read_close(&reader);
     return 0;
 }

@@ -9,7 +9,10 @@ other work on the machine is not counted. The ratio of the two has to be below t
 
   - where four times as much is done, below 8: a cost that is linear, but for a logarithm, makes 4 to 5, and a square makes 16;
   - where a request may not cost more in a greater store, of 100,000 keys in place of 10,000, below 4: caches alone make up to 2.5;
-  - where it may not cost more at a frame limit that is four times as great, below 1.4.
+  - where it may not cost more at a frame limit that is four times as great, below 1.4; or beside four times as many blocks in the frame in
+    the making, below 2;
+  - where a queue passes four times as many entries, below 16, which is a square: its empty pages stay, and a question from the first key on
+    walks over all of them.
 
 A way that fails is timed once more, with more turns, before the whole ends with status 1. All ways take about a minute."""
 
@@ -23,7 +26,7 @@ from hostile.scans import many_pairs
 
 HERE = os.path.dirname(os.path.abspath(__file__))
 PROGRAM = os.path.join(HERE, "..", "..", "crates", "bwlog", "out", "bwlog")
-SQUARE, STORE, LIMIT = 8, 4, 1.4
+SQUARE, STORE, LIMIT, BESIDE, EMPTIED = 8, 4, 1.4, 2, 16
 TURNS = 3
 BURST = 400
 
@@ -169,6 +172,22 @@ class Walk:
         self.served.end()
 
 
+class Queue:
+    """n entries are put at one end of a queue, and then each is asked for from the first key on, and deleted."""
+
+    def begin(self, program, count):
+        self.served, self.count, self.first = Served(program), count, 0
+
+    def time(self):
+        keys = [key_of(number) for number in range(self.first, self.first + self.count)]
+        self.first += self.count
+        self.served.load(keys, "1")
+        return self.served.time([it for key in keys for it in ("next 0x00", "del " + key)], ("pair k", "ok"))
+
+    def end(self):
+        self.served.end()
+
+
 # ---- ways that may not cost more
 
 
@@ -177,11 +196,11 @@ class InStore:
 
     def __init__(self, line, begins, behind=None):
         self.line, self.begins, self.behind = line, begins, behind
-        self.words = []
+        self.words, self.front = [], ""
 
     def begin(self, program, count):
         self.served = Served(program, *self.words)
-        keys = [key_of(number) for number in range(count)]
+        keys = [self.front + key_of(number) for number in range(count)]
         draw = random.Random(2)
         draw.shuffle(keys)
         self.served.load(keys, "x" * 100)
@@ -205,6 +224,41 @@ class AtLimit(InStore):
         super().begin(program, 2000)
 
 
+class Shared(InStore):
+    """Gets over keys that begin with the same 40 bytes."""
+
+    def begin(self, program, count):
+        self.front = "s" * 40
+        super().begin(program, count)
+
+
+class BesideBlocks:
+    """Evicted pages are asked for a key each, beside so many blocks of other pages in the frame in the making."""
+
+    def begin(self, program, count):
+        self.served = Served(program, "--m", "4", "--frame", "262144", "--places", "4096")
+        # (two keys a page, as above: the first pages are evicted, and each of the others gets a block)
+        asked = 500
+        self.served.load([key_of(number) for number in range(2 * (asked + count) + 3)], "1")
+        self.served.do(["evict %d" % (number + 1) for number in range(asked)], "evicted")
+        self.keys = [key_of(2 * number) for number in range(asked)]
+        self.served.do(["put %s 2" % key_of(2 * (asked + number)) for number in range(count)], "ok")
+        frame = self.frame()
+        self.served.do(["get " + self.keys[0]], "value 1")
+        ask(self.frame() == frame, "the blocks were appended")
+
+    def frame(self):
+        self.served.child.stdin.write(b"durable\n")
+        self.served.child.stdin.flush()
+        return self.served.told(1)
+
+    def time(self):
+        return self.served.time(["get " + key for key in self.keys], "value 1")
+
+    def end(self):
+        self.served.end()
+
+
 # A name, how a way is made, its two sizes, and the bound.
 WAYS = [
     ("forwards_descending", lambda: forwards(lambda keys: keys[::-1]), (15000, 60000), SQUARE),
@@ -214,7 +268,10 @@ WAYS = [
     ("threads_reuse", lambda: Runs(["threads", "--reuse", "--m", "32", "--capacity", "1048576"], written), (5000, 20000), SQUARE),
     ("blocks_of_a_frame", Blocks, (1500, 6000), SQUARE),
     ("walk", Walk, (10000, 40000), SQUARE),
+    ("queue", Queue, (4000, 16000), EMPTIED),
     ("get", lambda: InStore("get %s", "value "), (10000, 100000), STORE),
+    ("get_shared", lambda: Shared("get %s", "value "), (10000, 100000), STORE),
+    ("get_beside_blocks", BesideBlocks, (1000, 4000), BESIDE),
     ("next", lambda: InStore("next %s", "pair "), (10000, 100000), STORE),
     ("flush", lambda: InStore("put %s y", ("ok", "frame "), "flush"), (10000, 100000), STORE),
     ("flush_at_limit", lambda: AtLimit("put %s y", ("ok", "frame "), "flush"), (65536, 262144), LIMIT),

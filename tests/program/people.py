@@ -66,7 +66,30 @@ def any_bytes():
     pairs.update((bytes([byte]), bytes([byte]) * 512) for byte in range(256))
     for _ in range(2000):
         pairs[drawn.randbytes(drawn.randrange(1, 129))] = drawn.randbytes(drawn.randrange(513))
+        pairs[b"0x" + drawn.randbytes(drawn.randrange(127))] = b"0x" + drawn.randbytes(drawn.randrange(511))
     return pairs
+
+
+def raw_words(program):
+    """Words that are their own bytes go in as these: any but a tab of a key and an end of line."""
+    pairs = {key: value for key, value in any_bytes().items() if b"\t" not in key and b"\n" not in key + value and not value.endswith(b"\r")}
+    lines = b"".join(b"%s\t%s\n" % pair for pair in pairs.items())
+    expect(program.do("import", "--dir", "raw", "--raw", given=lines), b"imported %d\n" % len(pairs), "import --raw")
+    expect(program.do("list", "--dir", "raw", "--hex"), in_hex(pairs), "list of raw words")
+
+
+def forgotten(program):
+    """What a script's history forgot, where segments were given up, and what it has are all records of the run."""
+    script = b"".join(b"put 0 k%d %s\nflush\n" % (number % 7, b"v" * 100) for number in range(1500)) + b"history\nsettle\n"
+    words = ["--take", "--segments=2", "--capacity=65560", "--m=4", "--most-segments=3"]
+    ended = program.run("replay", "--dir", "forgetful", *words, given=script)
+    expect(ended.returncode, 0, "replay")
+    lines = ended.stdout.split(b"\n")
+    at = next(number for number, line in enumerate(lines) if line.startswith(b"forgotten "))
+    lost, kept = int(lines[at].split()[1]), int(lines[at + 1].removeprefix(b"history "))
+    expect(lines[at + 2 + kept : -1], [b"settled %d" % (lost + kept)], "what stands behind the history")
+    expect((lost + kept, lost > 0), (1500, True), "all records, and some that were forgotten")
+    expect(lines[at + 2 + kept - 1], b"0 put k%d %s" % (1499 % 7, b"v" * 100), "the last record")
 
 
 def in_hex(pairs):
@@ -203,14 +226,63 @@ def full_disk(program):
             raise Wrong("a full disk was told as %r" % ended.stderr)
         expect(program.do("get", "--dir", "disk/store", "before"), b"there\n", "get on a full disk")
         listed = program.do("list", "--dir", "disk/store", "--prefix", "k")
-        if not lines.startswith(listed):
+        # Keys that ascend go in a few pages at a time: some first lines, and some of the next 70.
+        there, all_lines = listed.splitlines(), lines.splitlines()
+        first = next((place for place, (one, other) in enumerate(zip(there, all_lines)) if one != other), len(there))
+        if not first or not set(there[first:]) <= set(all_lines[first : first + 70]):
             raise Wrong("other pairs stand on a full disk than the first ones")
+        durable = int(ended.stderr.split(b"imported ")[1].split()[0])
+        if not 0 < durable <= listed.count(b"\n"):
+            raise Wrong("%d pairs were told as durable on a full disk, and %d stand there" % (durable, listed.count(b"\n")))
         ended = program.run("put", "--dir", "disk/store", "behind", "v" * 500)
         told = "%d of 50000 pairs stand on a full disk, and a put there ends with status %d" % (listed.count(b"\n"), ended.returncode)
         subprocess.run(["mount", "-o", "remount,size=%d" % (16 << 20), folder], check=True)
         program.do("put", "--dir", "disk/store", "behind", "there")
         expect(program.do("get", "--dir", "disk/store", "behind"), b"there\n", "get with room again")
     return told
+
+
+def served_on_a_full_disk(program):
+    """`serve` on a disk that gets full: each put is refused from then on, and `reopen` goes on with all that was durable once there is room."""
+    folder = os.path.join(program.folder, "small")
+    with small_disk(folder, 4 << 20) as is_there:
+        if not is_there:
+            return "serve on a full disk is not tried: a tmpfs cannot be mounted here"
+        words = [program.path, "serve", "--dir", "small/store"]
+        with subprocess.Popen(words, stdin=subprocess.PIPE, stdout=subprocess.PIPE, cwd=program.folder) as child:
+
+            def one(line):
+                child.stdin.write(line.encode() + b"\n")
+                child.stdin.flush()
+                return child.stdout.readline().decode().rstrip("\n")
+
+            expect(child.stdout.readline(), b"ready frame 0 protocol 1\n", "the first line")
+            flushed = put = 0
+            answer = ""
+            while not answer.startswith("refused"):
+                for key in range(put, put + 100):
+                    expect(one("put k%06d %s" % (key, "v" * 500)), "ok", "put")
+                put += 100
+                answer = one("flush")
+                if answer.startswith("frame "):
+                    flushed, last = put, int(answer.split()[1])
+            expect(answer, "refused E6 Device lease 0", "the flush that found the disk full")
+            for line in ("put more 1", "del k000000", "group put a 1 del b", "flush"):
+                expect(one(line), "refused E7 Failed", line)
+            if not one("stats").endswith(" failed"):
+                raise Wrong("stats does not say that the log failed")
+            expect(one("get k000000"), "value " + "v" * 500, "get")
+            subprocess.run(["mount", "-o", "remount,size=%d" % (16 << 20), folder], check=True)
+            expect(one("reopen"), "reopened frame %d lost %d" % (last, put - flushed), "reopen")
+            if one("stats").endswith(" failed"):
+                raise Wrong("stats says that the log failed, and it was opened again")
+            expect(one("count"), "count %d" % flushed, "how many pairs")
+            expect(one("put more 1"), "ok", "a put behind it")
+            expect(one("flush"), "frame %d" % (last + 1), "a flush behind it")
+            expect(one("quit"), "bye", "quit")
+            expect(child.wait(timeout=60), 4, "the status")
+        expect(program.do("count", "--dir", "small/store"), b"%d\n" % (flushed + 1), "count in a further run")
+    return "%d pairs stand on a full disk, %d behind them were told as lost, and serve went on" % (flushed, put - flushed)
 
 
 # Run by an interpreter of its own: the greatest resident set of a process is never told below that of the one that began it.
@@ -271,7 +343,9 @@ def main():
                 print(closed_pipes(program))
         with tempfile.TemporaryDirectory() as folder:
             program = Program(path, folder)
-            for told in (updates(program), full_disk(program), import_many(program, number)):
+            raw_words(program)
+            forgotten(program)
+            for told in (updates(program), full_disk(program), served_on_a_full_disk(program), import_many(program, number)):
                 print(told)
     except Wrong as wrong:
         print(wrong)

@@ -33,10 +33,12 @@ PAGE = os.path.join(TOP, "docs", "USING.md")
 FAST = "/dev/shm" if os.path.isdir("/dev/shm") else None
 STRICT = ["-O1", "-Wall", "-Wextra", "-Wpedantic", "-Wconversion", "-Werror", "-I", os.path.join(TOP, "include")]
 NO_STORE, DAMAGED, SYSTEM, IN_USE = -12, -13, -15, -16
+# What Python raises for these errors, by their kinds.
+KINDS = {"NoStore": NO_STORE, "Damaged": DAMAGED, "InUse": IN_USE}
 SEED = 66
 
 sys.path.insert(0, os.path.join(TOP, "clients", "python"))
-import hechdoram_read  # noqa: E402
+import hechdoram  # noqa: E402
 from checks import Wrong, expect  # noqa: E402
 
 
@@ -85,7 +87,7 @@ def rust(folder):
     os.makedirs(os.path.join(crate, "src"))
     shutil.copy(ASK + ".rs", os.path.join(crate, "src", "main.rs"))
     with open(os.path.join(crate, "Cargo.toml"), "w", encoding="utf-8") as file:
-        file.write('[package]\nname = "ask"\nversion = "0.1.0"\nedition = "2021"\n[dependencies]\nhechdoram_read = { path = "%s" }\n[workspace]\n'
+        file.write('[package]\nname = "ask"\nversion = "0.1.0"\nedition = "2021"\n[dependencies]\nhechdoram = { path = "%s", features = ["read"] }\n[workspace]\n'
                    % os.path.join(TOP, "clients", "rust"))
     target = os.path.join(folder, "target")
     made = run("cargo", "build", "--offline", "--release", "-q", cwd=crate, env={**os.environ, "CARGO_TARGET_DIR": target, "RUSTFLAGS": "-D warnings"})
@@ -99,6 +101,11 @@ def rust(folder):
 def first(keys, pairs, key):
     at = bisect.bisect_left(keys, key)
     return (keys[at], pairs[keys[at]]) if at < len(keys) else None
+
+
+def last(keys, pairs, key):
+    at = bisect.bisect_left(keys, key)
+    return (keys[at - 1], pairs[keys[at - 1]]) if at else None
 
 
 def near(drawn, keys):
@@ -126,8 +133,8 @@ def questions(drawn, pairs, is_short):
         asked.append("get %s\n" % key.hex())
         wanted.append("value %s\n" % pairs[key].hex())
     for key in near(drawn, keys)[:: 20 if is_short else 1]:
-        asked += ["get %s\n" % key.hex(), "at %s\n" % key.hex()]
-        wanted += ["value %s\n" % pairs[key].hex() if key in pairs else "none\n", told(first(keys, pairs, key))]
+        asked += ["get %s\n" % key.hex(), "at %s\n" % key.hex(), "below %s\n" % key.hex()]
+        wanted += ["value %s\n" % pairs[key].hex() if key in pairs else "none\n", told(first(keys, pairs, key)), told(last(keys, pairs, key))]
     for prefix in prefixes(drawn, keys)[1:4] if is_short else prefixes(drawn, keys):
         asked.append("walk %s\n" % prefix.hex())
         wanted += [told((key, pairs[key])) for key in keys if key.startswith(prefix)] + ["end\n"]
@@ -137,7 +144,7 @@ def questions(drawn, pairs, is_short):
 def ask_python(drawn, folder, pairs):
     """The same of the Python class, as a mapping; and a second reader beside it."""
     keys, asked = sorted(pairs), 0
-    with hechdoram_read.Reader(folder, SHARED) as reader, hechdoram_read.Reader(folder, SHARED) as other:
+    with hechdoram.read(folder, SHARED) as reader, hechdoram.read(folder, SHARED) as other:
         expect((len(reader), list(reader), dict(reader)), (len(pairs), keys, pairs), "%s as a mapping" % folder)
         expect(list(other.items()), [(key, pairs[key]) for key in keys], "a second reader of %s" % folder)
         for key in keys:
@@ -145,22 +152,24 @@ def ask_python(drawn, folder, pairs):
         # Threads ask one reader at once, and each is answered what it asked for.
         with concurrent.futures.ThreadPoolExecutor(4) as pool:
             expect(list(pool.map(reader.get, keys * 3)), [pairs[key] for key in keys] * 3, "%s by threads" % folder)
-            walks = list(pool.map(lambda prefix: list(reader.items(prefix)), [b""] * 4))
+            walks = list(pool.map(lambda prefix: list(reader.scan(prefix)), [b""] * 4))
             expect(walks, [[(key, pairs[key]) for key in keys]] * 4, "walks of %s by threads" % folder)
         for key in near(drawn, keys) + [b"", b"k" * 129, b"\xff" * 200]:
             expect((reader.get(key), key in reader), (pairs.get(key), key in pairs), "%s at %r" % (folder, key))
             expect(reader.at_or_above(key), first(keys, pairs, key), "%s from %r" % (folder, key))
+            expect(reader.below(key), last(keys, pairs, key), "%s below %r" % (folder, key))
         for prefix in prefixes(drawn, keys):
-            expect(list(reader.keys(prefix)), [key for key in keys if key.startswith(prefix)], "%s of %r" % (folder, prefix))
-            start = prefix + b"m"
-            expect(list(reader.values(prefix)), [pairs[key] for key in keys if key.startswith(prefix)], "values of %r" % prefix)
-            expect([key for key, _ in reader.items(prefix, start)], [key for key in keys if key.startswith(prefix) and key >= start], "from %r" % start)
+            start, found = prefix + b"m", [(key, pairs[key]) for key in keys if key.startswith(prefix)]
+            expect(list(reader.scan(prefix)), found, "%s of %r" % (folder, prefix))
+            expect(list(reader.scan(prefix, reverse=True)), found[::-1], "%s of %r, backwards" % (folder, prefix))
+            expect(list(reader.scan(prefix, start=start)), [pair for pair in found if pair[0] >= start], "from %r" % start)
+            expect(list(reader.scan(prefix, stop=start, reverse=True)), [pair for pair in found if pair[0] < start][::-1], "below %r" % start)
         asked += 3 * len(keys) + 105
     reader.close()
     for call in (lambda: reader[b"k"], lambda: len(reader), lambda: reader.at_or_above(b"k")):
         try:
             call()
-        except ValueError:
+        except hechdoram.Ended:
             continue
         raise Wrong("a closed reader answered")
     return asked
@@ -213,12 +222,12 @@ def served(drawn, folder):
 
 
 def cut(folder, whole):
-    """A copy of a folder whose last frame lost its end."""
+    """A copy of a folder whose last frame lost its end. Its newest segment may stand in any of the files, since they are used again."""
     shutil.copytree(whole, folder)
-    sizes = {name: os.path.getsize(os.path.join(folder, name)) for name in os.listdir(folder) if name.endswith(".bw")}
-    last = max(name for name, size in sizes.items() if size)
-    os.truncate(os.path.join(folder, last), sizes[last] - 1)
-    os.remove(os.path.join(folder, last[:-2] + "sum"))
+    last = re.findall(rb"^segment \d+ lease (\d+) ", do(PROGRAM, "stats", "--dir", whole), re.M)[-1]
+    path = os.path.join(folder, "segment-%04d." % int(last))
+    os.truncate(path + "bw", os.path.getsize(path + "bw") - 1)
+    os.remove(path + "sum")
 
 
 def listed(folder):
@@ -275,9 +284,9 @@ def refused(programs, folder, answer):
         ended = run(*words, folder)
         expect((ended.returncode, ended.stdout, ended.stderr), (3, b"refused %d\n" % answer, b""), "%s over %s" % (name, folder))
     try:
-        hechdoram_read.Reader(folder, SHARED)
-    except hechdoram_read.Refused as error:
-        expect(error.answer, answer, "Python over %s" % folder)
+        hechdoram.read(folder, SHARED)
+    except hechdoram.Error as error:
+        expect(KINDS.get(type(error).__name__), answer, "Python over %s" % folder)
     except OSError as error:
         expect((answer, error.errno != 0), (SYSTEM, True), "Python over %s" % folder)
     else:
@@ -321,7 +330,7 @@ def damaged(drawn, programs, folder):
 
 def in_use(programs, folder, pairs):
     """A writer keeps readers out, and a reader that is open keeps no writer out."""
-    with hechdoram_read.Reader(folder, SHARED) as reader:
+    with hechdoram.read(folder, SHARED) as reader:
         with subprocess.Popen([PROGRAM, "serve", "--dir", folder], stdin=subprocess.PIPE, stdout=subprocess.PIPE) as writer:
             expect(writer.stdout.readline()[:6], b"ready ", "serve beside an open reader")
             count = refused(programs, folder, IN_USE)
@@ -329,7 +338,9 @@ def in_use(programs, folder, pairs):
             writer.stdin.close()
             writer.stdout.read()
         expect((dict(reader), reader.get(b"behind")), (pairs, None), "a reader that was open before")
-    expect(hechdoram_read.Reader(folder, SHARED)[b"behind"], b"seen", "a reader behind the writer")
+        reader.refresh()
+        expect(reader[b"behind"], b"seen", "a reader that read once more")
+    expect(hechdoram.read(folder, SHARED)[b"behind"], b"seen", "a reader behind the writer")
     return count
 
 

@@ -10,12 +10,14 @@ A drawn script leaves a folder of several segments, whose pages were split and w
   tells, which is written here from docs/FORMAT.md and docs/USING.md;
 - `copy` and `copy --compact` have its pairs, whose pages are full; `restore` of each frame before a changed bit is that of the whole folder.
 
-Last, `serve` is asked for backups while records come. Each opens as what was put before it, and is whole. And copies are killed at drawn moments:
-the new folder is not there then, or it is whole.
+Then `serve` is asked for backups while records come. Each opens as what was put before it, and is whole. Copies are killed at drawn moments: the
+new folder is not there then, or it is whole, and the next copy takes over what is left. Last, a library notes what each mode that makes a folder
+asks of the system (tools/watch.c): the new folder gets its name once each of its files, and each of their names, is synced.
 
 With a second number the script is another.
 """
 
+import fcntl
 import os
 import random
 import shutil
@@ -26,7 +28,7 @@ import tempfile
 # Its numbers are not those of sums.py, whose check of digests stands here too.
 WORDS, sys.argv[1:] = sys.argv[1:], []
 import sums as digests  # noqa: E402
-from checks import Wrong, ask  # noqa: E402
+from checks import Wrong, ask, notes_of, shim_of  # noqa: E402
 
 HERE = os.path.dirname(os.path.abspath(__file__))
 PROGRAM = WORDS[0] if WORDS else os.path.join(HERE, "..", "..", "crates", "bwlog", "out", "bwlog")
@@ -186,6 +188,9 @@ def touch(pages, gaps, number, back, here, change):
     line = pages.get(number)
     if line is None or line["lost"]:
         return
+    if line["last"] != back and line["last"][0] == back[0]:
+        line["lost"] = back[0]
+        return
     if line["last"] != back:
         behind = line["last"][0] + 1
         line["lost"] = next((max(first, behind) for first, last in gaps if last >= behind), behind)
@@ -196,11 +201,11 @@ def touch(pages, gaps, number, back, here, change):
 
 def salvaged(files):
     """What is told of these files, and the pairs; None where nothing is left."""
-    lines, all_frames, lost_files = [], {}, []
-    for name in sorted(files):
-        if not name.endswith(".bw"):
-            continue
-        data = files[name]
+    lines, all_frames = [], {}
+    for name in digests.segments_of(files):
+        data = files.get(name, b"")
+        gone = digests.missing(data, digests.sums_of(files, name))
+        lines += ["%s missing from %d to %d" % ((name,) + gone)] if gone else []
         held, unchecked = frames(data, digests.pieces(data, digests.sums_of(files, name)))
         lines += ["%s unchecked from %d to %d" % (name, begin, end) for begin, end in unchecked]
         for number, blocks in held:
@@ -320,21 +325,22 @@ def flips(room, files):
 def told_of(files):
     """What `verify` has to tell of whole segments, be their digests whole or not."""
     hurts, bare, bytes_, frames_, live = [], 0, 0, 0, 0
-    for name in sorted(files):
-        if name.endswith(".bw"):
-            data, beside = files[name], digests.sums_of(files, name)
-            at = digests.damage(data, beside)
-            if at is not None:
-                hurts.append("damaged: %s at %d\n" % (name, at))
-            told = digests.pieces(data, beside)
-            bare += len(data) - (told[-1][1] if told else 0)
-            bytes_ += len(data)
-            frames_ += len(frames(data, [])[0])
-            live += 1 if data else 0
+    for name in digests.segments_of(files):
+        data, beside = files.get(name, b""), digests.sums_of(files, name)
+        at, gone = digests.damage(data, beside), digests.missing(data, beside)
+        if at is not None:
+            hurts.append("damaged: %s at %d\n" % (name, at))
+        elif gone:
+            hurts.append("missing: %s from %d to %d\n" % ((name,) + gone))
+        told = digests.pieces(data, beside)
+        bare += len(data) - (told[-1][1] if told else 0)
+        bytes_ += len(data)
+        frames_ += len(frames(data, [])[0])
+        live += 1 if data else 0
     if hurts:
         return 4, "".join(hurts), ""
     more = "without a digest bytes %d\n" % bare if bare else ""
-    return 0, "verified segments %d frames %d bytes %d\n%s" % (live, frames_, bytes_, more), ""
+    return 7 if bare else 0, "verified segments %d frames %d bytes %d\n%s" % (live, frames_, bytes_, more), ""
 
 
 def sums_lost(room, files, other):
@@ -485,7 +491,7 @@ def backups(room, draw):
     ask(len(answers) == len(wanted) > 5 and served.stdout.count(b"\nok") == len(lines) - len(wanted), "answers", len(answers), served.stdout[-200:])
     for answer, want in zip(answers, wanted):
         if want is None:
-            ask(answer == b"fault entity already exists", "a second backup:", answer)
+            ask(answer.startswith(b"fault folder ") and answer.endswith(b": entity already exists"), "a second backup:", answer)
             continue
         to, pairs = want
         found, counts = scan(to)
@@ -501,8 +507,10 @@ def killed(room, draw):
     puts = "".join("put 0 k%05d %s\n" % (draw.randrange(20000), "v" * 200) for _ in range(20000))
     ask(bwlog("replay", "--dir", path, "--take", script=puts + "settle\n")[0] == 0, "a large folder")
     verified = bwlog("verify", "--dir", path)
+    to = fresh(room, "cut")
     for step in range(30):
-        to = fresh(room, "cut")
+        # What is left of the one before is taken over.
+        shutil.rmtree(to, ignore_errors=True)
         words = ["--compact"] if step % 3 == 2 else []
         began = subprocess.Popen([PROGRAM, "copy", "--dir", path, "--to", to, *words], stdout=subprocess.PIPE, stderr=subprocess.PIPE)
         try:
@@ -522,6 +530,60 @@ def killed(room, draw):
     return left, whole
 
 
+def partials(room):
+    """What stands under the name that a new folder has meanwhile."""
+    path, to = os.path.join(room, "large"), fresh(room, "partials")
+    part, mark = to + ".partial", os.path.join(to + ".partial", "unfinished")
+    words = ("copy", "--dir", path, "--to", to)
+    told = (6, "", "folder %s: entity already exists\nan earlier run that was stopped may have left %s: remove it, and run this again\n" % (part, part))
+    os.mkdir(part)
+    ask(bwlog(*words) == told and os.listdir(part) == [], "a folder without a mark:", bwlog(*words))
+    for name in ("unfinished", "segment-0000.bw", "segment-0007.sum", "lock"):
+        with open(os.path.join(part, name), "w") as file:
+            file.write("left")
+    with open(os.path.join(part, "mine"), "w"):
+        pass
+    ask(bwlog(*words) == told and os.path.exists(os.path.join(part, "mine")), "a folder with another file:", bwlog(*words))
+    os.remove(os.path.join(part, "mine"))
+    with open(mark) as file:
+        fcntl.flock(file, fcntl.LOCK_EX)
+        ask(bwlog(*words) == (6, "", "folder %s: in use\n" % part), "a folder that somebody makes:", bwlog(*words))
+    ask(bwlog(*words)[0] == 0 and not os.path.exists(part) and not os.path.exists(os.path.join(to, "unfinished")), "what is left is taken over")
+    ask(bwlog("verify", "--dir", to)[0] == 0, "a copy over what was left")
+    return 4
+
+
+def synced(room, files):
+    """Asks of each mode that makes a folder whether it gets its name after all that it holds is synced; how many files there were."""
+    shim, path, count = shim_of("watch", room), fresh(room, "watched"), 0
+    digests.write(path, files)
+    for step, words in enumerate((["copy"], ["copy", "--compact"], ["salvage"], ["backup"])):
+        to, log = fresh(room, "synced %d" % step), os.path.join(room, "notes %d" % step)
+        asked = ["serve", "--dir", path] if words == ["backup"] else [*words, "--dir", path, "--to", to]
+        lines = "backup 0x%s\n" % to.encode().hex() if words == ["backup"] else ""
+        ran = subprocess.run([PROGRAM, *asked], input=lines, capture_output=True, text=True, check=False,
+                             env=dict(os.environ, LD_PRELOAD=shim, WATCH=room, WATCH_LOG=log))
+        ask(ran.returncode == 0 and os.path.isdir(to), *words, ran.stdout, ran.stderr)
+        name, open_names, open_files, is_named = os.path.basename(to), set(), set(), False
+        for letter, _, _, file, _ in notes_of(log):
+            inside = file.split("/", 1)[1] if file.startswith(name + ".partial/") else None
+            ask(not (is_named and file.startswith(name + "/") and letter in "wto"), "a file of", name, "changes after the folder has its name")
+            if letter == "r" and file == name:
+                ask(not open_names and not open_files, name, "has its name before these are synced:", sorted(open_names), sorted(open_files))
+                is_named = True
+            elif letter == "f" and file == name + ".partial":
+                open_names.clear()
+            elif inside is not None and letter == "o":
+                open_names.add(inside)
+                count += 1
+            elif inside is not None and letter in "wt":
+                open_files.add(inside)
+            elif letter == "s":
+                open_files.discard(inside)
+        ask(is_named, name, "got no name")
+    return count
+
+
 def main():
     ask(os.path.exists(PROGRAM), PROGRAM + " is not built: make run")
     draw = random.Random(SEED)
@@ -535,10 +597,12 @@ def main():
             restored = restores(room, files)
             backed = backups(room, draw)
             left, whole = killed(room, draw)
+            taken = partials(room)
+            files_synced = synced(room, files)
         except Wrong as wrong:
             print("seed %d: %s" % (SEED, wrong))
             return 1
-    print("of killed copies %d left no folder, and %d a whole one" % (left, whole))
+    print("of killed copies %d left no folder, and %d a whole one; %d folders under the other name; %d files synced before their folder has its name" % (left, whole, taken, files_synced))
     print("each of %d changed bytes is told; %d folders with lost digests, %d salvages, %d frames restored, %d backups under load, copies: as told" % (told, lost, saved, restored, backed))
     return 0
 

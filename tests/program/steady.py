@@ -3,9 +3,11 @@
 
     steady.py [UPDATES [MODE ..]]
 
-A mode is serve, settle, replay or threads; without one all of them are run. In serve and in replay, which has --take and --reuse, a flush
+A mode is serve, beside, settle, replay or threads; without one all of them are run. In serve and in replay, which has --take and --reuse, a flush
 comes after each 1,000 updates, and in settle, which is serve, a settlement. Where one spare is left, serve cleans by itself, and replay is
-told to. threads has --reuse and --forget, and two writers of half of the keys each. The greatest resident set of serve behind its last
+told to. beside is serve
+over eight segments, of which keys that never change fill two: these are the oldest again and again, and hold back none of the others. threads
+has --reuse and --forget, and two writers of half of the keys each. The greatest resident set of serve behind its last
 flushes, a tenth of those after a million updates, or after half of them, has to be at most a tenth above that behind the first tenth of
 these. At the end each key has the value that it was last given, also in a second run over the folder. A million updates take some ten
 seconds by serve."""
@@ -73,6 +75,27 @@ class Served:
     def end(self):
         self.ask(["quit"])
         return self.child.wait(timeout=60)
+
+
+class Beside(Served):
+    """Updates of `serve` beside keys that never change, up to eight segments."""
+
+    words = ["serve", "--most-segments", "8"]
+    cold = 3500
+
+    def greet(self, is_old):
+        super().greet(is_old)
+        if is_old:
+            wrong = sum(self.ask(["get cold%d" % key])[0] != "value " + "c" * 500 for key in range(self.cold))
+        else:
+            wrong = sum(self.ask(["put cold%d %s" % (key, "c" * 500)])[0] != "ok" for key in range(self.cold))
+        if wrong:
+            raise SystemExit("%d of the keys that never change are not as they were put" % wrong)
+
+    def cleaned(self):
+        words = self.ask(["stats"])[0].split()
+        live, spares = (int(words[words.index(name) + 1]) for name in ("segments", "spares"))
+        return "" if spares > 0 and live + spares <= 8 else "%d segments and %d spares" % (live, spares)
 
 
 class Settled(Served):
@@ -176,6 +199,7 @@ def threaded(folder, updates):
 
 MODES = {
     "serve": lambda folder, updates: asked(folder, updates, Served),
+    "beside": lambda folder, updates: asked(folder, updates, Beside),
     "settle": lambda folder, updates: asked(folder, updates, Settled),
     "replay": lambda folder, updates: asked(folder, updates, Replayed),
     "threads": threaded,
@@ -191,7 +215,8 @@ def main():
     for mode in sys.argv[2:] or MODES:
         with tempfile.TemporaryDirectory(dir="/dev/shm" if os.path.isdir("/dev/shm") else None) as folder:
             came = MODES[mode](os.path.join(folder, "store"), updates)
-        print("%s: %s" % (mode, came or "%d updates of %d keys went through four segments" % (updates, KEYS)))
+        through = "eight" if mode == "beside" else "four"
+        print("%s: %s" % (mode, came or "%d updates of %d keys went through %s segments" % (updates, KEYS, through)))
         wrong = wrong or came
     return 1 if wrong else 0
 

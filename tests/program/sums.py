@@ -9,9 +9,18 @@ None of these folders may be damaged, by a check that is written here from docs/
 before each append to a file that was emptied none of its old sums may come back.
 
 Last, of the folder that each run leaves, each of many drawn bits is changed: in a segment's file `bwlog scan` has to tell the damage, by the
-file and by where its piece begins; in a file of sums it has to tell what it told before.
+file and by where its piece begins; in a file of sums it has to tell what it told before. And each segment's file is cut, at and beside the end of
+each piece and at drawn lengths, and removed: `scan` and `put` have to tell what is missing, and `put` leaves the folder as it is.
+
+    sums.py [STATES [SEED [WHOLE]]]
+
+WHOLE is how many small folders are asked in full (one if it is not given): each bit of each file is changed, and each file is cut at each length,
+with the files of sums and without them. With them each change of a segment is told, and none of the sums changes an answer. Without them no byte
+has a digest: a change may go unseen then, as docs/FORMAT.md says, but the program ends by itself, with an answer or a refusal, and `verify` says
+that the bytes have none.
 """
 
+import concurrent.futures
 import os
 import random
 import shutil
@@ -24,6 +33,7 @@ from checks import BUILT as PROGRAM, FAST, Wrong, ask, held_in, notes_of, shim_o
 
 STATES = int(sys.argv[1]) if len(sys.argv) > 1 else 20000
 SEED = int(sys.argv[2]) if len(sys.argv) > 2 else 1
+WHOLE = int(sys.argv[3]) if len(sys.argv) > 3 else 1
 OPTIONS = ["--places", "64", "--m", "4", "--segments", "3", "--capacity", "65560"]
 # The status of a run that is refused for damage.
 DAMAGED = 4
@@ -78,6 +88,23 @@ def damage(data, sums):
         if digest(data[begin:end]) != told:
             return begin
     return None
+
+
+def told_end(sums):
+    """Where the last piece ends of which a sum tells, be it there or not."""
+    begin, mark = 0, 0
+    for at in range(0, len(sums) - SUM + 1, SUM):
+        end, told, its = struct.unpack_from("<QQQ", sums, at)
+        if not begin < end or its != digest(struct.pack("<QQQ", mark, end, told)):
+            break
+        begin, mark = end, its
+    return begin
+
+
+def missing(data, sums):
+    """Where the bytes end, and where the sums say that they did, or None."""
+    end = told_end(sums)
+    return (len(data), end) if end > len(data) else None
 
 
 # ---- a run, and what it asked of the system
@@ -166,7 +193,9 @@ class Disk:
 
 
 def segments_of(files):
-    return [name for name in sorted(files) if name.endswith(".bw")]
+    """The files of segments, those too of which only the sums are there."""
+    beside = {name[: -len(".sum")] + ".bw" for name in files if name.endswith(".sum")}
+    return sorted(beside | {name for name in files if name.endswith(".bw")})
 
 
 def sums_of(files, name):
@@ -181,12 +210,13 @@ def scan(folder):
 def look(files, image, draw):
     """Such a folder is not damaged."""
     for name in segments_of(files):
-        at = damage(files[name], sums_of(files, name))
-        ask(at is None, "a loss of power is told as damage of", name, "at", at)
+        data, sums = files.get(name, b""), sums_of(files, name)
+        ask(damage(data, sums) is None, "a loss of power is told as damage of", name, "at", damage(data, sums))
+        ask(missing(data, sums) is None, "a loss of power is told as bytes that are missing of", name, missing(data, sums))
     if draw.randrange(EACH) == 0:
         write(image, files)
         status, out, errors = scan(image)
-        ask("damaged" not in errors and (status == 0 or out == "refused E12 Empty\n"), "a loss of power:", status, out, errors)
+        ask("damaged" not in errors and "missing" not in errors and (status == 0 or out == "refused E12 Empty\n"), "a loss of power:", status, out, errors)
 
 
 def states_of(notes, disk, draw, many, image):
@@ -230,10 +260,128 @@ def flipped(files, image, draw):
     return BITS
 
 
+# ---- lost bytes
+
+
+def lengths_of(data, sums, draw):
+    """At, before and after the end of each piece, and drawn ones."""
+    ends = [end for _, end, _ in pieces(data, sums)]
+    near = {at for end in [0] + ends[-8:] for at in (end - 1, end, end + 1)}
+    return sorted(at for at in near | {draw.randrange(len(data)) for _ in range(8)} if 0 <= at < len(data))
+
+
+def shortened(files, image, draw):
+    """How many files that were cut or removed were told."""
+    seen = 0
+    for name in segments_of(files):
+        data, sums = files[name], sums_of(files, name)
+        if not data:
+            continue
+        ask(told_end(sums) == len(data), "bytes of", name, "have no sum")
+        cuts = [{**files, name: data[:at]} for at in lengths_of(data, sums, draw)]
+        for left in cuts + [{it: held for it, held in files.items() if it != name}]:
+            write(image, left)
+            told = "folder %s: missing: %s from %d to %d\n" % (image, name, len(left.get(name, b"")), len(data))
+            ask(scan(image) == (DAMAGED, "", told), "lost bytes of", name, "are told so:", scan(image), "and not", told)
+            ran = subprocess.run([PROGRAM, "put", "--dir", image, "k", "v"], capture_output=True, text=True, check=False)
+            ask((ran.returncode, ran.stderr) == (DAMAGED, told), "lost bytes of", name, "are told to a put so:", ran.stderr)
+            ask(held_in(image) == {**left, "lock": held_in(image).get("lock", b"")}, "a put changed a folder that lost bytes of", name)
+            seen += 1
+    return seen
+
+
+# ---- each bit, and each length
+
+
+def changes_of(data):
+    """A file with each of its bits changed, and cut at each length."""
+    for bit in range(8 * len(data)):
+        yield "bit %d" % bit, with_bit(data, bit)
+    for length in range(len(data)):
+        yield "length %d" % length, data[:length]
+
+
+def told_of(image, files, name, data):
+    """What has to be told of a folder whose file has this in place of its bytes; nothing, if that is what was told before."""
+    if name.endswith(".sum"):
+        return None
+    sums = sums_of(files, name)
+    if not sums:
+        return ""
+    lost, at = missing(data, sums), damage(data, sums)
+    if at is not None:
+        return "folder %s: damaged: %s at %d\n" % (image, name, at)
+    return "folder %s: missing: %s from %d to %d\n" % (image, name, *lost) if lost else ""
+
+
+def ask_changes(image, files, name, before):
+    """Asks of each change of a file; how many there were."""
+    write(image, files)
+    seen = 0
+    for what, data in changes_of(files[name]):
+        with open(os.path.join(image, name), "wb") as file:
+            file.write(data)
+        after, told = scan(image), told_of(image, files, name, data)
+        if told is None:
+            ask(after[:2] == before[:2], what, "of", name, "changes what is told:", after)
+        elif told:
+            ask(after == (DAMAGED, "", told), what, "of", name, "is told so:", after, "and not", told)
+        else:
+            ask(after[0] in (0, DAMAGED) and (after[0] == 0) == (not after[1].startswith("refused ")), what, "of", name, "without sums:", after)
+        seen += 1
+    return seen
+
+
+def whole(folder, image, draw):
+    """Changes each file of a small folder in each way, beside its sums and without any; how many changes there were."""
+    lines = []
+    for step in range(draw.randrange(3, 6)):
+        lines += ["put 0 k%d v%d" % (draw.randrange(9), step) for _ in range(draw.randrange(1, 3))]
+        lines += ["flush"] + draw.choice((["roll"], []))
+    words = [PROGRAM, "replay", "--dir", folder, "--m", "4", "--segments", "8", "--capacity", "65560"]
+    ran = subprocess.run(words, input="\n".join(lines) + "\n", capture_output=True, text=True, check=False)
+    ask(ran.returncode == 0, "a small folder:", ran.stdout, ran.stderr)
+    held = held_in(folder)
+    bare = {name: data for name, data in held.items() if not name.endswith(".sum")}
+    jobs = []
+    for files in (held, bare):
+        write(image, files)
+        before = scan(image)
+        ask(before[0] == 0, "a small folder is refused:", before)
+        jobs += [(files, name, before) for name in sorted(files) if files[name]]
+    write(image, bare)
+    ran = subprocess.run([PROGRAM, "verify", "--dir", image], capture_output=True, text=True, check=False)
+    ask(ran.returncode == 7, "verify without sums:", ran)
+    with concurrent.futures.ThreadPoolExecutor(min(4, os.cpu_count() or 1)) as pool:
+        return sum(pool.map(lambda it: ask_changes("%s %d" % (image, it[0]), *it[1]), enumerate(jobs)))
+
+
+# ---- many sums
+
+
+# So many that a reading of 65,536 bytes of them would end before the last.
+MANY = 2800
+
+
+def many(folder, image):
+    """A changed bit is told behind however many sums."""
+    script_ = "".join("put 0 k %d\nflush\n" % number for number in range(MANY))
+    ran = subprocess.run([PROGRAM, "replay", "--dir", folder], input=script_, capture_output=True, text=True, check=False)
+    ask(ran.returncode == 0, "many flushes:", ran.returncode, ran.stdout[-200:], ran.stderr)
+    files = held_in(folder)
+    name = max(segments_of(files), key=lambda it: len(files[it]))
+    told = pieces(files[name], sums_of(files, name))
+    ask(len(told) > MANY, "of", MANY, "pieces", len(told), "have a sum")
+    for begin, end, _ in (told[-1], told[-60]):
+        write(image, {**files, name: with_bit(files[name], 8 * (end - 1))})
+        said = "folder %s: damaged: %s at %d\n" % (image, name, begin)
+        ask(scan(image) == (DAMAGED, "", said), "behind many sums:", scan(image), "and not", said)
+
+
 def main():
     ask(os.path.exists(PROGRAM), PROGRAM + " is not built: make run")
     ask(digest(b"abc") == 0xC03BC3A0042630F2, "SipHash-1-3 is another")
-    draw, seen, bits, runs = random.Random(SEED), 0, 0, 0
+    draw, seen, bits, cuts, runs = random.Random(SEED), 0, 0, 0, 0
     with tempfile.TemporaryDirectory(dir=FAST, prefix="bwlog-sums-") as room:
         shim = shim_of("watch", room)
         folder, image = os.path.join(room, "run"), os.path.join(room, "left")
@@ -245,11 +393,16 @@ def main():
                 for _ in range(2):
                     seen += states_of(run(shim, room, folder, draw), disk, draw, 20, image)
                 bits += flipped(held_in(folder), image, draw)
+                cuts += shortened(held_in(folder), image, draw)
                 runs += 1
+            many(os.path.join(room, "many"), image)
+            each = sum(whole(os.path.join(room, "small %d" % step), image, draw) for step in range(WHOLE))
         except Wrong as wrong:
             print("seed %d, script %d: %s" % (SEED, runs, wrong))
             return 1
-    print("%d folders of %d scripts: none is damaged; of %d changed bits each was told, or changed nothing" % (seen, runs, bits))
+    told = "%d folders of %d scripts: none is damaged; of %d changed bits each was told, or changed nothing; each of %d cuts was told"
+    print(told % (seen, runs, bits, cuts))
+    print("each bit and each length of %d small folders, %d changes: as told" % (WHOLE, each))
     return 0
 
 

@@ -193,6 +193,18 @@ raise SystemExit(3)
 """
 
 
+def check_typed(folder):
+    """A mode that reads a terminal says so, and one that reads none does not."""
+    for words, typed, begins in ((["import", "--dir", os.path.join(folder, "typed")], b"a\tb\n", True), (["replay"], b"flush\n", True),
+                                 (["put", "--dir", os.path.join(folder, "typed"), "k", "v"], b"", False)):
+        ours, theirs = pty.openpty()
+        os.write(ours, typed + b"\x04")
+        _, told = on_terminal(words, source=theirs)
+        os.close(ours)
+        os.close(theirs)
+        ask(told == ("reading the terminal, up to an end of input (Ctrl-D)\r\n" if begins else ""), words[0], "told", repr(told))
+
+
 def check_proving(_folder):
     """What tools/shown.py says of a run that proves: the lines and the exit status are the run's."""
     lines = "rt: bw_record is kept: an earlier run proved it\nrt: bw_lows is kept: an earlier run proved it\n1 passed, 1 failed\n"
@@ -210,7 +222,7 @@ def check_proving(_folder):
 def main():
     with tempfile.TemporaryDirectory(dir=FAST) as folder:
         try:
-            for check in (check_proving, check_slow, check_silent, check_added, check_large):
+            for check in (check_proving, check_typed, check_slow, check_silent, check_added, check_large):
                 check(folder)
         except Wrong as wrong:
             print("terminal: %s" % wrong)

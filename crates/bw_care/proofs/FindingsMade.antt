@@ -198,6 +198,7 @@ planned_all hs s x r first last begins ends linked right =
       follows = scan.follows ∙ next_is (frames_in hs) y.some ∙ ap following (sym ends);
       limit = right.limit;
       frame_limit = sym y.f;
+      page_limit = sym y.m;
       here = right.here;
       pages = sym right.count;
     }

@@ -139,10 +139,13 @@ module _ (z : Limits) (n : ℕ) (live loose : List Holding) (x : AreSorted z n l
       let numbered : AreFrom (first_number (frames_held live)) (frames_held live) = subst (λ (fs : List Frame). AreFrom (first_number fs) fs) (sym none) tt in
       ap (λ (fault : Option RecoverCause). answer fault (found_in both)) (order_then true numbered (ap is_none (frames ∙ none)))
 
+  pairs_some : 1 ≤ length live → pairs_in both ≡ z.m
+  pairs_some some = ap pairs_of headers ∙ heads_pairs z n (length live) some
+
   module _ (leaves : List Leaf) (numbered : AreFrom (first_number (frames_held live)) (frames_held live)) (linked : AreLinked (frames_held live))
       (stand : Stand z.m (frames_held live) leaves) where
     pairs : pairs_in both ≡ z.m
-    pairs = ap pairs_of headers ∙ heads_pairs z n (length live) (some_segments live stand.some)
+    pairs = pairs_some (some_segments live stand.some)
 
     not_small : is_small both ≡ false
     not_small =
@@ -180,6 +183,11 @@ module _ (z : Limits) (n : ℕ) (live loose : List Holding) (x : AreSorted z n l
 
 pub frames_sorted : (z : Limits) (n : ℕ) (live loose : List Holding) → AreSorted z n live loose → frames_in (live ++ loose) ≡ frames_held live
 frames_sorted z n live loose x = frames z n live loose x
+
+-- if one has a segment, they have the page limit of all
+pub pairs_sorted : (z : Limits) (n : ℕ) (live loose : List Holding) → AreSorted z n live loose → 1 ≤ length (live_in (live ++ loose))
+    → pairs_in (live ++ loose) ≡ z.m
+pairs_sorted z n live loose x some = pairs_some z n live loose x (subst (λ (l : List Holding). 1 ≤ length l) (lives z n live loose x) some)
 
 pub sorted_boxes : SortedBoxesFound
 sorted_boxes z number live loose leaves x numbered linked stand = found z number live loose x leaves numbered linked stand

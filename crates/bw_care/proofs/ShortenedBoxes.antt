@@ -284,7 +284,7 @@ left_numbered i fs h (inr more) is = (
 )
 
 -- the live segments are those that stay, and the other boxes have none
-loose_sorts : (c : Contents) (ss : List Holding) (h : IsImage (image c)) → AllByRecursion (IsLoose c.f) ss → length c.live + length ss ≤ 4096
+pub loose_sorts : (c : Contents) (ss : List Holding) (h : IsImage (image c)) → AllByRecursion (IsLoose c.f) ss → length c.live + length ss ≤ 4096
     → AllByRecursion IsBounded (c.live ++ ss) → SortsOut (limits_of (image c) h.live.0) (c.live ++ ss) (frames_held c.live)
 loose_sorts c ss h others few bounds = record {
   number = c.number;
@@ -296,7 +296,7 @@ loose_sorts c ss h others few bounds = record {
 }
 
 -- the spares, the first of which may have a beginning of the next header, maybe all of it
-torn_sorts : (c : Contents) (ss : List Holding) (h : IsImage (image c)) → c.spares ≡ ss → AreTorn (c.number + length c.live) c.m c.f ss
+pub torn_sorts : (c : Contents) (ss : List Holding) (h : IsImage (image c)) → c.spares ≡ ss → AreTorn (c.number + length c.live) c.m c.f ss
     → AllByRecursion (IsRoomy c.f) ss → length c.live + length ss ≤ 4096 → AllByRecursion IsBounded (c.live ++ ss)
     → SortsOut (limits_of (image c) h.live.0) (c.live ++ ss) (frames_held c.live)
 torn_sorts c [] h is torn roomy few bounds = loose_sorts c [] h tt few bounds

@@ -15,7 +15,7 @@ use Rattle.bw_log.specs.PageTable.{top_page}
 use Rattle.bw_log.specs.Places.{first_number, AreLinked}
 use Rattle.bw_log.specs.Segments.{Limits, frames_of, AreFrom, AreLive}
 use Rattle.bw_lines.specs.Lawful.{HasLawful, is_at_fault, first_such, contents}
-use Rattle.bw_care.specs.Recovery.{Finding, frames_in, last_number, parts_in, recovery, tails_of}
+use Rattle.bw_care.specs.Recovery.{Finding, frames_in, last_number, live_in, pairs_in, parts_in, recovery, tails_of}
 use Rattle.bw_care.specs.Scanning.{rest_in}
 use Rattle.bw_lines.specs.declared.cause.RecoverCause.TheVariants.{Empty}
 
@@ -119,6 +119,10 @@ abbrev pub OwnBoxesFound : Type 0
 OwnBoxesFound =
     (c : Contents) (leaves : List Leaf) → IsSound c → c.is_failed ≡ false → Stand c.m (counted c) leaves
     → recovery (boxes c) ≡ Ok (own_finding c leaves (tails_of c.live))
+
+-- if a box of a sound log has a segment, recovery reads the log's own page limit
+abbrev pub OwnLimitsRead : Type 0
+OwnLimitsRead = (c : Contents) → IsSound c → 1 ≤ length (live_in (boxes c)) → pairs_in (boxes c) ≡ c.m
 
 -- each segment ends with its last whole frame
 abbrev pub EndWhole : List Holding → Type 0

@@ -9,7 +9,7 @@ use Rattle.bw_log.specs.Contents.{counted}
 use Rattle.bw_log.specs.Contents as contents
 use Rattle.bw_log.specs.Adopting.{adopted, next_in}
 use Rattle.bw_log.specs.declared.places.FrameAt.{FrameAt}
-use Rattle.bw_care.specs.Recovery.{Finding, recovery, limit_in, number_in, live_in, spares_in, last_number, too_large, ends_whole}
+use Rattle.bw_care.specs.Recovery.{Finding, recovery, limit_in, pairs_in, number_in, live_in, spares_in, last_number, too_large, ends_whole}
 use Rattle.bw_care.specs.Scanned.{AreScans}
 use Rattle.bw_care.specs.Surveying.{kind_seen, parts_seen}
 use Rattle.bw_care.specs.Ordering.{IsOrder}
@@ -87,6 +87,7 @@ pub record AreFindings (boxes : List Holding) (p : Findings) : Type 0 where
   pub follows : next_in p.tables.frames.items ≡ following p.last
   pub limit : p.leaves.m ≡ p.tables.m
   pub frame_limit : p.tables.f ≡ limit_in boxes
+  pub page_limit : p.tables.m ≡ pairs_in boxes
   pub here : p.leaves.evicted ≡ []
   pub pages : length p.leaves.leaves ≡ length p.tables.pages.items
 

@@ -1,6 +1,6 @@
 //! Laws over the definitions alone.
 
-ghost use Rattle.bw_care.specs.Laws.{FoundStand, StandingUnfaulted, OwnBoxesFound, WholeBoxesFound, SortedBoxesFound, SortedBoxesEmpty, OwnShortenedFound, OwnStopFound};
+ghost use Rattle.bw_care.specs.Laws.{FoundStand, StandingUnfaulted, OwnBoxesFound, OwnLimitsRead, WholeBoxesFound, SortedBoxesFound, SortedBoxesEmpty, OwnShortenedFound, OwnStopFound};
 
 /// Where no page of some frames is at fault, the frames stand for the leaves that are found.
 pub fn found_leaves_stand()
@@ -46,4 +46,10 @@ pub fn shortened_boxes_are_found()
 /// boxes finds the leaves for which all whole frames stand, or tells that there is none.
 pub fn stopped_boxes_are_found()
     ensures { OwnStopFound }
+{}
+
+/// If one of the boxes of a log has a segment, recovery reads the page limit that the log has,
+/// whether an append failed or not.
+pub fn own_limits_are_read()
+    ensures { OwnLimitsRead }
 {}

@@ -6,7 +6,7 @@
 //! that may be refused: all come back on a refusal, and whoever was refused memory may try again.
 
 ghost use Rattle.std.specs.Prelude.{◌≡◌, Ok, IfOk, IfErr, map};
-ghost use Rattle.bw_care.specs.Recovery.{recovery, limit_in, live_in, spares_in, ends_whole};
+ghost use Rattle.bw_care.specs.Recovery.{recovery, limit_in, live_in, pairs_in, spares_in, ends_whole};
 ghost use Rattle.bw_care.specs.Found.{finding_of, IsRecovered, Refuses};
 ghost use Rattle.bw_log.specs.Views.{seen_by};
 
@@ -49,8 +49,9 @@ impl Debug for RecoverFault {
 /// a spare and is not read; one that holds a part of a header is dropped, and its lease comes back.
 ///
 /// On Ok the live segments stand in the order of their numbers and the spares in list order, with
-/// every byte as it was. The log's frame limit is that of its segments of version 2, or 65,536
-/// where it has none. The newest segment takes frames exactly where it has version 2 and no tail.
+/// every byte as it was. The log's page limit is that of its segments. Its frame limit is that of
+/// its segments of version 2, or 65,536 where it has none. The newest segment takes frames exactly
+/// where it has version 2 and no tail.
 ///
 /// It reads each box with bytes twice, and holds the bytes of one box and one parsed frame at a
 /// time, beside a line for each frame and for each page that a block touches, with its leaf.
@@ -70,6 +71,8 @@ pub fn recover(alloc: Global, boxes: Vec<Box<dyn Segment>>) -> Result<Recovered,
         (seen_by holding r.log).is_open ≡ ends_whole (live_in (map holding boxes.items))) }
     ensures limit { IfOk result (λ r.
         (seen_by holding r.log).f ≡ limit_in (map holding boxes.items)) }
+    ensures pairs { IfOk result (λ r.
+        (seen_by holding r.log).m ≡ pairs_in (map holding boxes.items)) }
 
     ensures refuses { IfErr result (λ e.
         Refuses (map holding boxes.items) e.cause (map holding e.boxes.items)) }

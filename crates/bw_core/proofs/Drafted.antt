@@ -1,6 +1,6 @@
 -- One record more is planned behind those of its group before it, and the store would be sound behind it.
 
-use Rattle.std.proofs.Common.{◌≡◌, ℕ, zero, suc, ◌+◌, ◌-◌, ◌^◌, ◌<◌, ◌≤◌, Option, Some, None, List, [], ◌∷◌, ◌++◌}
+use Rattle.std.proofs.Common.{◌≡◌, ℕ, zero, suc, ◌+◌, ◌-◌, ◌^◌, ◌<◌, ◌≤◌, false, Option, Some, None, List, [], ◌∷◌, ◌++◌}
 use Rattle.std.proofs.Common.{length, map, refl, sym, ap, ◌∙◌, subst, arith}
 use Rattle.std.proofs.lemmas.List.{map-append}
 use Rattle.std.specs.Prelude.{unwrap_or, slice_get}
@@ -137,10 +137,12 @@ module _ (s : Kept) (lane : ℕ) (done : List Record) where
           takes = takes_next r op room;
           number = number;
           inside = subst (λ (n : ℕ). lane < n) (rings_are s lane (map alone done)) inside;
+          works = t.works;
         } in
         let sound = taken_sound now lane (alone r) (back_for now r) one in
-        subst (λ (k : Kept). (IsSound k × (k.log.next ≡ Some k.making.frame) × (size_of k.making ≤ k.making.limit)) → Stands s lane (done ++ r ∷ []))
-        (behind_next r) (λ x. record { sound = x.0; next = x.1; fits = x.2 }) (sound, t.next, omega arith)
+        subst (λ (k : Kept). (IsSound k × (k.log.next ≡ Some k.making.frame) × (size_of k.making ≤ k.making.limit) × (k.log.is_failed ≡ false))
+        → Stands s lane (done ++ r ∷ [])) (behind_next r) (λ x. record { sound = x.0; next = x.1; fits = x.2; works = x.3 })
+        (sound, t.next, omega arith, t.works)
       where
         making_then : (s : Kept) (lane : ℕ) (rs : List Record) → (behind s lane rs).making ≡ with_all s.making (group_blocks s rs)
         making_then s lane rs = made_all s lane (map alone rs) ∙ ap (λ (xs : List Record). with_all s.making (group_blocks s xs)) (items_alone rs)

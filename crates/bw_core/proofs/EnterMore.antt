@@ -147,9 +147,9 @@ module _ (s : Kept) (group : List Record) (d : Draft) (h : IsSound s) (ops : All
       }) (sym (items_marked group))
       ∙ sym (taken_is s lane (marked group))
 
-  pub all_sound : (lane : ℕ) → s.log.next ≡ Some s.making.frame → lane < length s.rings → IsSound (taken_all s lane (marked group))
-  all_sound lane next inside =
-      taken_all_sound s lane (marked group) h next
+  pub all_sound : (lane : ℕ) → s.log.is_failed ≡ false → s.log.next ≡ Some s.making.frame → lane < length s.rings → IsSound (taken_all s lane (marked group))
+  all_sound lane works next inside =
+      taken_all_sound s lane (marked group) h works next
       (subst (All IsOp) (sym (items_marked group)) ops)
       (subst (HasPages s.filed.m s.filed.leaves) (sym (items_marked group)) is.room) inside
       (subst (λ (b : Filling). size_of b ≤ s.making.limit)
@@ -165,12 +165,12 @@ abbrev pub filed_with : ℕ → List Leaf → Filed
 filed_with m leaves = record { m = m; leaves = leaves }
 
 -- where a frame was appended before, any group has room
-pub fresh_room : (s : Kept) (lane : ℕ) (group : List Record) → IsSound s → s.log.next ≡ Some s.making.frame → All IsOp group
+pub fresh_room : (s : Kept) (lane : ℕ) (group : List Record) → IsSound s → s.log.is_failed ≡ false → s.log.next ≡ Some s.making.frame → All IsOp group
     → HasPages s.filed.m s.filed.leaves group → lane < length s.rings → s.making.blocks ≡ [] → length group ≤ 4 → Fits s group
-fresh_room s lane group h next ops room inside empty few =
+fresh_room s lane group h works next ops room inside empty few =
     let none = ap (λ (bs : List Block). length (body_bytes bs)) empty in
     let zero_bytes : length (body_bytes []) ≡ 0 = refl in
-    fresh_fits s lane 0 group h next ops room inside (omega arith) (omega arith)
+    fresh_fits s lane 0 group h works next ops room inside (omega arith) (omega arith)
 
 -- ---- a take of several
 

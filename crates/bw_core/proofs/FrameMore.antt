@@ -34,7 +34,7 @@ use Rattle.bw_core.specs.Kept.{Kept, leaves_at, TellsBy, TellsAs, TellsShare, wa
 use Rattle.bw_history.specs.History.{AreCuts}
 use Rattle.bw_core.proofs.FramesBehind.{IsNumbered, following_fits, counted_lawful}
 use Rattle.bw_core.proofs.Edging.{begun_on, appended_more, stopped_more}
-use Rattle.bw_core.proofs.CutMore.{same_leaves, old_shares}
+use Rattle.bw_core.proofs.CutMore.{same_leaves, old_shares, mapped_more}
 use Rattle.bw_core.proofs.Telling.{tells_none}
 
 -- ---- an empty frame behind others
@@ -116,6 +116,15 @@ module _ (s : Kept) (h : IsSound s) (works : s.log.is_failed ≡ false) where
   last_cut : cut more (s.durable + 1) ≡ length s.entries
   last_cut = ap (λ n. cut more (n + 1)) (sym all_appended) ∙ cut_new s.cuts (length s.entries)
 
+  one_longer : length more ≡ s.durable + 1
+  one_longer = length-append s.cuts (length s.entries ∷ []) ∙ ap (λ n. n + 1) all_appended
+
+  whole_behind : (k : ℕ) → s.durable < k → k ≤ length more → take (cut more k) s.entries ≡ s.entries
+  whole_behind k low high =
+      let long = one_longer in
+      let last : k ≡ s.durable + 1 = omega arith in
+      ap (λ n. take (cut more n) s.entries) last ∙ ap (λ n. take n s.entries) last_cut ∙ take_all (length s.entries) s.entries (omega arith)
+
   whole_history : (k : ℕ) → k ≡ s.durable + 1 → pages s.filed.m s.start (records (upto more s.entries k)) ≡ pages s.filed.m s.start (records s.entries)
   whole_history k last =
       ap (λ n. pages s.filed.m s.start (records (take (cut more n) s.entries))) last
@@ -195,6 +204,8 @@ module _ (s : Kept) (h : IsSound s) (works : s.log.is_failed ≡ false) where
         limit = limit ∙ h.limit ∙ sym same.f;
         leaves = h.leaves;
         mapped = h.mapped;
+        mapped_at = mapped_more s more same_cut h (let all = all_appended in omega arith) whole_behind;
+        first = h.first;
         ops = h.ops;
         writers = h.writers;
         grown =
@@ -213,7 +224,8 @@ module _ (s : Kept) (h : IsSound s) (works : s.log.is_failed ≡ false) where
         floor = (let low = h.floor in omega arith);
         stands = λ k low high from. subst (λ (fs : List Frame). Stand s.filed.m (frames_upto (s.before + k) fs) (leaves_at t k)) (sym counted)
             (stands_all next number k low high from);
-        beyond = inl (length-append s.cuts (length s.entries ∷ []) ∙ ap (λ n. n + 1) all_appended);
+        beyond = inl one_longer;
+        last_cut = λ failed. (let fine = added.works in absurd cc);
         shares = subst (λ (fs : List Frame). All (λ f. s.before < f.number → TellsShare t f) fs) (sym counted)
             (all-push (λ f. s.before < f.number → TellsShare t f) (logs.counted s.log) (frame_of s.making) (old_told next number)
             (λ above. inl (new_share number)));
@@ -265,7 +277,7 @@ module _ (s : Kept) (h : IsSound s) (works : s.log.is_failed ≡ false) where
   stop_left new next number (inl same) = counted_left (logs.counted s.log) new next number same refl
   stop_left new next number (inr one_more) =
       inr (inr (
-        length-append s.cuts (length s.entries ∷ []) ∙ ap (λ n. n + 1) all_appended,
+        one_longer,
         subst (λ (fs : List Frame). Stand s.filed.m fs (leaves_at (with_stop s new) (s.durable + 1))) (sym one_more)
             (subst (Stand s.filed.m (logs.counted s.log ++ frame_of s.making ∷ [])) (h.leaves ∙ sym (whole_history (s.durable + 1) refl)) h.grown.stands),
       ))
@@ -283,6 +295,8 @@ module _ (s : Kept) (h : IsSound s) (works : s.log.is_failed ≡ false) where
         limit = h.limit ∙ sym same.f;
         leaves = h.leaves;
         mapped = h.mapped;
+        mapped_at = mapped_more s more same_cut h (let all = all_appended in omega arith) whole_behind;
+        first = h.first;
         ops = h.ops;
         writers = h.writers;
         grown = subst (λ (fs : List Frame). Grown s.filed.m fs (frame_of s.making) s.filed.leaves s.newest) (sym counted) h.grown;
@@ -294,7 +308,8 @@ module _ (s : Kept) (h : IsSound s) (works : s.log.is_failed ≡ false) where
         floor = h.floor;
         stands = λ k low high from. subst (λ (fs : List Frame). Stand s.filed.m (frames_upto (s.before + k) fs) (leaves_at t k)) (sym counted)
             (subst (Stand s.filed.m (frames_upto (s.before + k) (logs.counted s.log))) (sym (same_leaves s more same_cut k high)) (h.stands k low high from));
-        beyond = inr (length-append s.cuts (length s.entries ∷ []) ∙ ap (λ n. n + 1) all_appended, failed);
+        beyond = inr (one_longer, failed);
+        last_cut = λ failed. ap (cut more) one_longer ∙ last_cut;
         shares = subst (λ (fs : List Frame). All (λ f. s.before < f.number → TellsShare t f) fs) (sym counted) (old_told next number);
         tells =
             subst (λ (ls : List Leaf). TellsBy t (s.before + s.durable + 1) ls (waiting t) s.making.blocks)

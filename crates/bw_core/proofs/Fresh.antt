@@ -28,6 +28,7 @@ use Rattle.bw_making.specs.Begun.{first_place, first_frame, first_making}
 use Rattle.bw_core.specs.Opened.{one_empty, opened, AreTaken}
 use Rattle.bw_core.specs.Reopened.{reopened}
 use Rattle.bw_core.specs.Kept.{Kept, IsSound}
+use Rattle.bw_core.proofs.CutMore.{none_mapped}
 use Rattle.bw_core.proofs.Telling.{tells_none}
 
 first_stands : (m : ℕ) → Stand m (first_frame ∷ []) (empty_leaf ∷ [])
@@ -54,6 +55,8 @@ opened_sound rings m f spares sound = record {
   limit = refl;
   leaves = refl;
   mapped = refl;
+  mapped_at = none_mapped m (empty_leaf ∷ []);
+  first = λ none. refl;
   ops = tt;
   writers = tt;
   floor = omega arith;
@@ -72,6 +75,7 @@ opened_sound rings m f spares sound = record {
   sealed = refl;
   ordered = omega arith;
   beyond = inl refl;
+  last_cut = λ failed. absurd cc;
   shares = tt;
   tells = inl (refl, refl, (refl, tells_none m (empty_leaf ∷ [])));
   edged = inl refl;

@@ -151,10 +151,10 @@ taken_is s w (m ∷ ms) =
     (blocks_all s.filed.m (drawn_by s.filed.m (drawn_of s) m.item) (items ms))))
 
 -- sound, where it fits: each store between would be
-pub taken_all_sound : (s : Kept) (w : ℕ) (ms : List Marked) → IsSound s → s.log.next ≡ Some s.making.frame → All IsOp (items ms)
+pub taken_all_sound : (s : Kept) (w : ℕ) (ms : List Marked) → IsSound s → s.log.is_failed ≡ false → s.log.next ≡ Some s.making.frame → All IsOp (items ms)
     → HasPages s.filed.m s.filed.leaves (items ms) → w < length s.rings → size_of (taken_all s w ms).making ≤ s.making.limit → IsSound (taken_all s w ms)
-taken_all_sound s w [] h next ops room inside fits = h
-taken_all_sound s w (m ∷ ms) h next ops room inside fits =
+taken_all_sound s w [] h works next ops room inside fits = h
+taken_all_sound s w (m ∷ ms) h works next ops room inside fits =
     let back = back_for s m.item in
     let one = taken s w m back in
     let made = ap size_of (made_all one w ms) in
@@ -171,15 +171,16 @@ taken_all_sound s w (m ∷ ms) h next ops room inside fits =
       takes = takes_by s h m.item back ops.0 room.0 next now (some_at s.newest (directed_at s.filed.leaves m.item - 1) nowhere (omega arith));
       number = following_is (s.before + s.durable) s.making.frame (sym h.next ∙ next);
       inside = inside;
+      works = works;
     } in
-    taken_all_sound one w ms (taken_sound s w m back t) next ops.1 room.1 inside fits
+    taken_all_sound one w ms (taken_sound s w m back t) works next ops.1 room.1 inside fits
 
 -- an empty frame has room for any group: a record's blocks are at most 12,000 bytes
-pub fresh_fits : (s : Kept) (w k : ℕ) (rs : List Record) → IsSound s → s.log.next ≡ Some s.making.frame → All IsOp rs
+pub fresh_fits : (s : Kept) (w k : ℕ) (rs : List Record) → IsSound s → s.log.is_failed ≡ false → s.log.next ≡ Some s.making.frame → All IsOp rs
     → HasPages s.filed.m s.filed.leaves rs → w < length s.rings → size_of s.making ≤ 20 + 12000 * k → k + length rs ≤ 4 → Fits s rs
-fresh_fits s w k [] h next ops room inside small few =
+fresh_fits s w k [] h works next ops room inside small few =
     (let limit = h.limit in let most = h.log.holds.limits.2 in omega arith)
-fresh_fits s w k (r ∷ rs) h next ops room inside small few =
+fresh_fits s w k (r ∷ rs) h works next ops room inside small few =
     let back = back_for s r in
     let one = taken s w (alone r) back in
     let limit = h.limit in
@@ -200,8 +201,9 @@ fresh_fits s w k (r ∷ rs) h next ops room inside small few =
       takes = takes;
       number = following_is (s.before + s.durable) s.making.frame (sym h.next ∙ next);
       inside = inside;
+      works = works;
     } in
-    let rest : Fits one rs = fresh_fits one w (k + 1) rs (taken_sound s w (alone r) back t) next ops.1 room.1 inside next_small (omega arith) in
+    let rest : Fits one rs = fresh_fits one w (k + 1) rs (taken_sound s w (alone r) back t) works next ops.1 room.1 inside next_small (omega arith) in
     subst (λ (bs : List Block). size_of (record s.making { blocks = bs }) ≤ s.making.limit)
     (sym (fold-append joined s.making.blocks (blocks_in s.filed.m (drawn_of s) r) (blocks_all s.filed.m (drawn_by s.filed.m (drawn_of s) r) rs))) rest
 

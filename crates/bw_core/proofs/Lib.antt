@@ -17,6 +17,7 @@ pub mod Noting
 pub mod UpgradedMore
 pub mod RewrittenMore
 pub mod ReopenedMore
+pub mod Relived
 pub mod Planned
 pub mod Deltas
 pub mod Drafts

@@ -67,6 +67,8 @@ log_sound s new h c = record {
   limit = h.limit ∙ sym c.f;
   leaves = h.leaves;
   mapped = h.mapped;
+  mapped_at = h.mapped_at;
+  first = h.first;
   ops = h.ops;
   writers = h.writers;
   grown = subst (λ (fs : List Frame). Grown s.filed.m fs (frame_of s.making) s.filed.leaves s.newest) (sym c.frames) h.grown;
@@ -76,6 +78,7 @@ log_sound s new h c = record {
   sealed = h.sealed ∙ sym c.failed;
   ordered = h.ordered;
   beyond = elim (h.beyond) [ inl e ↦ inl e | inr e ↦ inr (e.0, c.failed ∙ e.1) ];
+  last_cut = λ failed. h.last_cut (sym c.failed ∙ failed);
   floor = h.floor;
   stands = λ k low high from. subst (λ (fs : List Frame). Stand s.filed.m (frames_upto (s.before + k) fs) (leaves_at s k)) (sym c.frames)
       (h.stands k low high from);

@@ -7,7 +7,8 @@ use Rattle.std.proofs.lemmas.List.{length-replicate}
 use Rattle.std.specs.Prelude.{slice_index_or, MatchResult}
 use Rattle.bw_record.specs.declared.record.Record.{Record}
 use Rattle.bw_log.specs.Contents as logs
-use Rattle.bw_page.specs.Leaves.{pages}
+use Rattle.bw_page.specs.Leaves.{pages, union}
+use Rattle.bw_record.specs.declared.leaf.Leaf.{Leaf}
 use Rattle.bw_ring.specs.Marks.{Marked, marked}
 use Rattle.bw_ring.specs.declared.lane.Lane.{Lane}
 use Rattle.bw_care.specs.Recovery.{Finding, recovery}
@@ -90,10 +91,10 @@ whole_upto : (cs : List ℕ) (es : List Entry) (k : ℕ) → are_whole cs es ≡
 whole_upto cs es zero are le = refl
 whole_upto cs es (suc k) are le = whole_at cs es k are (omega arith)
 
-appended_within : (s : Kept) → IsSound s → s.durable ≤ length s.cuts
+pub appended_within : (s : Kept) → IsSound s → s.durable ≤ length s.cuts
 appended_within s h = elim h.beyond [ inl e ↦ omega arith | inr p ↦ (let one = p.0 in omega arith) ]
 
-written_behind : (s : Kept) → IsSound s → cut s.cuts s.durable ≤ cut s.cuts (length s.cuts)
+pub written_behind : (s : Kept) → IsSound s → cut s.cuts s.durable ≤ cut s.cuts (length s.cuts)
 written_behind s h = elim h.beyond [
   | inl e ↦ (let same = ap (cut s.cuts) e in omega arith)
   | inr p ↦ (
@@ -120,11 +121,13 @@ is_machine s h grouped whole =
 
 -- ---- steps
 
-abbrev made_of : List Entry → ℕ → ℕ → Machine
-made_of entries durable written = record { entries = entries; durable = durable; written = written; shown = 0 }
+abbrev made_of : List Leaf → List Entry → ℕ → ℕ → Machine
+made_of start entries durable written = record { start = union start; entries = entries; durable = durable; written = written; shown = 0 }
 
-made_same : (es fs : List Entry) (d e w x : ℕ) → es ≡ fs → d ≡ e → w ≡ x → made_of es d w ≡ made_of fs e x
-made_same es fs d e w x a b c = ap (λ (l : List Entry). made_of l d w) a ∙ ap (λ n. made_of fs n w) b ∙ ap (λ n. made_of fs e n) c
+made_same : (s t : List Leaf) (es fs : List Entry) (d e w x : ℕ) → s ≡ t → es ≡ fs → d ≡ e → w ≡ x → made_of s es d w ≡ made_of t fs e x
+made_same s t es fs d e w x z a b c =
+    ap (λ (l : List Leaf). made_of l es d w) z ∙ ap (λ (l : List Entry). made_of t l d w) a ∙ ap (λ n. made_of t fs n w) b
+    ∙ ap (λ n. made_of t fs e n) c
 
 abbrev AllAppended : Kept → Type 0
 AllAppended s = length s.cuts ≡ s.durable
@@ -148,6 +151,7 @@ longer cs ds n e = ap (λ (l : List ℕ). length l) e ∙ length-append cs (n �
 
 flushed_keeps : (old new : Kept) (number : ℕ) → AllAppended old → Flushed old number new → (machine_of new ≡ keeps (machine_of old)) × AllAppended new
 flushed_keeps old new number all f =
+    let start = ap (λ (s : Kept). s.start) f.is in
     let cuts = ap (λ (s : Kept). s.cuts) f.is in
     let durable = ap (λ (s : Kept). s.durable) f.is in
     let entries = ap (λ (s : Kept). s.entries) f.is in
@@ -155,13 +159,14 @@ flushed_keeps old new number all f =
     let same : new.durable ≡ length new.cuts = omega arith in
     let end : cut new.cuts (length new.cuts) ≡ length old.entries =
     ap (λ (cs : List ℕ). cut cs (length cs)) cuts ∙ one_cut old.cuts (length old.entries) in (
-      made_same new.entries old.entries (cut new.cuts new.durable) (length old.entries) (cut new.cuts (length new.cuts)) (length old.entries)
-          entries (ap (cut new.cuts) same ∙ end) end,
+      made_same new.start old.start new.entries old.entries (cut new.cuts new.durable) (length old.entries) (cut new.cuts (length new.cuts))
+          (length old.entries) start entries (ap (cut new.cuts) same ∙ end) end,
       omega arith,
     )
 
 broken_breaks : (old new : Kept) (lease : ℕ) → AllAppended old → Broken lease old new → machine_of new ≡ breaks (machine_of old)
 broken_breaks old new lease all b =
+    let start = ap (λ (s : Kept). s.start) b.is in
     let cuts = ap (λ (s : Kept). s.cuts) b.is in
     let durable = ap (λ (s : Kept). s.durable) b.is in
     let entries = ap (λ (s : Kept). s.entries) b.is in
@@ -169,8 +174,8 @@ broken_breaks old new lease all b =
     ap (λ (cs : List ℕ). cut cs (length cs)) cuts ∙ one_cut old.cuts (length old.entries) in
     let kept : cut new.cuts new.durable ≡ cut old.cuts old.durable =
     ap (λ k. cut new.cuts k) durable ∙ ap (λ (cs : List ℕ). cut cs old.durable) cuts ∙ cut_more old.cuts (length old.entries ∷ []) old.durable (omega arith) in
-    made_same new.entries old.entries (cut new.cuts new.durable) (cut old.cuts old.durable) (cut new.cuts (length new.cuts)) (length old.entries)
-    entries kept end
+    made_same new.start old.start new.entries old.entries (cut new.cuts new.durable) (cut old.cuts old.durable) (cut new.cuts (length new.cuts))
+    (length old.entries) start entries kept end
 
 -- a read changes the log alone
 read_same : (old new : Kept) → HasRead old new → machine_of new ≡ machine_of old
@@ -190,8 +195,9 @@ entries_all s lane (m ∷ ms) =
     entries_all (taken s lane m (back_for s m.item)) lane ms
     ∙ append_assoc s.entries (record { writer = lane; more = m.more; item = m.item } ∷ []) (entered lane ms)
 
-cuts_all : (s : Kept) (lane : ℕ) (ms : List Marked) → ((taken_all s lane ms).cuts ≡ s.cuts) × ((taken_all s lane ms).durable ≡ s.durable)
-cuts_all s lane [] = (refl, refl)
+cuts_all : (s : Kept) (lane : ℕ) (ms : List Marked)
+    → ((taken_all s lane ms).cuts ≡ s.cuts) × ((taken_all s lane ms).durable ≡ s.durable) × ((taken_all s lane ms).start ≡ s.start)
+cuts_all s lane [] = (refl, refl, refl)
 cuts_all s lane (m ∷ ms) = cuts_all (taken s lane m (back_for s m.item)) lane ms
 
 took_group : (old new : Kept) (lane : ℕ) (ms : List Marked) → AllAppended old → new ≡ taken_all old lane ms
@@ -201,11 +207,12 @@ took_group old new lane ms all is =
     let entries = ap (λ (s : Kept). s.entries) is ∙ entries_all old lane ms in
     let cut_same = ap (λ (s : Kept). s.cuts) is ∙ cuts.0 in
     let durable = ap (λ (s : Kept). s.durable) is ∙ cuts.1 in
+    let start = ap (λ (s : Kept). s.start) is ∙ cuts.2 in
     let kept : cut new.cuts new.durable ≡ cut old.cuts old.durable = ap (λ k. cut new.cuts k) durable ∙ ap (λ (cs : List ℕ). cut cs old.durable) cut_same in
     let end : cut new.cuts (length new.cuts) ≡ cut old.cuts (length old.cuts) = ap (λ (cs : List ℕ). cut cs (length cs)) cut_same in
     let long = ap (λ (cs : List ℕ). length cs) cut_same in (
-      made_same new.entries (old.entries ++ entered lane ms) (cut new.cuts new.durable) (cut old.cuts old.durable) (cut new.cuts (length new.cuts))
-          (cut old.cuts (length old.cuts)) entries kept end,
+      made_same new.start old.start new.entries (old.entries ++ entered lane ms) (cut new.cuts new.durable) (cut old.cuts old.durable)
+          (cut new.cuts (length new.cuts)) (cut old.cuts (length old.cuts)) start entries kept end,
       omega arith,
     )
 
@@ -284,7 +291,7 @@ refused_stops n old lanes away cause new h r =
 
 -- ---- flushes
 
-fails_or_works : (b : Bool) → (b ≡ true) ⊎ (b ≡ false)
+pub fails_or_works : (b : Bool) → (b ≡ true) ⊎ (b ≡ false)
 fails_or_works true = inl refl
 fails_or_works false = inr refl
 
@@ -305,8 +312,8 @@ flush_stops takes_last old new NothingOld h answers left = inl (same_machine old
 -- where nothing is in the making, all is kept
 kept_already : (s : Kept) → AllAppended s → cut s.cuts s.durable ≡ length s.entries → keeps (machine_of s) ≡ machine_of s
 kept_already s all is =
-    made_same s.entries s.entries (length s.entries) (cut s.cuts s.durable) (length s.entries) (cut s.cuts (length s.cuts))
-    refl (sym is) (sym is ∙ ap (cut s.cuts) (sym all))
+    made_same s.start s.start s.entries s.entries (length s.entries) (cut s.cuts s.durable) (length s.entries) (cut s.cuts (length s.cuts))
+    refl refl (sym is) (sym is ∙ ap (cut s.cuts) (sym all))
 
 pub flush_keeps : (takes_last : Bool) (old new : Kept) (o : Option ℕ) → IsSound old → FlushAnswers (refusal_by takes_last old) (Ok o)
     → FlushLeaves old (Ok o) new → (machine_of new ≡ keeps (machine_of old)) × (length new.cuts ≡ new.durable)
@@ -359,6 +366,7 @@ many_cuts cs (suc frames) n k is e =
 moved_same : (s new : Kept) (frames floor : ℕ) → AllAppended s → cut s.cuts s.durable ≡ length s.entries
     → new ≡ with_moved s frames floor new.newest new.making new.log → machine_of new ≡ machine_of s
 moved_same s new frames floor all is e =
+    let start = ap (λ (t : Kept). t.start) e in
     let cuts = ap (λ (t : Kept). t.cuts) e in
     let durable = ap (λ (t : Kept). t.durable) e in
     let entries = ap (λ (t : Kept). t.entries) e in
@@ -369,8 +377,8 @@ moved_same s new frames floor all is e =
     let count = length-append s.cuts (replicate frames (length s.entries)) in
     let all_of = length-replicate frames (length s.entries) in
     let same : length new.cuts ≡ new.durable = omega arith in
-    made_same new.entries s.entries (cut new.cuts new.durable) (cut s.cuts s.durable) (cut new.cuts (length new.cuts)) (cut s.cuts (length s.cuts))
-    entries (kept ∙ sym is) (ap (cut new.cuts) same ∙ kept ∙ sym is ∙ ap (cut s.cuts) (sym all))
+    made_same new.start s.start new.entries s.entries (cut new.cuts new.durable) (cut s.cuts s.durable) (cut new.cuts (length new.cuts))
+    (cut s.cuts (length s.cuts)) start entries (kept ∙ sym is) (ap (cut new.cuts) same ∙ kept ∙ sym is ∙ ap (cut s.cuts) (sym all))
 
 durable_all : (old middle : Kept) → machine_of middle ≡ keeps (machine_of old) → cut middle.cuts middle.durable ≡ length middle.entries
 durable_all old middle e =

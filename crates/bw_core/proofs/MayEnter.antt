@@ -98,12 +98,13 @@ takes_it s item back blocks e not =
     }
 
 pub takes_one : (s : Kept) (writer : ℕ) (item : Record) (back : Place) (blocks : List Block) → Enters s item back blocks → (IsSpent (shown_of s.filed) item → ⊥)
-    → writer < length s.rings → TakesOne s writer item back
-takes_one s writer item back blocks e not inside = record {
+    → s.log.is_failed ≡ false → writer < length s.rings → TakesOne s writer item back
+takes_one s writer item back blocks e not works inside = record {
   sound = e.sound;
   takes = takes_it s item back blocks e not;
   number = following_is (s.before + s.durable) s.making.frame (sym e.sound.next ∙ e.next);
   inside = inside;
+  works = works;
 }
 
 -- ---- what filing the blocks asks
@@ -181,9 +182,9 @@ entered {s} {back} {blocks} m e not writer page entries filed newest making at e
     }) made
 
 pub entered_sound : {s : Kept} {back : Place} {blocks : List Block} (m : Marked) → Enters s m.item back blocks
-    → (IsSpent (shown_of s.filed) m.item → ⊥) → (writer : ℕ)
+    → (IsSpent (shown_of s.filed) m.item → ⊥) → s.log.is_failed ≡ false → (writer : ℕ)
     → writer < length s.rings → IsSound (taken s writer m back)
-entered_sound {s} {back} {blocks} m e not writer inside = taken_sound s writer m back (takes_one s writer m.item back blocks e not inside)
+entered_sound {s} {back} {blocks} m e not works writer inside = taken_sound s writer m back (takes_one s writer m.item back blocks e not works inside)
 
 -- a lane is one of the rings
 pub lane_inside : (lanes : List Lane) (at : ℕ) → at < length lanes → at < length (map ring_of_lane lanes)

@@ -38,7 +38,7 @@ use Rattle.bw_history.specs.History.{AreCuts}
 use Rattle.bw_core.specs.Settled.{IsSettled}
 use Rattle.bw_core.specs.Edges.{IsBegun}
 use Rattle.bw_core.specs.Cleaning.{with_moved}
-use Rattle.bw_core.proofs.CutMore.{same_leaves, old_shares}
+use Rattle.bw_core.proofs.CutMore.{same_leaves, old_shares, mapped_more}
 use Rattle.bw_core.proofs.EmptyBehind.{AreNoted, grown_empty}
 use Rattle.bw_core.proofs.FramesBehind.{from_behind, from_within, next_after, first_ahead, same_end}
 use Rattle.bw_core.proofs.SettledMore.{not_first}
@@ -186,6 +186,13 @@ module _ (s : Kept) (written : List Frame) (a : Adds s written) where
         | false ↦ λ e. (let gt = leb-false _ _ e in let len = a.done.cut.0 in get_behind s.cuts n (length s.entries) k (omega arith) (omega arith))
       ] refl
 
+  many_more : length more ≡ s.durable + n
+  many_more =
+      let len = length-append s.cuts (replicate n (length s.entries)) in
+      let many = length-many n (length s.entries) in
+      let all = a.done.cut.0 in
+      omega arith
+
   whole : (k : ℕ) → s.durable ≤ k → k ≤ s.durable + n → take (cut more k) s.entries ≡ s.entries
   whole k low high = ap (λ c. take c s.entries) (full_cut k low high) ∙ take_all (length s.entries) s.entries (omega arith)
 
@@ -295,6 +302,9 @@ module _ (s : Kept) (written : List Frame) (a : Adds s written) where
         limit = x.limit ∙ h.limit ∙ sym x.f;
         leaves = h.leaves;
         mapped = h.mapped;
+        mapped_at = mapped_more s more same_cut h (let all = a.done.cut.0 in omega arith)
+            (λ k low high. whole k (omega arith) (let long = many_more in omega arith));
+        first = h.first;
         ops = h.ops;
         writers = h.writers;
         grown =
@@ -309,8 +319,8 @@ module _ (s : Kept) (written : List Frame) (a : Adds s written) where
         ];
         sealed = x.sealed;
         ordered = cuts_many 0 s.cuts n (length s.entries) h.ordered;
-        beyond = inl (let len = length-append s.cuts (replicate n (length s.entries)) in let many = length-many n (length s.entries) in
-            let all = a.done.cut.0 in omega arith);
+        beyond = inl many_more;
+        last_cut = λ failed. ap (cut more) many_more ∙ full_cut (s.durable + n) (omega arith) (omega arith);
         floor = x.within;
         stands = x.upto_cuts;
         shares = x.shares;

@@ -1,6 +1,6 @@
 -- A store after one record, and after one frame.
 
-use Rattle.std.proofs.Common.{◌≡◌, ℕ, zero, suc, ◌+◌, ◌-◌, ◌<◌, ◌≤◌, inl, inr, List, [], ◌∷◌, ◌++◌}
+use Rattle.std.proofs.Common.{◌≡◌, ℕ, zero, suc, ◌+◌, ◌-◌, ◌<◌, ◌≤◌, false, inl, inr, List, [], ◌∷◌, ◌++◌}
 use Rattle.std.proofs.Common.{length, take, drop, get_or, refl, sym, ap, ◌∙◌, subst, arith, length-append, take-append-drop}
 use Rattle.std.proofs.lemmas.List.{map-append, take-append-le, drop-append-le}
 use Rattle.std.proofs.lemmas.Grind.{fold-append}
@@ -81,6 +81,7 @@ pub record TakesOne (s : Kept) (writer : ℕ) (item : Record) (back : Place) : T
   pub takes : Takes s.filed.m (logs.counted s.log) (frame_of s.making) s.filed.leaves s.newest back item
   pub number : s.making.frame ≡ s.before + s.durable + 1
   pub inside : writer < length s.rings
+  pub works : s.log.is_failed ≡ false
 
 module _ (s : Kept) (writer : ℕ) (m : Marked) (back : Place) (t : TakesOne s writer m.item back) where
   same_leaves : (k : ℕ) → leaves_at (taken s writer m back) k ≡ leaves_at s k
@@ -131,6 +132,11 @@ module _ (s : Kept) (writer : ℕ) (m : Marked) (back : Place) (t : TakesOne s w
             ∙ ap (λ (u : Map). changed_map u m.item) h.mapped
             ∙ sym (ap (plain s.start) (records_more s.entries (record { writer = writer; more = m.more; item = m.item } ∷ []))
             ∙ fold-append changed_map (union s.start) (records s.entries) (m.item ∷ []));
+        mapped_at = λ k high.
+            ap (λ (ls : List Leaf). union ls) (same_leaves k) ∙ h.mapped_at k high
+            ∙ sym (ap (λ (es : List Entry). plain s.start (records es))
+            (upto_more s.cuts s.entries (record { writer = writer; more = m.more; item = m.item } ∷ []) k h.ordered));
+        first = h.first;
         ops = all-push (λ (e : Entry). IsOp e.item) s.entries (record { writer = writer; more = m.more; item = m.item }) h.ops t.takes.op;
         writers = all-push (λ (e : Entry). e.writer < length s.rings) s.entries (record { writer = writer; more = m.more; item = m.item }) h.writers t.inside;
         grown = grown_more s.filed.m (logs.counted s.log) (frame_of s.making) s.filed.leaves s.newest back m.item t.takes;
@@ -141,6 +147,7 @@ module _ (s : Kept) (writer : ℕ) (m : Marked) (back : Place) (t : TakesOne s w
         ordered = cuts_longer 0 s.cuts (length s.entries) (length now.entries)
             (let e = length-append s.entries (record { writer = writer; more = m.more; item = m.item } ∷ []) in omega arith) h.ordered;
         beyond = h.beyond;
+        last_cut = λ failed. (let works = t.works in absurd cc);
         floor = h.floor;
         stands = λ k low high from. subst (Stand s.filed.m (frames_upto (s.before + k) (logs.counted s.log))) (sym (same_leaves k)) (h.stands k low high from);
         shares = all-map (λ f. s.before < f.number → TellsShare s f) (λ f. s.before < f.number → TellsShare now f)

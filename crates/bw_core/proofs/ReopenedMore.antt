@@ -27,6 +27,7 @@ use Rattle.bw_care.specs.declared.recovered.Recovered.{Recovered}
 use Rattle.bw_core.specs.Growing.{Grown, frames_upto}
 use Rattle.bw_core.specs.Kept.{leaves_at, TellsBy, TellsShare, IsSound}
 use Rattle.bw_core.specs.Reopened.{reopened}
+use Rattle.bw_core.proofs.CutMore.{none_mapped}
 use Rattle.bw_core.proofs.FramesBehind.{IsNumbered, from_within, none_above, counted_lawful, placed_page, pages_counted}
 use Rattle.bw_core.proofs.EmptyBehind.{AreNoted, grown_empty}
 use Rattle.bw_core.proofs.Telling.{tells_none}
@@ -124,6 +125,8 @@ module _ (c : logs.Contents) (filed : Shown) (last : ℕ) (x : Found c filed las
         limit = limit;
         leaves = refl;
         mapped = refl;
+        mapped_at = none_mapped filed.m filed.leaves;
+        first = λ none. (let low = from_one in absurd (omega arith));
         ops = tt;
         writers = tt;
         grown =
@@ -135,6 +138,7 @@ module _ (c : logs.Contents) (filed : Shown) (last : ℕ) (x : Found c filed las
         sealed = unsealed ∙ sym x.works;
         ordered = omega arith;
         beyond = inl refl;
+        last_cut = λ failed. (let works = x.works in absurd cc);
         floor = omega arith;
         stands = λ k low high from. (
             let none : 0 ≡ k = omega arith in

@@ -1,6 +1,6 @@
 -- A group that is planned record by record: what is known of it so far.
 
-use Rattle.std.specs.Prelude.{ℕ, ◌-◌, ◌≡◌, ◌≤◌, Some, List, length, map, slice_get}
+use Rattle.std.specs.Prelude.{ℕ, ◌-◌, ◌≡◌, ◌≤◌, false, Some, List, length, map, slice_get}
 use Rattle.std.specs.List.{fold, AllByRecursion}
 use Rattle.bw_codec.specs.Grammar.{IsBlock}
 use Rattle.bw_record.specs.declared.record.Record.{Record}
@@ -39,6 +39,7 @@ pub record Stands (s : Kept) (lane : ℕ) (done : List Record) : Type 0 where
   pub sound : IsSound (behind s lane done)
   pub next : (behind s lane done).log.next ≡ Some (behind s lane done).making.frame
   pub fits : size_of (behind s lane done).making ≤ (behind s lane done).making.limit
+  pub works : (behind s lane done).log.is_failed ≡ false
 
 -- ---- the draft of a whole group
 

@@ -8,6 +8,7 @@ use Rattle.bw_record.specs.declared.leaf.Leaf.{Leaf}
 use Rattle.bw_record.specs.declared.block.Place.{Place}
 use Rattle.bw_record.specs.declared.block.Block.{Block}
 use Rattle.bw_record.specs.declared.block.Frame.{Frame}
+use Rattle.bw_leaf.specs.Changed.{empty_leaf}
 use Rattle.bw_page.specs.Leaves.{pages, union, plain}
 use Rattle.bw_page.specs.Standing.{Stand}
 use Rattle.bw_page.specs.Shown.{Shown}
@@ -105,6 +106,10 @@ pub record IsSound (s : Kept) : Type 0 where
   pub leaves : s.filed.leaves ≡ pages s.filed.m s.start (records s.entries)
   -- all their pairs are one map, which knows no pages
   pub mapped : union s.filed.leaves ≡ plain s.start (records s.entries)
+  -- and so were those up to each cut
+  pub mapped_at : (k : ℕ) → k ≤ length s.cuts → union (leaves_at s k) ≡ plain s.start (records (upto s.cuts s.entries k))
+  -- a store that was opened began with one empty page
+  pub first : s.before ≡ 0 → s.start ≡ empty_leaf ∷ []
   pub ops : AllByRecursion (λ e. IsOp e.item) s.entries
   pub writers : AllByRecursion (λ e. e.writer < length s.rings) s.entries
   pub grown : Grown s.filed.m (logs.counted s.log) (frame_of s.making) s.filed.leaves s.newest
@@ -116,6 +121,8 @@ pub record IsSound (s : Kept) : Type 0 where
   -- cuts
   pub ordered : AreCuts 0 s.cuts (length s.entries)
   pub beyond : (length s.cuts ≡ s.durable) ⊎ ((length s.cuts ≡ s.durable + 1) × (s.log.is_failed ≡ true))
+  -- if an append failed, nothing was taken since
+  pub last_cut : s.log.is_failed ≡ true → cut s.cuts (length s.cuts) ≡ length s.entries
   pub floor : s.floor ≤ s.durable
   -- the counted frames up to a cut stand for the pages of the history up to it, for each cut from the floor on
   pub stands : EachCutStands s

@@ -16,6 +16,7 @@ pub mod Taking
 pub mod Takes
 pub mod Opened
 pub mod Reopened
+pub mod Relived
 pub mod Following
 pub mod Going
 pub mod Looking

@@ -2,7 +2,7 @@
 
 use Rattle.std.specs.Prelude.{◌≡◌, ◌⊎◌, MatchResult, Result, List, length}
 use Rattle.bw_device.specs.Holding.{Holding}
-use Rattle.bw_page.specs.Leaves.{pages}
+use Rattle.bw_page.specs.Leaves.{pages, union}
 use Rattle.bw_log.specs.Contents.{boxes}
 use Rattle.bw_care.specs.Recovery.{recovery}
 use Rattle.bw_lines.specs.declared.cause.RecoverCause.TheVariants.{Empty}
@@ -15,7 +15,7 @@ use Rattle.bw_core.specs.Kept.{EachCutStands, Kept}
 
 -- what a store took and kept; nobody else reads a core
 abbrev pub machine_of : Kept → Machine
-machine_of s = record { entries = s.entries; durable = cut s.cuts s.durable; written = cut s.cuts (length s.cuts); shown = 0 }
+machine_of s = record { start = union s.start; entries = s.entries; durable = cut s.cuts s.durable; written = cut s.cuts (length s.cuts); shown = 0 }
 
 -- where segments are given up or pages written again, all that was taken is kept before; a refusal may come before or behind that
 abbrev pub KeepsAs : {A : Type 0} → Result A StoreFault → Kept → Kept → Type 0

@@ -114,6 +114,7 @@ impl Core {
     ) -> Result<Option<Draft>, AllocError>
         requires sound { IsSound self.now holding }
         requires inside { lane < length self.now.intake.lanes.items }
+        requires works { (kept_by self.now holding).log.is_failed ≡ false }
         requires next { (kept_by self.now holding).log.next ≡ Some self.now.pages.making.frame }
         requires lawful { AllByRecursion IsOp records.now }
         requires room { HasPages self.now.pages.leaves.m self.now.pages.leaves.leaves records.now }

@@ -43,7 +43,7 @@ mod upgrade;
 pub use bw_care::{Cleaned, Counters, Upgraded};
 pub use bw_history::{Entry, PackedEntry};
 pub use bw_terms::{Config, OpenFault, StoreFault, TurnFault};
-pub use laws::each_line_of_the_goal;
+pub use laws::{beginnings_go_on, each_line_of_the_goal, openings_go_on};
 pub use open::are_taken;
 pub use origin::Edge;
 pub use reopen::ReopenFault;

@@ -5,7 +5,7 @@
 //! recovered log is taken apart: a refusal hands it back whole, and whoever was refused memory may
 //! try again.
 
-ghost use Rattle.std.specs.Prelude.{◌≡◌, ◌≤◌, ◌<◌, ◌-◌, ◌^◌, [], None, ℕ, map, length, false, slice_get, IfOk, IfErr, IfSome, MatchResult};
+ghost use Rattle.std.specs.Prelude.{◌≡◌, ◌≤◌, ◌<◌, ◌-◌, ◌^◌, [], None, ℕ, List, map, length, false, slice_get, IfOk, IfErr, IfSome, MatchResult};
 ghost use Rattle.bw_log.specs.Contents.{counted};
 ghost use Rattle.bw_log.specs.Places.{place_of};
 ghost use Rattle.bw_ring.specs.Ends.{ring_of_feed, ring_of_lane};
@@ -76,12 +76,15 @@ fn ends_of(alloc: Global, config: &Config, log: &Log, pages: usize) -> Result<En
 }
 
 impl Core {
-    ghost use Rattle.bw_care.specs.Found.{IsRecovered};
+    ghost use Rattle.bw_care.specs.Found.{IsFoundIn, IsRecovered};
+    ghost use Rattle.bw_device.specs.Holding.{Holding};
+    ghost use Rattle.bw_core.specs.Reopened.{Begins};
     ghost use Rattle.bw_core.specs.Views.{kept_by, noted_of, IsSound};
 
     /// A store that goes on from what was recovered, and a feed for each of `writers` writers, 1 to
     /// 64, with rings of `places` places, 1 to 4,096. Its pages are the recovered leaves, its
-    /// history is empty, and its next frame is the one after the last.
+    /// history is empty, and its next frame is the one after the last. So it begins with what
+    /// recovery finds in whatever boxes these were recovered from (`begins`).
     ///
     /// Refused `BadConfig`, where a number is out of its range, or `NoMemory`. What was recovered
     /// then comes back. It costs a look at each page's line.
@@ -96,6 +99,9 @@ impl Core {
             ≡ reopened (map ring_of_feed r.1.items) recovered.last recovered.leaves
             (kept_by r.0 holding).newest (kept_by r.0 holding).making
             (seen recovered.log holding)) }
+        ensures begins { IfOk result (λ r. (held : List Holding)
+            → IsFoundIn (λ b. holding (b.vtable, b.value)) held recovered
+            → Begins held (kept_by r.0 holding)) }
         ensures empty { IfOk result (λ r. (kept_by r.0 holding).making.blocks ≡ []) }
         ensures sound { IfOk result (λ r. IsSound r.0 holding) }
         ensures feeds { IfOk result (λ r. AreUnused writers places r.1.items) }

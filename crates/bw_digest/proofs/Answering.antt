@@ -1,5 +1,5 @@
 -- What the check answers says whether the pieces fit.
-use Rattle.std.proofs.Common.{◌≡◌, ◌↔◌, ℕ, List, [], ◌∷◌, refl, sym, subst, ap, Result, Ok, Err, inl, inr, arith, IsOk, IfOk, IfErr, eq-eqb}
+use Rattle.std.proofs.Common.{◌≡◌, ℕ, List, [], ◌∷◌, refl, sym, subst, ap, Ok, Err, inl, inr, eq-eqb}
 use Rattle.std.proofs.lemmas.Bool.{ne_eqb}
 use Rattle.std.proofs.lemmas.Bool.Decides.{eqb_tells}
 use Rattle.bw_digest.specs.Digest.{digest}
@@ -8,7 +8,6 @@ use Rattle.bw_digest.specs.Rows.{reach}
 use Rattle.bw_digest.specs.Checked.{checked, IsAnswer}
 use Rattle.bw_digest.specs.declared.row.Row.{Row}
 use Rattle.bw_digest.specs.declared.sum.Sum.{Sum}
-use Rattle.bw_digest.specs.declared.checking.Damaged.{Damaged}
 
 -- the sums up to the first misfit, where there is one
 data Verdict (bytes : List ℕ) (row : Reach) (ss : List Sum) : Type 0 where
@@ -46,17 +45,24 @@ verdict bytes row (s ∷ ss) =
       | inr other ↦ here bytes row s ss other.1
     ]
 
--- an answer, by whether the pieces fit
-whole_by : (bytes : List ℕ) (ss : List Sum) (r : Result Row Damaged) → IsAnswer r (checked bytes no_sums ss) → Verdict bytes no_sums ss →
-    (IsOk r ↔ Fits bytes no_sums ss) × IfOk r (λ row. reach row ≡ with_all no_sums ss) × IfErr r (λ d. IsDamagedAt bytes no_sums ss d.at)
-whole_by bytes ss (Ok row) says (sound fits is) =
-    ((λ _. fits, λ _. refl), subst (λ x. IsAnswer (Ok row) x) is says, tt)
-whole_by bytes ss (Err d) says (sound fits is) = absurd (subst (λ x. IsAnswer (Err d) x) is says)
-whole_by bytes ss (Ok row) says (damaged at found not_all is) = absurd (subst (λ x. IsAnswer (Ok row) x) is says)
-whole_by bytes ss (Err d) says (damaged at found not_all is) =
-    let same : d.at ≡ at = subst (λ x. IsAnswer (Err d) x) is says in
-    ((λ never. grind (arith, never), λ all. absurd (not_all all)), tt, subst (λ k. IsDamagedAt bytes no_sums ss k) (sym same) found)
+-- an answer that all pieces fit
+whole_by : (bytes : List ℕ) (ss : List Sum) (row : Row) → IsAnswer (Ok row) (checked bytes no_sums ss) → Verdict bytes no_sums ss →
+    Fits bytes no_sums ss × (reach row ≡ with_all no_sums ss)
+whole_by bytes ss row says (sound fits is) = (fits, subst (λ x. IsAnswer (Ok row) x) is says)
+whole_by bytes ss row says (damaged at found not_all is) = absurd (subst (λ x. IsAnswer (Ok row) x) is says)
 
-pub told : (bytes : List ℕ) (ss : List Sum) (r : Result Row Damaged) → IsAnswer r (checked bytes no_sums ss) →
-    (IsOk r ↔ Fits bytes no_sums ss) × IfOk r (λ row. reach row ≡ with_all no_sums ss) × IfErr r (λ d. IsDamagedAt bytes no_sums ss d.at)
-told bytes ss r says = whole_by bytes ss r says (verdict bytes no_sums ss)
+pub told_whole : (bytes : List ℕ) (ss : List Sum) (row : Row) → IsAnswer (Ok row) (checked bytes no_sums ss) →
+    Fits bytes no_sums ss × (reach row ≡ with_all no_sums ss)
+told_whole bytes ss row says = whole_by bytes ss row says (verdict bytes no_sums ss)
+
+-- an answer that one does not
+misfit_by : (bytes : List ℕ) (ss : List Sum) (told : ℕ) → IsAnswer (Err told) (checked bytes no_sums ss) → Verdict bytes no_sums ss →
+    (Fits bytes no_sums ss → ⊥) × IsDamagedAt bytes no_sums ss told
+misfit_by bytes ss told says (sound fits is) = absurd (subst (λ x. IsAnswer (Err told) x) is says)
+misfit_by bytes ss told says (damaged at found not_all is) =
+    let same : told ≡ at = subst (λ x. IsAnswer (Err told) x) is says in
+    (not_all, subst (λ k. IsDamagedAt bytes no_sums ss k) (sym same) found)
+
+pub told_misfit : (bytes : List ℕ) (ss : List Sum) (told : ℕ) → IsAnswer (Err told) (checked bytes no_sums ss) →
+    (Fits bytes no_sums ss → ⊥) × IsDamagedAt bytes no_sums ss told
+told_misfit bytes ss told says = misfit_by bytes ss told says (verdict bytes no_sums ss)

@@ -5,13 +5,9 @@ use Rattle.std.proofs.lemmas.List.{drop-drop}
 use Rattle.std.proofs.lemmas.Slice.Eq.{bytes_eq-Decides}
 use Rattle.std.specs.Bool.{Decides}
 use Rattle.std.specs.Str.{bytes_eq}
-use Rattle.bw_digest.specs.Digest.{digest, Collide}
+use Rattle.bw_digest.specs.Digest.{digest}
 use Rattle.bw_digest.specs.Sums.{Reach, no_sums, after, sum_of, Fits}
-use Rattle.bw_digest.specs.Laws.{bytes_of, sums_of, WhatFitsWasWritten}
-
--- two runs of bytes have one digest
-abbrev Collision : Type 0
-Collision = (a : List ℕ) × (b : List ℕ) × Collide a b
+use Rattle.bw_digest.specs.Laws.{bytes_of, sums_of, CollidesAt, WhatFitsWasWritten}
 
 by_test : (b : Bool) (P : Type 0) → Decides b P → P ⊎ (P → ⊥)
 by_test true P tells = inl (tells.0 refl)
@@ -31,7 +27,7 @@ joined bytes p more from first later =
     ∙ ap (λ l. p ++ l) later
 
 found : (ps : List (List ℕ)) (row : Reach) (bytes : List ℕ) → Fits bytes row (sums_of row ps) →
-    (take (length (bytes_of ps)) (drop row.end bytes) ≡ bytes_of ps) ⊎ Collision
+    (take (length (bytes_of ps)) (drop row.end bytes) ≡ bytes_of ps) ⊎ CollidesAt bytes row.end ps
 found [] row bytes fits = inl refl
 found (p ∷ ps) row bytes fits =
     let count : row.end + length p - row.end ≡ length p = omega arith in
@@ -41,9 +37,9 @@ found (p ∷ ps) row bytes fits =
       | inl same ↦
           elim (found ps (after row (sum_of row p)) bytes fits.1) [
             | inl later ↦ inl (joined bytes p (bytes_of ps) row.end same later)
-            | inr collision ↦ inr collision
+            | inr collision ↦ inr (inr collision)
           ]
-      | inr other ↦ inr (piece, p, (other, digests))
+      | inr other ↦ inr (inl (other, digests))
     ]
 
 pub what_fits : WhatFitsWasWritten

@@ -3,7 +3,7 @@ use Rattle.std.proofs.Common.{◌≡◌, ℕ, zero, suc, ◌-◌, true, false, L
 use Rattle.std.proofs.Math.Seq.{take-length}
 use Rattle.std.proofs.lemmas.Bool.{ne_eqb}
 use Rattle.bw_digest.specs.Digest.{digest}
-use Rattle.bw_digest.specs.Sums.{Reach, after, follows, piece_to, standing, sum_in}
+use Rattle.bw_digest.specs.Sums.{Reach, after, follows, piece_to, standing, sum_in, with_all}
 use Rattle.bw_digest.specs.Checked.{checked}
 use Rattle.bw_digest.specs.declared.sum.Sum.{Sum}
 
@@ -67,3 +67,20 @@ over_a_piece bytes sums n k row new s all is next same comes ahead =
     ap (λ r. checked bytes r (standing n (length bytes) r (drop 24 (drop k sums)))) is_new
     ∙ sym (steps bytes row (sum_in (drop k sums)) _ its_same)
     ∙ sym (ap (checked bytes row) (goes_on (suc n) n (length bytes) row (drop k sums) refl its_next)) ∙ ahead
+
+-- the row that is told ends at a sum that does not follow
+pub told_no_more : (sums : List ℕ) (n k len : ℕ) (row all : Reach) (s : Sum) → s ≡ sum_in (take (length sums - k) (drop k sums)) → follows len row s ≡ false →
+    with_all row (standing n len row (drop k sums)) ≡ all → row ≡ all
+told_no_more sums n k len row all s is not ahead =
+    let not_next : follows len row (sum_in (drop k sums)) ≡ false = subst (λ t. follows len row t ≡ false) (read_there sums k s is) not in
+    sym (ap (with_all row) (ended n len row (drop k sums) not_next)) ∙ ahead
+
+-- it goes on behind one that does
+pub told_one_more : (sums : List ℕ) (n k len : ℕ) (row new all : Reach) (s : Sum) → s ≡ sum_in (take (length sums - k) (drop k sums)) → follows len row s ≡ true →
+    new ≡ after row s → with_all row (standing (suc n) len row (drop k sums)) ≡ all → with_all new (standing n len new (drop 24 (drop k sums))) ≡ all
+told_one_more sums n k len row new all s is next comes ahead =
+    let here = read_there sums k s is in
+    let its_next : follows len row (sum_in (drop k sums)) ≡ true = subst (λ t. follows len row t ≡ true) here next in
+    let is_new : new ≡ after row (sum_in (drop k sums)) = comes ∙ ap (after row) here in
+    ap (λ r. with_all r (standing n len r (drop 24 (drop k sums)))) is_new
+    ∙ sym (ap (with_all row) (goes_on (suc n) n len row (drop k sums) refl its_next)) ∙ ahead

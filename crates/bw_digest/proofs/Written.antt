@@ -2,7 +2,7 @@
 use Rattle.std.proofs.Common.{◌≡◌, ℕ, suc, ◌+◌, ◌-◌, ◌*◌, ◌/◌, ◌^◌, ◌<◌, ◌≤◌, ◌⊎◌, inl, inr, true, false, List, [], ◌∷◌, ◌++◌, length, drop, take, refl, sym, subst, ap, ◌∙◌, arith, append_assoc, length-append}
 use Rattle.std.proofs.lemmas.Grind.{common_steps}
 use Rattle.bw_digest.specs.Digest.{digest}
-use Rattle.bw_digest.specs.Sums.{Reach, no_sums, after, sum_of, sum_in, sum_bytes, follows, standing, with_all, piece_to, Fits}
+use Rattle.bw_digest.specs.Sums.{Reach, no_sums, after, sum_of, sum_in, sum_bytes, follows, standing, sums_in, with_all, told_end, piece_to, Fits}
 use Rattle.bw_digest.specs.Laws.{bytes_of, sums_of, row_bytes, AreWritten, NothingFollows, NoFalseAlarm}
 use Rattle.bw_digest.proofs.Walking.{ended, goes_on}
 use Rattle.bw_digest.proofs.ReadBack.{digest_fits, mark_fits, drop_exact, take_exact, read_back, behind_sum, length_three}
@@ -84,9 +84,47 @@ many_sums k x all is = omega (arith, is)
 short : (x : ℕ) → x < 24 → x / 24 ≡ 0
 short x few = omega (arith, few)
 
-its_end : (len : ℕ) (row : Reach) (left : List ℕ) → NothingFollows len row left → (length left / 24 ≡ 0) ⊎ (follows len row (sum_in left) ≡ false)
+its_end : (len : ℕ) (row : Reach) (left : List ℕ) → NothingFollows row left → (length left / 24 ≡ 0) ⊎ (follows len row (sum_in left) ≡ false)
 its_end len row left (inl few) = inl (short (length left) few)
-its_end len row left (inr stops) = inr stops
+its_end len row left (inr stops) = inr (stops len)
+
+-- ---- nothing is missing
+
+-- all pieces end below the greatest number
+below_most : (ps : List (List ℕ)) (from : ℕ) → from < 2 ^ 64 → AreWritten from ps → from + length (bytes_of ps) < 2 ^ 64
+below_most [] from few written = omega (arith, few)
+below_most (p ∷ ps) from few written =
+    let long = length-append p (bytes_of ps) in
+    let later = below_most ps (from + length p) written.1 written.2 in
+    omega (arith, long, later)
+
+-- where the last piece ends
+its_last : (ps : List (List ℕ)) (row : Reach) → (with_all row (sums_of row ps)).end ≡ row.end + length (bytes_of ps)
+its_last [] row = omega arith
+its_last (p ∷ ps) row =
+    let later : (with_all (after row (sum_of row p)) (sums_of (after row (sum_of row p)) ps)).end ≡ row.end + length p + length (bytes_of ps) =
+    its_last ps (after row (sum_of row p)) in
+    let long = length-append p (bytes_of ps) in
+    omega (arith, later, long)
+
+-- the sums that are told are those that were written
+all_told : (ps : List (List ℕ)) (left : List ℕ) → AreWritten 0 ps → NothingFollows (with_all no_sums (sums_of no_sums ps)) left →
+    sums_in (2 ^ 64 - 1) (row_bytes (sums_of no_sums ps) ++ left) ≡ sums_of no_sums ps
+all_told ps left written stops =
+    let ss = sums_of no_sums ps in
+    let whole : length (row_bytes ss ++ left) ≡ 24 * length ps + length left =
+    length-append (row_bytes ss) left ∙ ap (λ n. n + length left) (length_row ps no_sums) in
+    let few : 0 + length (bytes_of ps) ≤ 2 ^ 64 - 1 = (let e = below_most ps 0 (omega arith) written in omega (arith, e)) in
+    all_count ps (length (row_bytes ss ++ left) / 24) (length left / 24) (2 ^ 64 - 1) no_sums left (many_sums (length ps) (length left) _ whole) few written
+    (its_end (2 ^ 64 - 1) (with_all no_sums ss) left stops)
+
+none_missing : (ps : List (List ℕ)) (tail left : List ℕ) → AreWritten 0 ps → NothingFollows (with_all no_sums (sums_of no_sums ps)) left →
+    told_end (row_bytes (sums_of no_sums ps) ++ left) ≤ length (bytes_of ps ++ tail)
+none_missing ps tail left written stops =
+    let told : told_end (row_bytes (sums_of no_sums ps) ++ left) ≡ length (bytes_of ps) =
+    ap (λ ss. (with_all no_sums ss).end) (all_told ps left written stops) ∙ its_last ps no_sums ∙ (let e : 0 + length (bytes_of ps) ≡ length (bytes_of ps) = omega arith in e) in
+    let long = length-append (bytes_of ps) tail in
+    omega (arith, told, long)
 
 pub no_alarm : NoFalseAlarm
 no_alarm ps tail left written stops =
@@ -98,4 +136,5 @@ no_alarm ps tail left written stops =
       all_count ps (length (row_bytes ss ++ left) / 24) (length left / 24) len no_sums left (many_sums (length ps) (length left) _ whole) inside written
           (its_end len (with_all no_sums ss) left stops),
       all_fit ps no_sums [] tail refl,
+      none_missing ps tail left written stops,
     )

@@ -2,6 +2,5 @@
 pub mod Digest
 pub mod Sums
 pub mod Rows
-pub mod Laws
--- What a private function says.
 pub mod Checked
+pub mod Laws

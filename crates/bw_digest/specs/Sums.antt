@@ -1,6 +1,6 @@
 -- What a row of sums says of the bytes of a file. The file is cut into consecutive pieces; the sum of a piece tells where it ends and the
 -- digest of its bytes, and has a mark by which it follows the sum before it.
-use Rattle.std.specs.Prelude.{◌≡◌, ◌≢◌, ℕ, zero, suc, ◌+◌, ◌-◌, ◌/◌, ◌==◌, ◌&&◌, nat_lt, nat_le, if◌then◌else◌, Bool, List, [], ◌∷◌, ◌++◌, length, take, drop}
+use Rattle.std.specs.Prelude.{◌≡◌, ◌≢◌, ℕ, zero, suc, ◌+◌, ◌-◌, ◌/◌, ◌==◌, ◌&&◌, ◌^◌, nat_lt, nat_le, if◌then◌else◌, Bool, List, [], ◌∷◌, ◌++◌, length, take, drop}
 use Rattle.byteorder.specs.Endian.{little_bytes, little_number}
 use Rattle.bw_digest.specs.Digest.{digest}
 use Rattle.bw_digest.specs.declared.sum.Sum.{Sum}
@@ -63,12 +63,16 @@ standing (suc n) len row sums =
 abbrev pub sums_in : ℕ → List ℕ → List Sum
 sums_in len sums = standing (length sums / 24) len no_sums sums
 
--- ---- whether bytes fit their sums
-
 -- the row with all of these
 abbrev pub with_all : Reach → List Sum → Reach
 with_all row [] = row
 with_all row (s ∷ ss) = with_all (after row s) ss
+
+-- where the last piece ends of which a file of sums tells: a sum is not asked whether its piece is there
+abbrev pub told_end : List ℕ → ℕ
+told_end sums = (with_all no_sums (sums_in (2 ^ 64 - 1) sums)).end
+
+-- ---- whether bytes fit their sums
 
 -- consecutive pieces, each with its digest
 abbrev pub Fits : List ℕ → Reach → List Sum → Type 0

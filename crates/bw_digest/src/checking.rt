@@ -1,31 +1,28 @@
 // The check of bytes against a row of sums.
 ghost use Rattle.std.specs.Prelude.{◌≡◌, ◌≤◌, ◌↔◌, length, IsOk, IfOk, IfErr};
-ghost use Rattle.bw_digest.specs.Sums.{follows, sums_in, with_all, no_sums, Fits, IsDamagedAt};
+ghost use Rattle.bw_digest.specs.Sums.{sums_in, with_all, no_sums, told_end, Fits};
 ghost use Rattle.bw_digest.specs.Rows.{reach};
-ghost use Rattle.bw_digest.specs.Checked.{checked, IsAnswer};
+ghost use Rattle.bw_digest.specs.Checked.{checked, IsAnswer, IsDamage};
 
 use crate::digest::digest_of;
 use crate::row::Row;
-use crate::sum::{SUM_LEN, Sum, mark};
+use crate::sum::{SUM_LEN, Sum};
 use thiserror::Error;
 
-/// A piece has not the digest that it was given: it, or what it stands in, was changed.
+/// Why bytes do not fit their sums.
 #[derive(Clone, Copy, Debug, PartialEq, Eq, Error)]
-#[error("damaged at {at}")]
-pub struct Damaged {
-    /// Where the piece begins, in bytes.
-    pub at: u64,
+pub enum Damage {
+    /// The piece that begins here, in bytes, has not the digest that it was given: it, or what it
+    /// stands in, was changed.
+    #[error("damaged at {at}")]
+    Changed { at: u64 },
+    /// Each piece that is all there fits, and the bytes end here: the sums say that they went on.
+    #[error("missing from {from} to {to}")]
+    Missing { from: u64, to: u64 },
 }
 
-// Whether a sum follows a row, in a file of this length.
-fn is_next(len: u64, row: Row, sum: Sum) -> bool
-    ensures { result ≡ follows len (reach row) sum }
-{
-    row.end() < sum.end && sum.end <= len && sum.mark == mark(row.mark(), sum.end, sum.digest)
-}
-
-// The check, piece by piece.
-fn walked(bytes: &[u8], sums: &[u8]) -> Result<Row, Damaged>
+// The check, piece by piece; where the first piece begins that does not fit.
+fn walked(bytes: &[u8], sums: &[u8]) -> Result<Row, u64>
     ensures answer { IsAnswer result
         (checked bytes.now no_sums (sums_in (length bytes.now) sums.now)) }
     ensures within { IfOk result (λ row. (reach row).end ≤ length bytes.now) }
@@ -33,34 +30,60 @@ fn walked(bytes: &[u8], sums: &[u8]) -> Result<Row, Damaged>
     let mut row = Row::new();
     for i in 0..sums.len() / SUM_LEN {
         let sum = Sum::read(&sums[i * SUM_LEN..]);
-        if !is_next(bytes.len() as u64, row, sum) {
+        if !row.is_followed_by(sum, bytes.len() as u64) {
             return Ok(row);
         }
         let at = row.end();
         let piece = &bytes[at as usize..sum.end as usize];
         if digest_of(piece) != sum.digest {
-            return Err(Damaged { at });
+            return Err(at);
         }
         row = row.with(sum);
     }
     Ok(row)
 }
 
+/// Where the last piece ends of which these sums say something, in bytes, be it there or not; 0 if
+/// none counts. It costs a walk over the sums.
+pub fn told_end(sums: &[u8]) -> u64
+    ensures { result ≡ told_end sums.now }
+{
+    let mut row = Row::new();
+    let count = sums.len() / SUM_LEN;
+    for i in 0..count {
+        let sum = Sum::read(&sums[i * SUM_LEN..]);
+        if !row.is_followed_by(sum, u64::MAX) {
+            return row.end();
+        }
+        row = row.with(sum);
+    }
+    row.end()
+}
+
 /// Checks the bytes of a file against the bytes of its sums, and answers the row of those that count.
 ///
 /// These are the first ones, as far as each follows the one before it: what a crash may have left
-/// behind them is not looked at, nor is a sum whose piece is not all there. Bytes behind the last
-/// piece have no digest. `Damaged` tells where the first piece begins that does not fit. It costs one
-/// walk over the bytes.
-pub fn check(bytes: &[u8], sums: &[u8]) -> Result<Row, Damaged>
+/// after them is not looked at. Bytes after the last piece have no digest. `Changed` says where the
+/// first piece begins that does not fit. `Missing` comes if all pieces that are there fit, and a sum
+/// that follows says that there was more: a sum is written once its piece stands, so these bytes were
+/// lost. It costs one walk over the bytes, and two over the sums.
+pub fn check(bytes: &[u8], sums: &[u8]) -> Result<Row, Damage>
     ensures whole { IsOk result ↔
-        Fits bytes.now no_sums (sums_in (length bytes.now) sums.now) }
+        (Fits bytes.now no_sums (sums_in (length bytes.now) sums.now)
+        × (told_end sums.now ≤ length bytes.now)) }
     ensures row { IfOk result
         (λ row. reach row ≡ with_all no_sums (sums_in (length bytes.now) sums.now)) }
     ensures within { IfOk result (λ row. (reach row).end ≤ length bytes.now) }
-
-    ensures damaged { IfErr result
-        (λ d. IsDamagedAt bytes.now no_sums (sums_in (length bytes.now) sums.now) d.at) }
+    ensures damage { IfErr result (λ d. IsDamage bytes.now sums.now d) }
 {
-    walked(bytes, sums)
+    let row = match walked(bytes, sums) {
+        Ok(row) => row,
+        Err(at) => return Err(Damage::Changed { at }),
+    };
+    let from = bytes.len() as u64;
+    let to = told_end(sums);
+    if to > from {
+        return Err(Damage::Missing { from, to });
+    }
+    Ok(row)
 }

@@ -13,6 +13,6 @@ pub mod laws;
 mod row;
 mod sum;
 
-pub use checking::{Damaged, check};
+pub use checking::{Damage, check, told_end};
 pub use row::Row;
 pub use sum::{SUM_LEN, Sum};

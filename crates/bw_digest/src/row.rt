@@ -17,7 +17,7 @@ pub struct Row {
 }
 
 impl Row {
-    ghost use Rattle.bw_digest.specs.Sums.{sum_of, after, no_sums};
+    ghost use Rattle.bw_digest.specs.Sums.{sum_of, after, follows, no_sums};
     ghost use Rattle.bw_digest.specs.Rows.{reach};
 
     /// Of no sums.
@@ -46,13 +46,6 @@ impl Row {
         self.end
     }
 
-    /// The mark of the last sum.
-    pub(crate) fn mark(&self) -> u64
-        ensures { result ≡ (reach self.now).mark }
-    {
-        self.mark
-    }
-
     /// The sum of the next piece.
     pub fn sum_of(&self, piece: &[u8]) -> Sum
         requires { (reach self.now).end + length piece.now < 2 ^ 64 }
@@ -77,5 +70,13 @@ impl Row {
             end: sum.end,
             mark: sum.mark,
         }
+    }
+
+    /// Whether a sum follows this row, beside a file of so many bytes: it ends after the row's last
+    /// piece and not after the file, and its mark is the one that comes next.
+    pub fn is_followed_by(&self, sum: Sum, len: u64) -> bool
+        ensures { result ≡ follows len (reach self.now) sum }
+    {
+        self.end < sum.end && sum.end <= len && sum.mark == mark(self.mark, sum.end, sum.digest)
     }
 }

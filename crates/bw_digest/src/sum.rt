@@ -1,5 +1,6 @@
 // Sums, and their bytes.
-ghost use Rattle.std.specs.Prelude.{◌≡◌, ◌≤◌, length};
+ghost use Rattle.std.specs.Prelude.{◌≡◌, ◌≤◌, ◌==◌, length};
+ghost use Rattle.bw_digest.specs.Digest.{digest};
 ghost use Rattle.bw_digest.specs.Sums.{three, mark_of, sum_bytes, sum_in};
 
 use crate::digest::digest_of;
@@ -48,7 +49,7 @@ impl Sum {
     }
 
     /// The sum that these bytes begin with.
-    pub(crate) fn read(bytes: &[u8]) -> Sum
+    pub fn read(bytes: &[u8]) -> Sum
         requires { 24 ≤ length bytes.now }
         ensures { result ≡ sum_in bytes.now }
     {
@@ -57,5 +58,12 @@ impl Sum {
             digest: LittleEndian::read_u64(&bytes[8..]),
             mark: LittleEndian::read_u64(&bytes[16..]),
         }
+    }
+
+    /// Whether a piece has the digest that this sum says. It costs a walk over the piece.
+    pub fn fits(&self, piece: &[u8]) -> bool
+        ensures { result ≡ (digest piece.now == self.now.digest) }
+    {
+        digest_of(piece) == self.digest
     }
 }

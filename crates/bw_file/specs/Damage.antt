@@ -1,11 +1,25 @@
 -- What a contract sees of a file that is damaged.
-use Rattle.std.specs.Prelude.{◌≡◌, ℕ, List, length}
-use Rattle.bw_digest.specs.Sums.{no_sums, sums_in, IsDamagedAt}
+use Rattle.std.specs.Prelude.{◌≡◌, ℕ, Bool, true, false, List}
+use Rattle.bw_digest.specs.Checked as digest
+use Rattle.bw_digest.specs.declared.checking.Damage.TheVariants.{Changed}
+use Rattle.bw_digest.specs.declared.checking.Damage.TheVariants as damage
 use Rattle.bw_file.specs.declared.refusals.FolderFault.{FolderFault}
-use Rattle.bw_file.specs.declared.refusals.FolderFault.TheVariants.{Damaged}
+use Rattle.bw_file.specs.declared.refusals.FolderFault.TheVariants.{Damaged, Missing}
+use Rattle.bw_digest.specs.declared.checking.Damage.{Damage}
 
--- it names the lease, and where in these bytes the first piece begins that does not fit these sums
+-- what is told of a lease's file whose bytes do not fit its sums
+abbrev pub fault_of : ℕ → Damage → FolderFault
+fault_of lease (Changed at) = Damaged lease at
+fault_of lease (damage.Missing from to) = Missing lease from to
+
+-- bytes of a file were changed or lost
+abbrev pub tells_damage : FolderFault → Bool
+tells_damage (Damaged lease at) = true
+tells_damage (Missing lease from to) = true
+tells_damage _ = false
+
+-- it names the lease, and what these sums say against these bytes
 pub record IsDamage (lease : ℕ) (bytes sums : List ℕ) (cause : FolderFault) : Type 0 where
-  pub at : ℕ
-  pub names : cause ≡ Damaged lease at
-  pub begins : IsDamagedAt bytes no_sums (sums_in (length bytes) sums) at
+  pub its : Damage
+  pub names : cause ≡ fault_of lease its
+  pub tells : digest.IsDamage bytes sums its

@@ -13,9 +13,9 @@ use crate::files::{Pair, SegmentFile, bytes_of, copy_of, with_capacity};
 use crate::names::{leases_in, lock_path, segment_path, sums_path};
 use crate::refusals::{FolderFault, NotOpened};
 use crate::segment::{FileSegment, Shared};
-use crate::sums::{checked, complete, note, sums_of};
+use crate::sums::{checked, complete, sums_for, sums_of};
 use bw_device::{Lease, MAX_CAPACITY, MemSegment};
-use bw_digest::{Row, Sum};
+use bw_digest::Row;
 use std::alloc::Global;
 use std::fs::{self, File, OpenOptions};
 use std::io::{self, ErrorKind};
@@ -113,7 +113,8 @@ impl<F: SegmentFile> Folder<F> {
         })
     }
 
-    /// The numbers of the leases that have a file in the folder, be it empty, ascending.
+    /// The numbers of the leases that have a file in the folder, be it empty, or sums alone,
+    /// ascending.
     pub fn leases<R: AllocGlobal + Files<File = F> + Clone + Drop>(
         &self,
         rt: &R,
@@ -168,8 +169,8 @@ impl<F: SegmentFile> Folder<F> {
     /// Its capacity is the greater of this one, in bytes, and the file's length. For a moment it
     /// takes memory for both. `InUse` where a segment stands on the file, `TooLong` where the file
     /// is longer than any segment may be, `NotPlain` where it is none, `Damaged` where its bytes do
-    /// not fit the sums beside it; the file's bytes stay as they are in each refusal, and so do the
-    /// sums in these. Bytes that no sum tells of, as in a folder without sums, get one here.
+    /// not fit the sums beside it, `Missing` if the sums say that there were more; the file's bytes
+    /// stay as they are in each refusal, and so do the sums in these. Bytes that no sum tells of, as in a folder without sums, get one here.
     pub fn segment<R: AllocGlobal + Files<File = F>>(
         &self,
         rt: &R,
@@ -238,27 +239,30 @@ impl<F: SegmentFile> Folder<F> {
         }
     }
 
-    /// Writes these bytes into the file of this lease, which is made where it is missing, in place of
-    /// what it held, and waits until they stand.
+    /// Writes these bytes into the file of this lease, which is made if it is missing, in place of
+    /// what it held, and waits until they stand. Then it writes the sums of the pieces that end at
+    /// these offsets, which ascend; the last piece ends with the bytes.
     ///
-    /// `TooLong` where they are more than any segment may have, `InUse` where a segment stands on the
-    /// file, `NotPlain` where it is no plain file: the file stays as it is then. What it holds behind
+    /// `TooLong` if they are more than any segment may have, `InUse` if a segment stands on the
+    /// file, `NotPlain` if it is no plain file: the file stays as it is then. What it holds after
     /// another refusal is not known.
     pub fn write<R: AllocGlobal + Files<File = F>>(
         &self,
         rt: &R,
         lease: u32,
         bytes: &[u8],
+        ends: &[u64],
     ) -> Result<(), FolderFault> {
         if bytes.len() as u64 > MAX_CAPACITY {
             return Err(FolderFault::TooLong);
         }
+        let rows = sums_for(rt.alloc(), bytes, ends)?;
         let Pair { file, sums } = self.taken(rt, lease)?;
         cut_to_nothing(&sums)?;
         file.set_len(0)?;
         file.write_all_at(bytes, 0)?;
         file.sync_all()?;
-        note(&sums, Row::new(), bytes)?;
+        sums.write_all_at(&rows, 0)?;
         Ok(())
     }
 
@@ -272,10 +276,12 @@ impl<F: SegmentFile> Folder<F> {
         rt: &R,
         lease: u32,
         bytes: &[u8],
+        ends: &[u64],
     ) -> Result<HeldBack<F>, FolderFault> {
         if bytes.len() as u64 > MAX_CAPACITY {
             return Err(FolderFault::TooLong);
         }
+        let rows = sums_for(rt.alloc(), bytes, ends)?;
         let files = self.taken(rt, lease)?;
         cut_to_nothing(&files.sums)?;
         files.file.set_len(0)?;
@@ -285,7 +291,7 @@ impl<F: SegmentFile> Folder<F> {
         files.file.write_all_at(&[0], 0)?;
         files.file.write_all_at(rest, 1)?;
         files.file.sync_all()?;
-        let last = Some((*first, Row::new().sum_of(bytes)));
+        let last = Some((*first, rows));
         Ok(HeldBack { files, last })
     }
 
@@ -304,9 +310,9 @@ impl<F: SegmentFile> Folder<F> {
         let beside = sums_path(rt, self.path.as_str(), lease)?;
         let file = OpenOptions::new().write(true).open(rt, name.as_str())?;
         file.lock_alone()?;
-        // Nobody waits for this cut: a sum that ends behind its file does not count, and before bytes
-        // follow there `spare` or `segment` waits for it.
-        opened(rt, beside.as_str())?.set_len(0)?;
+        // The sums go first, as in `emptied`: one that outlasted its bytes would say that these were
+        // lost.
+        cut_to_nothing(&opened(rt, beside.as_str())?)?;
         cut_to_nothing(&file)?;
         Ok(())
     }
@@ -316,19 +322,19 @@ impl<F: SegmentFile> Folder<F> {
 #[derive(Drop)]
 pub struct HeldBack<F = File> {
     files: Pair<F>,
-    /// The first byte, and the sum of all. None where the file has no bytes.
-    last: Option<(u8, Sum)>,
+    /// The first byte, and the sums of all pieces. None if the file has no bytes.
+    last: Option<(u8, Vec<u8>)>,
 }
 
 impl<F: SegmentFile> HeldBack<F> {
-    /// Writes the first byte, and waits until it stands; then the sum. What the file holds behind a
+    /// Writes the first byte, and waits until it stands; then the sums. What the file holds behind a
     /// refusal is not known of that byte alone.
     pub fn end(self) -> Result<(), FolderFault> {
         let HeldBack { files, last } = self;
-        if let Some((first, sum)) = last {
+        if let Some((first, rows)) = last {
             files.file.write_all_at(&[first], 0)?;
             files.file.sync_all()?;
-            files.sums.write_all_at(&sum.to_bytes(), 0)?;
+            files.sums.write_all_at(&rows, 0)?;
         }
         Ok(())
     }

@@ -59,11 +59,21 @@ fn plain<R: Files>(rt: &R, path: String) -> Result<String, FolderFault>
     }
 }
 
-// The number of the lease whose file has this name. A name that no lease's file has is not ours.
+// What a name of a segment's file, or of one of sums, has between its beginning and its end.
+fn digits_of(name: &str) -> Option<&str> {
+    let rest = name.strip_prefix("segment-")?;
+    match rest.strip_suffix(".bw") {
+        Some(digits) => Some(digits),
+        None => rest.strip_suffix(".sum"),
+    }
+}
+
+// The number of the lease whose file, or whose file of sums, has this name. A name that no lease's
+// file has is not ours.
 fn lease_of(name: &str) -> Option<u32>
     ensures { IfSome result (λ lease. lease < MAX_LEASES) }
 {
-    let number = name.strip_prefix("segment-")?.strip_suffix(".bw")?;
+    let number = digits_of(name)?;
     if number.len() != 4 || number.starts_with('+') {
         return None;
     }

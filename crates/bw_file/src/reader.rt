@@ -71,7 +71,8 @@ impl<F: SegmentFile> FolderReader<F> {
         Ok(FolderReader { path, lock })
     }
 
-    /// The numbers of the leases that have a file in the folder, be it empty, ascending.
+    /// The numbers of the leases that have a file in the folder, be it empty, or sums alone,
+    /// ascending.
     pub fn leases<R: AllocGlobal + Files<File = F> + Clone + Drop>(
         &self,
         rt: &R,
@@ -82,8 +83,8 @@ impl<F: SegmentFile> FolderReader<F> {
         leases_in(rt, self.path.as_str())
     }
 
-    /// The bytes of the file of this lease, which has to be there, be they damaged or not. `TooLong`
-    /// where the file is longer than any segment may be, `NotPlain` where it is none.
+    /// The bytes of the file of this lease, be they damaged or not; none if only its sums are there,
+    /// or nothing. `TooLong` if the file is longer than any segment may be, `NotPlain` if it is none.
     pub fn bytes<R: AllocGlobal + Files<File = F>>(
         &self,
         rt: &R,
@@ -93,12 +94,16 @@ impl<F: SegmentFile> FolderReader<F> {
         ensures cause { IfErr result (λ cause. cause ≢ BadConfig) }
     {
         let name = segment_path(rt, self.path.as_str(), lease)?;
-        let file = fs::open(rt, name.as_str())?;
-        bytes_of(rt.alloc(), &file)
+        match fs::open(rt, name.as_str()) {
+            Ok(file) => bytes_of(rt.alloc(), &file),
+            Err(error) if error.kind() == ErrorKind::NotFound => Ok(Vec::new(rt.alloc())),
+            Err(error) => Err(FolderFault::from(error)),
+        }
     }
 
-    // The bytes of the sums beside the file of this lease. None where there are no sums.
-    fn sums<R: AllocGlobal + Files<File = F>>(
+    /// The bytes of the sums beside the file of this lease, be they lawful or not; none if there are
+    /// no sums. `NotPlain` if what has their name is no plain file.
+    pub fn sums<R: AllocGlobal + Files<File = F>>(
         &self,
         rt: &R,
         lease: u32,
@@ -129,8 +134,8 @@ impl<F: SegmentFile> FolderReader<F> {
         Ok((bytes, row))
     }
 
-    /// The bytes of the file of this lease, which has to be there, where they fit the sums beside it.
-    /// `Damaged` where they do not, `TooLong` where the file is longer than any segment may be,
+    /// The bytes of the file of this lease, if they fit the sums beside it. `Damaged` if they do not,
+    /// `Missing` if the sums say that there were more, `TooLong` where the file is longer than any segment may be,
     /// `NotPlain` where one of the two files is none.
     pub fn sound_bytes<R: AllocGlobal + Files<File = F>>(
         &self,
@@ -144,7 +149,7 @@ impl<F: SegmentFile> FolderReader<F> {
         Ok(bytes)
     }
 
-    /// Reads the file of this lease, which has to be there, and tells how much of it has a digest,
+    /// Reads the file of this lease, and tells how much of it has a digest,
     /// where all of that fits. It is refused as `sound_bytes` is.
     pub fn verify<R: AllocGlobal + Files<File = F>>(
         &self,
@@ -164,11 +169,11 @@ impl<F: SegmentFile> FolderReader<F> {
         })
     }
 
-    /// A segment in memory with the bytes of the file of this lease, which has to be there, and which
-    /// fit the sums beside it.
+    /// A segment in memory with the bytes of the file of this lease, which fit the sums beside it.
     ///
     /// Its capacity is the greater of this one, in bytes, and the file's length. What is appended to
-    /// it stands in memory alone. `Damaged` where the bytes do not fit, `TooLong` where the file is
+    /// it stands in memory alone. `Damaged` if the bytes do not fit, `Missing` if the sums say that
+    /// there were more, `TooLong` where the file is
     /// longer than any segment may be, `NotPlain` where one of the two files is none.
     pub fn copy<R: AllocGlobal + Files<File = F>>(
         &self,

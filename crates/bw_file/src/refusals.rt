@@ -29,12 +29,31 @@ pub enum FolderFault {
     /// digest. Nothing was written. What stands before it fits.
     #[error("damaged: segment-{lease:04}.bw at {at}")]
     Damaged { lease: u32, at: u64 },
+    /// A file ends at `from`, in bytes, and a sum beside it says that it went on, up to `to`. A sum is
+    /// written once its piece stands, so these bytes were lost, or the folder was copied in part.
+    /// Nothing was written. What is there fits.
+    #[error("missing: segment-{lease:04}.bw from {from} to {to}")]
+    Missing { lease: u32, from: u64, to: u64 },
     /// Another process has the folder or the file open, or a value of this one.
     #[error("in use")]
     InUse,
     /// The system refused a call.
     #[error("{0}")]
     System(io::Error),
+}
+
+impl FolderFault {
+    ghost use Rattle.bw_file.specs.Damage.{tells_damage};
+
+    /// Whether it says that bytes of a file were changed or lost.
+    pub fn is_damage(&self) -> bool
+        ensures { result ≡ tells_damage self.now }
+    {
+        matches!(
+            self,
+            FolderFault::Damaged { .. } | FolderFault::Missing { .. }
+        )
+    }
 }
 
 impl From<AllocError> for FolderFault {

@@ -1,7 +1,7 @@
 // The sums beside a segment's file: by them its bytes are checked when they are read again.
 ghost use Rattle.std.specs.Prelude.{◌≡◌, ◌≢◌, ◌+◌, ◌≤◌, ◌↔◌, length, IsOk, IfOk, IfErr};
 ghost use Rattle.bw_device.specs.declared.memory.TheConstants.{MAX_CAPACITY};
-ghost use Rattle.bw_digest.specs.Sums.{no_sums, sums_in, with_all, Fits};
+ghost use Rattle.bw_digest.specs.Sums.{no_sums, sums_in, with_all, told_end, Fits};
 ghost use Rattle.bw_digest.specs.Rows.{reach};
 ghost use Rattle.bw_file.specs.Damage.{IsDamage};
 ghost use Rattle.bw_file.specs.declared.refusals.FolderFault.TheVariants.{BadConfig};
@@ -9,8 +9,8 @@ ghost use Rattle.bw_file.specs.declared.refusals.FolderFault.TheVariants.{BadCon
 use crate::files::SegmentFile;
 use crate::refusals::FolderFault;
 use bw_device::MAX_CAPACITY;
-use bw_digest::{Row, SUM_LEN, check};
-use std::alloc::Global;
+use bw_digest::{Damage, Row, SUM_LEN, check};
+use std::alloc::{AllocError, Global};
 use std::io;
 
 /// The bytes of an open file of sums. Of a long one as many are read as a segment may have: what
@@ -24,10 +24,11 @@ pub(crate) fn sums_of<F: SegmentFile>(alloc: Global, sums: &F) -> Result<Vec<u8>
     Ok(bytes)
 }
 
-/// The row of the sums that count, where the bytes of the lease's file fit them.
+/// The row of the sums that count, if the bytes of the lease's file fit them, and none is missing.
 pub(crate) fn checked(lease: u32, bytes: &[u8], sums: &[u8]) -> Result<Row, FolderFault>
     ensures whole { IsOk result ↔
-        Fits bytes.now no_sums (sums_in (length bytes.now) sums.now) }
+        (Fits bytes.now no_sums (sums_in (length bytes.now) sums.now)
+        × (told_end sums.now ≤ length bytes.now)) }
     ensures row { IfOk result
         (λ row. reach row ≡ with_all no_sums (sums_in (length bytes.now) sums.now)) }
     ensures within { IfOk result (λ row. (reach row).end ≤ length bytes.now) }
@@ -35,10 +36,8 @@ pub(crate) fn checked(lease: u32, bytes: &[u8], sums: &[u8]) -> Result<Row, Fold
 {
     match check(bytes, sums) {
         Ok(row) => Ok(row),
-        Err(damaged) => Err(FolderFault::Damaged {
-            lease,
-            at: damaged.at,
-        }),
+        Err(Damage::Changed { at }) => Err(FolderFault::Damaged { lease, at }),
+        Err(Damage::Missing { from, to }) => Err(FolderFault::Missing { lease, from, to }),
     }
 }
 
@@ -54,6 +53,35 @@ pub(crate) fn note<F: SegmentFile>(sums: &F, row: Row, piece: &[u8]) -> io::Resu
     let sum = row.sum_of(piece);
     sums.write_all_at(&sum.to_bytes(), row.count() * SUM_LEN as u64)?;
     Ok(row.with(sum))
+}
+
+// Adds the sum of the piece that ends here to the row, and its bytes to the list. An end that is not
+// ahead, or that is past the bytes, adds nothing.
+fn add_sum(list: &mut Vec<u8>, row: Row, bytes: &[u8], end: u64) -> Result<Row, AllocError>
+    requires within { length bytes.now ≤ MAX_CAPACITY }
+    requires end { (reach row).end ≤ length bytes.now }
+    ensures { IfOk result (λ new. (reach new).end ≤ length bytes.now) }
+{
+    if end <= row.end() || end > bytes.len() as u64 {
+        return Ok(row);
+    }
+    let sum = row.sum_of(&bytes[row.end() as usize..end as usize]);
+    list.extend_from_slice(&sum.to_bytes())?;
+    Ok(row.with(sum))
+}
+
+/// The sums of all these bytes, in pieces that end here; the last one ends with the bytes. Ends
+/// ascend: one that does not, or that is past the bytes, is passed over.
+pub(crate) fn sums_for(alloc: Global, bytes: &[u8], ends: &[u64]) -> Result<Vec<u8>, AllocError>
+    requires { length bytes.now ≤ MAX_CAPACITY }
+{
+    let mut list = Vec::new(alloc);
+    let mut row = Row::new();
+    for end in ends {
+        row = add_sum(&mut list, row, bytes, *end)?;
+    }
+    let _ = add_sum(&mut list, row, bytes, bytes.len() as u64)?;
+    Ok(list)
 }
 
 // The file of sums ends with this row, and with one sum for the bytes behind its last piece. Where it

@@ -1,3 +1,4 @@
 pub mod Grouped
 pub mod Laned
+pub mod Lives
 pub mod Machines

@@ -6,11 +6,11 @@ use Rattle.std.proofs.lemmas.List.{take-append-le, length-take-le}
 use Rattle.bw_history.specs.declared.entry.Entry.{Entry}
 use Rattle.bw_history.specs.History.{is_grouped}
 use Rattle.bw_history.specs.Machine.{Machine, Step, IsMachine, IsGroup, takes, keeps, breaks, shows}
-use Rattle.bw_history.specs.Laws.{NothingLost, DurableStays, StopsLeaveBeginnings, CrashesLoseNothing, IsWholeBeginning}
+use Rattle.bw_history.specs.Laws.{NothingLost, DurableStays, StopsLeaveBeginnings, IsWholeBeginning}
 use Rattle.bw_history.proofs.Grouped.{grouped_more}
 
 -- a shorter beginning of a beginning
-take_take : (i j : ℕ) (xs : List Entry) → i ≤ j → take i (take j xs) ≡ take i xs
+pub take_take : (i j : ℕ) (xs : List Entry) → i ≤ j → take i (take j xs) ≡ take i xs
 take_take zero j xs le = refl
 take_take (suc i) zero xs le = absurd (omega arith)
 take_take (suc i) (suc j) [] le = refl
@@ -21,7 +21,7 @@ long [] ys = omega arith
 long (x ∷ xs) ys = (let rest = long xs ys in omega arith)
 
 nothing_lost : (m : Machine) → IsMachine m → NothingLost m m
-nothing_lost m is = record { lawful = is; durable = omega arith; same = refl }
+nothing_lost m is = record { lawful = is; start = refl; durable = omega arith; same = refl }
 
 then_lost : (a b c : Machine) → NothingLost a b → NothingLost b c → NothingLost a c
 then_lost a b c x y =
@@ -29,6 +29,7 @@ then_lost a b c x y =
     let two = y.durable in
     record {
       lawful = y.lawful;
+      start = y.start ∙ x.start;
       durable = omega arith;
       same =
           sym (take_take a.durable b.durable c.entries one) ∙ ap (take a.durable) y.same
@@ -51,6 +52,7 @@ took m group is one =
         durable = is.durable;
         written = omega arith;
       };
+      start = refl;
       durable = omega arith;
       same = kept;
     }
@@ -63,6 +65,7 @@ kept_all m is =
     let all = ap is_grouped (take-length m.entries) ∙ is.whole in
     record {
       lawful = record { whole = is.whole; kept = all; left = all; shown = omega arith; durable = omega arith; written = omega arith };
+      start = refl;
       durable = omega arith;
       same = refl;
     }
@@ -74,6 +77,7 @@ broken m is =
     let all = ap is_grouped (take-length m.entries) ∙ is.whole in
     record {
       lawful = record { whole = is.whole; kept = is.kept; left = all; shown = is.shown; durable = omega arith; written = omega arith };
+      start = refl;
       durable = omega arith;
       same = refl;
     }
@@ -81,6 +85,7 @@ broken m is =
 shown : (m : Machine) → IsMachine m → NothingLost m (shows m)
 shown m is = record {
   lawful = record { whole = is.whole; kept = is.kept; left = is.left; shown = omega arith; durable = is.durable; written = is.written };
+  start = refl;
   durable = omega arith;
   same = refl;
 }
@@ -112,20 +117,3 @@ left_upto m left n is low high whole =
 pub stops_leave_beginnings : StopsLeaveBeginnings
 stops_leave_beginnings m left is (inl e) = (let low = is.durable in let high = is.written in left_upto m left m.durable e (omega arith) (omega arith) is.kept)
 stops_leave_beginnings m left is (inr e) = left_upto m left m.written e is.durable is.written is.left
-
--- all of them
-whole_whole : (es : List Entry) (n : ℕ) → n ≡ length es → is_grouped es ≡ true → is_grouped (take n es) ≡ true
-whole_whole es n e whole = ap (λ k. is_grouped (take k es)) e ∙ ap is_grouped (take-length es) ∙ whole
-
-pub crashes_lose_nothing : CrashesLoseNothing
-crashes_lose_nothing old new is c =
-    let left = stops_leave_beginnings old new.entries is c.0 in
-    let many = left.many in
-    let durable = c.1 in
-    let written = c.2 in
-    let seen = c.3 in
-    record {
-      lawful = record { whole = left.whole; kept = whole_whole new.entries new.durable durable left.whole; left = whole_whole new.entries new.written written left.whole; shown = omega arith; durable = omega arith; written = omega arith };
-      durable = omega arith;
-      same = left.kept;
-    }

@@ -3,6 +3,7 @@ pub mod Entries
 pub mod History
 pub mod Cuts
 pub mod Machine
+pub mod Lives
 pub mod Laws
 pub mod Remembered
 pub mod Lanes

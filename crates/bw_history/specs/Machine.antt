@@ -1,11 +1,16 @@
--- The machine that a store is: what was taken, how much of it a stop leaves, and how much of it readers see. Pages, frames
--- and segments are how a store does it; this is what it does.
+-- The machine that a store is: the map that it began with, what was taken since, how much of that a stop leaves, and how much
+-- of it readers see. Pages, frames and segments are how a store does it; this is what it does.
 
-use Rattle.std.specs.Prelude.{ℕ, zero, suc, ◌≡◌, ◌≤◌, ◌⊎◌, ◌++◌, true, List, length, take}
+use Rattle.std.specs.Prelude.{ℕ, zero, suc, ◌≡◌, ◌≤◌, ◌⊎◌, ◌++◌, true, List, [], length, take}
+use Rattle.std.specs.List.{fold}
+use Rattle.bw_leaf.specs.Changed.{Map, changed_map}
 use Rattle.bw_history.specs.declared.entry.Entry.{Entry}
+use Rattle.bw_history.specs.Entries.{records}
 use Rattle.bw_history.specs.History.{ends_in, is_grouped}
 
 pub record Machine : Type 0 where
+  -- the map that it began with: none, or what was found of the life before
+  pub start : Map
   -- all that was taken, in the order in which it was taken
   pub entries : List Entry
   -- how many of them are durable: every stop leaves them
@@ -14,6 +19,14 @@ pub record Machine : Type 0 where
   pub written : ℕ
   -- how many of them readers see
   pub shown : ℕ
+
+-- a map as these entries leave it
+abbrev pub after : Map → List Entry → Map
+after map entries = fold changed_map map (records entries)
+
+-- as all that was taken leaves it: this is what is looked at
+abbrev pub now : Machine → Map
+now m = after m.start m.entries
 
 -- ---- steps
 
@@ -52,10 +65,13 @@ Steps (suc n) old new = (middle : Machine) × Steps n old middle × Step middle 
 abbrev pub MayLeave : Machine → List Entry → Type 0
 MayLeave m left = (left ≡ take m.durable m.entries) ⊎ (left ≡ take m.written m.entries)
 
+-- a machine that begins with this map: nothing was taken yet
+abbrev pub begun : Map → Machine
+begun start = record { start = start; entries = []; durable = 0; written = 0; shown = 0 }
+
 -- a stop, and a store that goes on from what it left
 abbrev pub Crash : Machine → Machine → Type 0
-Crash old new =
-    MayLeave old new.entries × (new.durable ≡ length new.entries) × (new.written ≡ length new.entries) × (new.shown ≡ length new.entries)
+Crash old new = (left : List Entry) × MayLeave old left × (new ≡ begun (after old.start left))
 
 -- ---- what holds between steps
 

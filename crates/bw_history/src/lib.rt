@@ -5,7 +5,8 @@
 //! have them. `Intake` is the lanes and the history together: what is taken from a lane stands in the
 //! history at once, so each writer's records in the history are always those that its lane gave, in
 //! order. `specs/History.antt` has what a history tells: streams of writers, groups, cuts and shares.
-//! `specs/Machine.antt` has the machine that a store is, and `laws` what holds of it.
+//! `specs/Machine.antt` has the machine that a store is, `specs/Lives.antt` its lives, and `laws`
+//! what holds of them.
 #![tactic(auto)]
 
 mod beside;
@@ -20,5 +21,8 @@ pub use cuts::{frames_between, push_many};
 pub use entry::Entry;
 pub use history::History;
 pub use intake::Intake;
-pub use laws::{a_stop_leaves_a_beginning, a_stop_loses_nothing, what_is_durable_stays};
+pub use laws::{
+    a_stop_leaves_a_beginning, calls_are_steps, lives_go_on, lives_lose_nothing,
+    what_is_durable_stays,
+};
 pub use packed::PackedEntry;

@@ -45,7 +45,7 @@ impl Home {
     {
         self.stock.renew(rt)?;
         let cleaned = self.give_up(rt)?;
-        self.stock.is_owed = true;
+        self.stock.owe();
         self.stock.renew(rt)?;
         Ok(cleaned)
     }
@@ -67,7 +67,7 @@ impl Home {
     {
         self.stock.empty(rt)?;
         let cleaned = self.store.clean()?;
-        self.stock.given_up = Some(cleaned.lease);
+        self.stock.give_up(cleaned.lease);
         Ok(cleaned)
     }
 

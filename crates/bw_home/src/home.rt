@@ -124,6 +124,11 @@ impl Home {
         }
     }
 
+    /// How many bytes a new segment has room for.
+    pub fn capacity(&self) -> u64 {
+        self.stock.capacity()
+    }
+
     /// What recovery found in the segments, or that the beginning of a first frame was all that
     /// there was; `None` where all segments were new.
     pub fn found(&self) -> Option<Found>

@@ -9,20 +9,22 @@ use bw_care::RecoverCause;
 use bw_device::{MAX_LEASES, Segment};
 use bw_site::{Found, HomeFault, Made, Site, System, look};
 
-/// Where the segments of a store stand, and how many it begins with. A folder is looked at before:
-/// what would be refused is refused before anything is written there.
+/// Where the segments of a store stand, how many it begins with, and how many bytes a new one has room
+/// for. A folder is looked at before: what would be refused is refused before anything is written
+/// there.
 pub(crate) fn site_of<R: System>(
     rt: &R,
     dir: Option<&str>,
     leases: u32,
     options: &Options,
-) -> Result<(Site, u32), HomeFault> {
-    if let Some(path) = dir {
-        look(rt, path, leases, options.segments, options.capacity)?;
-    }
+) -> Result<(Site, u32, u64), HomeFault> {
+    let longest = match dir {
+        Some(path) => look(rt, path, leases, options.segments, options.capacity)?,
+        None => 0,
+    };
     let site = Site::open(rt, dir, leases)?;
     let count = site.count(rt, options.segments)?;
-    Ok((site, count))
+    Ok((site, count, options.capacity_beside(longest)))
 }
 
 // Opens a store, goes leg by leg over it, and ends it; `None` where its folder had the beginning of
@@ -39,7 +41,11 @@ fn go<R: System, L: Legs<R>>(
     ensures answer { IfOk result (λ went. IfSome went (λ answer. L.says legs.old answer)) }
     ensures anew { IfOk result (λ went. IsNone went → legs.new ≡ legs.old) }
 {
-    let (mut site, count) = site_of(rt, dir, leases, options)?;
+    let (mut site, count, capacity) = site_of(rt, dir, leases, options)?;
+    let options = &Options {
+        capacity,
+        ..*options
+    };
     let mut boxes: Vec<Box<dyn Segment>> = Vec::new(rt.alloc());
     let mut are_new = true;
     for _ in 0..count {
@@ -117,7 +123,8 @@ pub fn with_store_in_legs<R: System, L: Legs<R>>(
 /// stays as it is. Then it is locked, and made where it is missing. A folder without bytes has a
 /// new store, and so has one with nothing but the beginning of a first frame, which was never
 /// durable; any other goes on with what it holds, whatever the limits of pages and frames in the
-/// options are.
+/// options are. Its new segments have room for as many bytes as the longest one has, at least, in
+/// whole MiB.
 ///
 /// `Folder`: it, or a file in it, was not listed, opened or made, `InUse` among the reasons.
 /// `Store`: `BadConfig`, where a number of the options is out of its range. `Lease`: more than

@@ -2,6 +2,10 @@
 
 use bw_codec::limits::{MAX_PAIRS, MIN_FRAME};
 use bw_core::Config;
+use bw_device::MAX_CAPACITY;
+
+/// A longer segment was made with room for so many bytes, or a multiple.
+const STEP: u64 = 1_048_576;
 
 /// How a store is opened. The limits of pages and frames are for a new one: another goes on with
 /// its own.
@@ -17,7 +21,8 @@ pub struct Options {
     pub frame_bytes: u32,
     /// How many segments there are at least, up to 4,096. A folder with more files has more.
     pub segments: u32,
-    /// How many bytes a new segment has room for, up to 1 GiB. All of it is reserved in memory.
+    /// How many bytes a new segment has room for, up to 1 GiB. All of it is reserved in memory. In a
+    /// folder with a longer segment it is as many bytes as that one has, in whole MiB.
     pub capacity: u64,
 }
 
@@ -36,6 +41,16 @@ impl Default for Options {
 }
 
 impl Options {
+    /// How many bytes a new segment has room for beside one of this length. Its last frame may end
+    /// before its room does: so it counts in whole steps, and is the same in each run.
+    pub(crate) fn capacity_beside(&self, longest: u64) -> u64 {
+        if longest <= self.capacity {
+            return self.capacity;
+        }
+        let steps = longest.div_ceil(STEP);
+        steps.saturating_mul(STEP).min(MAX_CAPACITY)
+    }
+
     /// What a new store is opened with.
     pub(crate) fn config(&self) -> Config {
         Config {

@@ -124,8 +124,8 @@ impl SharedHome {
     {
         self.stock.renew(rt)?;
         let cleaned = self.store.clean(rt)?;
-        self.stock.given_up = Some(cleaned.lease);
-        self.stock.is_owed = true;
+        self.stock.give_up(cleaned.lease);
+        self.stock.owe();
         self.stock.renew(rt)?;
         Ok(cleaned)
     }
@@ -243,7 +243,11 @@ fn go<R: System, L: SharedLegs<R>>(
     ensures answer { IfOk result (λ went. IfSome went (λ answer. L.says legs.old answer)) }
     ensures anew { IfOk result (λ went. IsNone went → legs.new ≡ legs.old) }
 {
-    let (mut site, count) = site_of(rt, opening.dir, opening.leases, options)?;
+    let (mut site, count, capacity) = site_of(rt, opening.dir, opening.leases, options)?;
+    let options = &Options {
+        capacity,
+        ..*options
+    };
     let mut boxes: Vec<Box<dyn Segment>> = Vec::new(rt.alloc());
     let mut are_new = true;
     for _ in 0..count {

@@ -7,8 +7,12 @@
 #![tactic(auto)]
 
 mod fault;
+mod filling;
+mod full;
+mod leases;
 mod listing;
 mod load;
+mod measure;
 mod pages;
 mod records;
 mod span;
@@ -16,6 +20,8 @@ mod task;
 mod tending;
 
 pub use fault::KeysFault;
+pub use full::Admission;
+pub use leases::{FEW, leases_of};
 pub use listing::Style;
-pub use task::{Listed, Loaded, Task, Told, perform};
+pub use task::{Import, Listed, Loaded, Range, Task, Told, perform};
 pub use tending::Tending;

@@ -4,8 +4,10 @@
 ghost use Rattle.bw_home.specs.Ready.{IsReady};
 
 use crate::fault::KeysFault;
+use crate::full::Admission;
 use crate::records::Records;
 use crate::tending::{Tending, forget};
+use bw_core::StoreFault;
 use bw_home::{Added, Home, HomeFault, Legs, System};
 use bw_ring::{FullGroup, Group};
 use bw_watch::{Watch, Work};
@@ -37,6 +39,8 @@ pub struct Load<'a, S, W> {
     fault: Option<KeysFault>,
     /// How many went in.
     count: u64,
+    /// How many of these are durable, once all has ended.
+    durable: u64,
 }
 
 impl<'a, S: Records, W: Watch> Load<'a, S, W> {
@@ -51,7 +55,13 @@ impl<'a, S: Records, W: Watch> Load<'a, S, W> {
             is_over: false,
             fault: None,
             count: 0,
+            durable: 0,
         }
+    }
+
+    /// How many records are durable, once all has ended.
+    pub fn durable(&self) -> u64 {
+        self.durable
     }
 
     /// The next record: one that waits, or one that is read. What is at fault ends the records.
@@ -78,7 +88,7 @@ impl<'a, S: Records, W: Watch> Load<'a, S, W> {
         requires { IsReady home.old holding }
         ensures { IsReady home.new holding }
     {
-        if self.tending.takes_room(rt, home)? {
+        if self.tending.take_waiting(rt, home)? {
             return Ok(Step::Room);
         }
         forget(home);
@@ -91,14 +101,48 @@ impl<'a, S: Records, W: Watch> Load<'a, S, W> {
     fn tell_added(&mut self, home: &Home)
         requires { IsReady home.now holding }
     {
-        if self.tending.took_further() {
+        if self.tending.take_told_segment() {
             let segments = home.store.live().saturating_add(home.store.spares());
             self.watch.added(segments);
         }
     }
 
-    /// Puts a record into the queue.
+    /// Whether room was made for what waits, which a full log takes before anything else.
+    fn make_room_first<R: System>(&mut self, rt: &R, home: &mut Home) -> Result<bool, KeysFault>
+        requires { IsReady home.old holding }
+        ensures { IsReady home.new holding }
+    {
+        if !self.tending.is_full() {
+            return Ok(false);
+        }
+        Ok(self.take(rt, home)? == Step::Room)
+    }
+
+    /// Puts a record into the queue, where the log has room for it.
     fn put<R: System>(&mut self, rt: &R, home: &mut Home, group: Group) -> Result<Step, KeysFault>
+        requires { IsReady home.old holding }
+        ensures { IsReady home.new holding }
+    {
+        if self.make_room_first(rt, home)? {
+            self.waiting = Some(group);
+            return Ok(Step::Room);
+        }
+        match self.tending.admits(rt, home, &group)? {
+            Admission::Yes => self.queue(rt, home, group),
+            Admission::Room => {
+                self.waiting = Some(group);
+                Ok(Step::Room)
+            }
+            Admission::No => {
+                // There is room for what was taken before.
+                let _ = home.flush();
+                Err(KeysFault::from(StoreFault::NoSegment))
+            }
+        }
+    }
+
+    /// Puts a record into the queue; where that is full, what waits is taken first.
+    fn queue<R: System>(&mut self, rt: &R, home: &mut Home, group: Group) -> Result<Step, KeysFault>
         requires { IsReady home.old holding }
         ensures { IsReady home.new holding }
     {
@@ -158,6 +202,9 @@ impl<'a, S: Records, W: Watch> Load<'a, S, W> {
         requires { IsReady home.old holding }
         ensures { IsReady home.new holding }
     {
+        if self.tending.first_look(rt, home)? {
+            return Ok(Step::Room);
+        }
         'steps: for _ in 0..u64::MAX {
             let step = self.step(rt, home)?;
             if step != Step::On {
@@ -196,13 +243,20 @@ impl<R: System, S: Records, W: Watch> Legs<R> for Load<'_, S, W> {
 
     fn leg(&mut self, rt: &R, home: &mut Home) -> Option<Result<u64, KeysFault>> {
         if let Err(fault) = refused_spare(home) {
+            self.durable = home.store.durable_of(0);
             return Some(Err(fault));
         }
         self.tell_added(home);
         match self.up_to_room(rt, home) {
-            Ok(Step::End) => Some(self.answer()),
+            Ok(Step::End) => {
+                self.durable = self.count;
+                Some(self.answer())
+            }
             Ok(_) => None,
-            Err(fault) => Some(Err(fault)),
+            Err(fault) => {
+                self.durable = home.store.durable_of(0);
+                Some(Err(fault))
+            }
         }
     }
 }

@@ -4,7 +4,7 @@ use crate::fault::KeysFault;
 use crate::span::Span;
 use bw_care::recover;
 use bw_codec::limits::{HEADER_LEN, MAX_FRAME};
-use bw_codec::{Key, Pair};
+use bw_codec::{Key, Leaf, Pair};
 use bw_device::{Desk, MemSegment, Segment};
 use bw_file::FolderReader;
 use bw_home::{HomeFault, System};
@@ -70,7 +70,7 @@ fn pages_of(alloc: Global, boxes: Vec<Box<dyn Segment>>) -> Result<Option<Leaves
     }
 }
 
-/// The same of copies. Their boxes are made here alone.
+/// The pages of copies of segments. Their boxes are made only here.
 fn pages_in_copies(alloc: Global, copies: Vec<MemSegment>) -> Result<Option<Leaves>, HomeFault> {
     if copies.iter().all(|copy| copy.len() == 0) {
         return Ok(None);
@@ -122,12 +122,18 @@ pub fn pair_of<'a>(leaves: &'a Leaves, key: &Key) -> Option<&'a Pair> {
     pairs.iter().find(|pair| pair.key() == key.as_slice())
 }
 
-/// How many pairs all pages have.
-pub fn count_of(leaves: &Leaves) -> u64 {
+/// How many keys of a page are wanted.
+fn count_in(leaf: &Leaf, span: &Span) -> u64 {
+    let pairs = leaf.pairs.as_slice();
+    pairs.iter().filter(|pair| span.has(pair.key())).count() as u64
+}
+
+/// How many keys of these pages are wanted.
+pub fn count_of(leaves: &Leaves, pages: &[u32], span: &Span) -> u64 {
     let mut count = 0u64;
-    for index in 0..leaves.count() {
-        if let Some(leaf) = leaves.page(index.saturating_add(1)) {
-            count = count.saturating_add(leaf.pairs.as_slice().len() as u64);
+    for page in pages {
+        if let Some(leaf) = leaves.page(*page) {
+            count = count.saturating_add(count_in(leaf, span));
         }
     }
     count

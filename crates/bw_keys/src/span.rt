@@ -22,15 +22,6 @@ fn least() -> Key {
 }
 
 impl Span {
-    /// All keys.
-    pub fn all() -> Span {
-        Span {
-            from: None,
-            to: None,
-            prefix: None,
-        }
-    }
-
     /// The least key that may be wanted.
     pub fn start_key(&self) -> Key {
         match (&self.from, &self.prefix) {
@@ -69,5 +60,10 @@ impl Span {
             None => true,
         };
         is_from && is_within
+    }
+
+    /// Whether a key is wanted.
+    pub fn has(&self, key: &[u8]) -> bool {
+        self.has_begun(key) && !self.is_over(key)
     }
 }

@@ -1,6 +1,8 @@
 //! What is done with the keys of a folder.
 
 use crate::fault::KeysFault;
+use crate::filling::Filling;
+use crate::leases::leases_of;
 use crate::listing::{Listing, Style};
 use crate::load::Load;
 use crate::pages::{check_store, count_of, pages_in, pages_over, pair_of};
@@ -12,40 +14,67 @@ use bw_codec::{Key, Record, Value};
 use bw_home::{Options, System, with_store_at};
 use bw_look::frame_in_folder;
 use bw_pairs::{
-    LineFault, Pairs, PairsFault, Skipped, Spelling, key_of, value_from, value_of, write_word,
+    LineFault, Pairs, PairsFault, Skipped, Source, Spelling, key_from, key_of, value_from,
+    value_of, write_word,
 };
 use bw_watch::{Watch, Work, folder_bytes, input_bytes};
 use std::alloc::Global;
 use std::io::{Read, Write};
 
-/// Which pairs are listed, by words of the command line.
+/// A stretch of keys, by words of the command line.
 #[derive(Debug, Clone, Copy)]
-pub struct Listed<'a> {
+pub struct Range<'a> {
     /// The least key.
     pub from: Option<&'a str>,
-    /// The least key above it that is not listed.
+    /// The least key above it that is not meant.
     pub to: Option<&'a str>,
     /// What each key begins with.
     pub prefix: Option<&'a str>,
+}
+
+/// Which pairs are listed, by words of the command line.
+#[derive(Debug, Clone, Copy)]
+pub struct Listed<'a> {
+    pub range: Range<'a>,
     /// How many pairs at most.
     pub limit: u64,
     /// Whether the greatest key comes first.
     pub reverse: bool,
-    pub spelling: Spelling,
+    pub style: Style,
+}
+
+/// How the pairs of an input go in.
+#[derive(Debug, Clone, Copy)]
+pub struct Import {
+    pub source: Source,
+    /// Whether bad pairs are read over; else the first one ends it.
+    pub skips: bool,
+    /// How many bytes new segments have room for, if that is said.
+    pub capacity: Option<u32>,
 }
 
 /// What is done with the keys of a folder, by words of the command line.
 #[derive(Debug, Clone, Copy)]
 pub enum Task<'a> {
-    /// A value, or `-` for all bytes of the input.
-    Put(&'a str, &'a str),
+    /// A value, or `-` for all bytes of the input; whether the words are their own bytes.
+    Put(&'a str, &'a str, bool),
     Get(&'a str, Spelling),
     Del(&'a str),
     List(Listed<'a>),
-    Count,
-    /// Lines or a dump, whose bad pairs end it or are read over.
-    Import { is_dump: bool, skips: bool },
-    Export(Style),
+    Count(Range<'a>),
+    Import(Import),
+    Export(Range<'a>, Style),
+}
+
+impl Task<'_> {
+    /// Whether it reads the input.
+    pub fn reads_input(&self) -> bool {
+        match self {
+            Task::Import(_) => true,
+            Task::Put(_, value, _) => *value == "-",
+            _ => false,
+        }
+    }
 }
 
 /// What an import came to.
@@ -60,24 +89,26 @@ pub struct Loaded {
 }
 
 /// What a task came to.
-#[derive(Debug, Clone, Copy, PartialEq, Eq)]
+#[derive(Debug, Clone, Copy)]
 pub enum Told {
     /// It is done.
     Done,
     /// The key has no value.
     NoValue,
     Loaded(Loaded),
+    /// An import ended early, for this reason; so many pairs are durable.
+    Halted(KeysFault, u64),
 }
 
-/// Up to how many segments are added.
-const MOST: u32 = 64;
-
-/// A store that one writer puts into, with a queue that is long enough for batches.
-fn options() -> Options {
+/// A store that one writer puts into, with a queue that is long enough for batches. Its new segments
+/// have room for so many bytes, if that is said.
+fn options(capacity: Option<u32>) -> Options {
     let other = Options::default();
+    let capacity = capacity.map_or(other.capacity, u64::from);
     Options {
         queue_groups: 1_024,
-        frame_bytes: frame_in_folder(other.capacity),
+        frame_bytes: frame_in_folder(capacity),
+        capacity,
         ..other
     }
 }
@@ -87,7 +118,23 @@ fn key_by(name: &'static str, word: &str) -> Result<Key, KeysFault> {
     key_of(word.as_bytes()).map_err(|fault| KeysFault::Word(name, fault))
 }
 
-/// The same where there may be none.
+/// A key to be put, by its word on the command line, which may be its own bytes.
+fn put_key_by(word: &str, is_raw: bool) -> Result<Key, KeysFault> {
+    if !is_raw {
+        return key_by("KEY", word);
+    }
+    key_from(word.as_bytes()).map_err(|fault| KeysFault::Word("KEY", fault))
+}
+
+/// What each key begins with. A word that stands for no byte says nothing.
+fn prefix_by(word: Option<&str>) -> Result<Option<Key>, KeysFault> {
+    match word {
+        Some("" | "0x") => Ok(None),
+        word => some_key_by("--prefix", word),
+    }
+}
+
+/// The key of a word where there may be none.
 fn some_key_by(name: &'static str, word: Option<&str>) -> Result<Option<Key>, KeysFault> {
     match word {
         Some(word) => Ok(Some(key_by(name, word)?)),
@@ -104,32 +151,57 @@ fn value_in<I: Read>(alloc: Global, input: &mut I) -> Result<Value, KeysFault> {
     value_from(bytes.as_slice()).map_err(|fault| KeysFault::Word("VALUE", fault))
 }
 
-/// A value by its word on the command line.
-fn value_by<I: Read>(alloc: Global, word: &str, input: &mut I) -> Result<Value, KeysFault> {
+/// A value by its word on the command line, which may be its own bytes.
+fn value_by<I: Read>(
+    alloc: Global,
+    word: &str,
+    is_raw: bool,
+    input: &mut I,
+) -> Result<Value, KeysFault> {
     if word == "-" {
         return value_in(alloc, input);
     }
-    value_of(word.as_bytes()).map_err(|fault| KeysFault::Word("VALUE", fault))
+    let bytes = word.as_bytes();
+    let value = if is_raw {
+        value_from(bytes)
+    } else {
+        value_of(bytes)
+    };
+    value.map_err(|fault| KeysFault::Word("VALUE", fault))
 }
 
-/// Puts records into the store in a folder, which is made where it is missing, and answers how many
-/// these are, once they are durable.
+/// What came of records that went into a store.
+#[derive(Clone, Copy)]
+struct Stored {
+    /// How many these are, once they are durable; or why no more.
+    end: Result<u64, KeysFault>,
+    /// How many are durable.
+    durable: u64,
+}
+
+/// Puts records into the store in a folder, which is made by these options if it is missing.
 fn load<R: System, S: Records, W: Watch>(
     rt: &R,
     dir: &str,
     leases: u32,
+    options: &Options,
     records: &mut S,
     all: u64,
     watch: &mut W,
-) -> Result<u64, KeysFault> {
-    let options = options();
+) -> Stored {
     let held = folder_bytes(rt, dir, leases, watch);
     watch.see(Work::Opening, 0, held);
-    let tending = Tending::new(options.capacity, MOST.min(leases));
+    let leases = leases.min(leases_of(rt, dir));
+    let frame = u64::from(options.frame_bytes);
+    let tending = Tending::new(options.capacity, frame, leases);
     let mut load = Load::new(&mut *records, all, &mut *watch, tending);
-    match with_store_at(rt, Some(dir), leases, &options, &mut load) {
+    let end = match with_store_at(rt, Some(dir), leases, options, &mut load) {
         Ok(answer) => answer,
         Err(fault) => Err(KeysFault::from(fault)),
+    };
+    Stored {
+        end,
+        durable: load.durable(),
     }
 }
 
@@ -144,7 +216,7 @@ fn put<R: System, W: Watch>(
     let mut records = Single {
         record: Some(record),
     };
-    let _ = load(rt, dir, leases, &mut records, 0, watch)?;
+    let _ = load(rt, dir, leases, &options(None), &mut records, 0, watch).end?;
     Ok(Told::Done)
 }
 
@@ -184,16 +256,20 @@ fn get<R: System, O: Write, W: Watch>(
     Ok(Told::Done)
 }
 
-/// Writes how many pairs there are.
+/// Writes how many pairs a stretch of keys has.
 fn count<R: System, O: Write, W: Watch>(
     rt: &R,
     dir: &str,
     leases: u32,
+    span: &Span,
     output: &mut O,
     watch: &mut W,
 ) -> Result<Told, KeysFault> {
     let count = match pages_in(rt, dir, leases, watch)? {
-        Some(leaves) => count_of(&leaves),
+        Some(leaves) => {
+            let pages = pages_over(rt.alloc(), &leaves, span)?;
+            count_of(&leaves, pages.as_slice(), span)
+        }
         None => 0,
     };
     watch.rest();
@@ -234,32 +310,37 @@ fn list<R: System, O: Write, W: Watch>(
     Ok(Told::Done)
 }
 
-/// The stretch of keys that is listed.
-fn span_of(listed: &Listed<'_>) -> Result<Span, KeysFault> {
+/// The stretch of keys that is meant.
+fn span_of(range: &Range<'_>) -> Result<Span, KeysFault> {
     Ok(Span {
-        from: some_key_by("--from", listed.from)?,
-        to: some_key_by("--to", listed.to)?,
-        prefix: some_key_by("--prefix", listed.prefix)?,
+        from: some_key_by("--from", range.from)?,
+        to: some_key_by("--to", range.to)?,
+        prefix: prefix_by(range.prefix)?,
     })
 }
 
-/// Puts the pairs of an input.
-fn import<R: System, I: Read, W: Watch>(
+/// Puts the pairs of an input. Those that come in the order of their keys fill their pages.
+fn import_pairs<R: System, I: Read, W: Watch>(
     rt: &R,
     dir: &str,
     leases: u32,
     input: &mut I,
-    is_dump: bool,
-    skips: bool,
+    wanted: Import,
     watch: &mut W,
 ) -> Result<Told, KeysFault> {
     let all = input_bytes(rt, watch);
-    let mut pairs = Pairs::new(rt.alloc(), input, is_dump, skips)?;
-    let count = load(rt, dir, leases, &mut pairs, all, watch)?;
+    let options = options(wanted.capacity);
+    let pairs = Pairs::new(rt.alloc(), input, wanted.source, wanted.skips)?;
+    let mut records = Filling::new(rt.alloc(), pairs, options.pairs_a_page);
+    let Stored { end, durable } = load(rt, dir, leases, &options, &mut records, all, watch);
+    let count = match end {
+        Ok(count) => count,
+        Err(fault) => return Ok(Told::Halted(fault, durable)),
+    };
     let Skipped {
         count: skipped,
         first,
-    } = pairs.skipped();
+    } = records.into_records().skipped();
     Ok(Told::Loaded(Loaded {
         count,
         skipped,
@@ -267,21 +348,13 @@ fn import<R: System, I: Read, W: Watch>(
     }))
 }
 
-/// All pairs, in this style.
-fn export<R: System, O: Write, W: Watch>(
-    rt: &R,
-    dir: &str,
-    leases: u32,
-    style: Style,
-    output: &mut O,
-    watch: &mut W,
-) -> Result<Told, KeysFault> {
-    let order = Order {
+/// The order in which pairs are exported, in this style.
+fn ascending(style: Style) -> Order {
+    Order {
         style,
         limit: u64::MAX,
         reverse: false,
-    };
-    list(rt, dir, leases, &Span::all(), order, output, watch)
+    }
 }
 
 /// Does a task over the keys of a folder, by so many leases at most. What it reads and prints comes
@@ -296,9 +369,9 @@ pub fn perform<R: System, I: Read, O: Write, W: Watch>(
     watch: &mut W,
 ) -> Result<Told, KeysFault> {
     match task {
-        Task::Put(key, value) => {
-            let key = key_by("KEY", *key)?;
-            let value = value_by(rt.alloc(), *value, input)?;
+        Task::Put(key, value, is_raw) => {
+            let key = put_key_by(*key, *is_raw)?;
+            let value = value_by(rt.alloc(), *value, *is_raw, input)?;
             put(rt, dir, leases, Record::Put(key, value), watch)
         }
         Task::Get(key, spelling) => {
@@ -308,14 +381,18 @@ pub fn perform<R: System, I: Read, O: Write, W: Watch>(
         Task::Del(key) => del(rt, dir, leases, key_by("KEY", *key)?, watch),
         Task::List(listed) => {
             let order = Order {
-                style: Style::Tabs(listed.spelling),
+                style: listed.style,
                 limit: listed.limit,
                 reverse: listed.reverse,
             };
-            list(rt, dir, leases, &span_of(listed)?, order, output, watch)
+            let span = span_of(&listed.range)?;
+            list(rt, dir, leases, &span, order, output, watch)
         }
-        Task::Count => count(rt, dir, leases, output, watch),
-        Task::Import { is_dump, skips } => import(rt, dir, leases, input, *is_dump, *skips, watch),
-        Task::Export(style) => export(rt, dir, leases, *style, output, watch),
+        Task::Count(range) => count(rt, dir, leases, &span_of(range)?, output, watch),
+        Task::Import(wanted) => import_pairs(rt, dir, leases, input, *wanted, watch),
+        Task::Export(range, style) => {
+            let span = span_of(range)?;
+            list(rt, dir, leases, &span, ascending(*style), output, watch)
+        }
     }
 }

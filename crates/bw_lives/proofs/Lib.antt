@@ -1,1 +1,2 @@
+pub mod ManyLives
 pub mod SecondLife

@@ -6,7 +6,9 @@
 #![tactic(auto)]
 
 mod fault;
+mod laws;
 mod lives;
 
 pub use fault::ReliveFault;
+pub use laws::lives_lose_nothing;
 pub use lives::relive;

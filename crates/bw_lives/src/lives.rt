@@ -5,7 +5,10 @@ ghost use Rattle.std.specs.Vec.{vec_capacity};
 ghost use Rattle.bw_ring.specs.Ends.{ring_of_feed};
 ghost use Rattle.bw_core.specs.Opened.{AreUnused};
 ghost use Rattle.bw_core.specs.Views.{kept_by, IsSound};
-ghost use Rattle.bw_lives.specs.Lives.{IsNotRelived, Relives};
+ghost use Rattle.bw_core.specs.Relived.{Relives};
+ghost use Rattle.bw_core.specs.Reopened.{Begins};
+ghost use Rattle.bw_log.specs.Contents.{boxes as boxes_of};
+ghost use Rattle.bw_lives.specs.Lives.{IsNotRelived};
 
 use crate::fault::ReliveFault;
 use bw_care::recover;
@@ -34,9 +37,9 @@ fn add_all(boxes: &mut Vec<Box<dyn Segment>>, more: Vec<Box<dyn Segment>>)
 /// those up to the cut of that frame: all of it may have been written. So each record of which
 /// `durable_of` told that it is durable is there.
 ///
-/// Refused `NoMemory`, where nothing was begun: the store comes back. Refused `Recovery`, as
-/// `recover` is: also where nothing was ever kept. Refused `Reopening`, as `Core::reopen` is. It
-/// costs a recovery.
+/// Refused `NoMemory`, where nothing was begun: the store comes back. Refused `Recovery`, for want
+/// of memory, if a box could not be read, and if nothing was ever kept. Refused `Reopening`, as
+/// `Core::reopen` is. It costs a recovery.
 pub fn relive(
     alloc: Global,
     store: Core,
@@ -44,6 +47,8 @@ pub fn relive(
     places: usize,
 ) -> Result<(Core, Vec<Feed>), ReliveFault>
     requires { IsSound store holding }
+    ensures begins { IfOk result (λ r.
+        Begins (boxes_of (kept_by store holding).log) (kept_by r.0 holding)) }
     ensures lives { IfOk result (λ r.
         Relives (kept_by store holding) (kept_by r.0 holding)) }
     ensures sound { IfOk result (λ r. IsSound r.0 holding) }
@@ -54,8 +59,6 @@ pub fn relive(
         (IsNotRelived store (kept_by store holding) writers places
         (λ b. holding (b.vtable, b.value))) }
 {
-    // Its contract says that the store is a machine, of which a stop loses nothing durable.
-    let _ = store.durable_end();
     let count = store.live() as usize + store.spares() as usize;
     let Ok(mut boxes) = Vec::with_capacity(alloc, count) else {
         return Err(ReliveFault::NoMemory(store));

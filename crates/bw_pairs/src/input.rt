@@ -3,7 +3,7 @@
 use crate::dump::{Header, Letters, key_in, value_in};
 use crate::fault::{LineFault, PairsFault};
 use crate::lines::{Lines, READS};
-use crate::tabs::put_of;
+use crate::tabs::{put_of, raw_put_of};
 use bw_codec::Record;
 use std::alloc::Global;
 use std::io::Read;
@@ -13,9 +13,22 @@ pub const LONGEST: u32 = 4_096;
 
 /// How an input spells its pairs.
 #[derive(Debug, Clone, Copy, PartialEq, Eq)]
+pub enum Source {
+    /// A pair a line, each word its own bytes, or hex behind `0x`.
+    Words,
+    /// A pair a line, each word its own bytes, whatever these are.
+    Raw,
+    /// A dump.
+    Dump,
+}
+
+/// How far that was read.
+#[derive(Debug, Clone, Copy, PartialEq, Eq)]
 enum Form {
     /// A pair a line.
-    Tabs,
+    Words,
+    /// A pair a line, whose words are their own bytes.
+    Raw,
     /// A dump, whose header comes next.
     Dump,
     /// A dump behind its header.
@@ -53,17 +66,21 @@ pub struct Pairs<I> {
 }
 
 impl<I: Read + Drop> Pairs<I> {
-    /// Those of a reader, as a dump or a pair a line. A bad pair ends them, or is read over.
+    /// Those of a reader, which are spelled so. A bad pair ends them, or is read over.
     pub fn new(
         alloc: Global,
         input: I,
-        is_dump: bool,
+        source: Source,
         skips: bool,
     ) -> Result<Pairs<I>, PairsFault> {
         let lines = Lines::new(alloc, input, READS, LONGEST).map_err(PairsFault::of_read)?;
         Ok(Pairs {
             lines,
-            form: if is_dump { Form::Dump } else { Form::Tabs },
+            form: match source {
+                Source::Words => Form::Words,
+                Source::Raw => Form::Raw,
+                Source::Dump => Form::Dump,
+            },
             skips,
             skipped: Skipped {
                 count: 0,
@@ -106,8 +123,13 @@ impl<I: Read + Drop> Pairs<I> {
         if !self.read_line()? {
             return Ok(Next::End);
         }
+        let is_raw = self.form == Form::Raw;
         let put = match self.line() {
-            Ok(line) => put_of(line),
+            Ok(line) => if is_raw {
+                raw_put_of(line)
+            } else {
+                put_of(line)
+            },
             Err(fault) => Err(fault),
         };
         match put {
@@ -187,7 +209,7 @@ impl<I: Read + Drop> Pairs<I> {
             self.read_header()?;
         }
         match self.form {
-            Form::Tabs => self.next_tabs(),
+            Form::Words | Form::Raw => self.next_tabs(),
             Form::Data(letters) => self.next_data(letters),
             Form::Dump | Form::Ended => Ok(Next::End),
         }

@@ -14,7 +14,7 @@ mod tabs;
 
 pub use dump::{Letters, write_dumped, write_end, write_header};
 pub use fault::{LineFault, PairsFault};
-pub use input::{Pairs, Skipped};
+pub use input::{Pairs, Skipped, Source};
 pub use lines::{Lines, READS};
-pub use spelling::{Spelling, key_of, value_from, value_of, write_word};
+pub use spelling::{Spelling, key_from, key_of, value_from, value_of, write_word};
 pub use tabs::write_pair;

@@ -3,8 +3,8 @@
 use std::alloc::Global;
 use std::io::{self, BufRead, BufReader, ErrorKind, Read};
 
-/// The most reads of the input before its end.
-pub const READS: u64 = 1_000_000_000;
+/// The most reads of the input before its end: as many as can be counted, so no input meets it.
+pub const READS: u64 = u64::MAX;
 
 /// Counts the reads of a reader, and fails from the one after the last.
 #[derive(Drop)]

@@ -1,7 +1,7 @@
 //! A pair as a line: the key, a tab, the value.
 
 use crate::fault::LineFault;
-use crate::spelling::{Spelling, key_of, value_of, write_word};
+use crate::spelling::{Spelling, key_from, key_of, value_from, value_of, write_word};
 use bw_codec::Record;
 use std::io::{self, Write};
 
@@ -23,6 +23,14 @@ pub fn write_pair<O: Write>(
 pub fn put_of(line: &[u8]) -> Result<Record, LineFault> {
     match line.iter().position(|byte| *byte == b'\t') {
         Some(at) => Ok(Record::Put(key_of(&line[..at])?, value_of(&line[at + 1..])?)),
+        None => Err(LineFault::NoTab),
+    }
+}
+
+/// The put of a line whose words are their own bytes. The first tab parts them.
+pub fn raw_put_of(line: &[u8]) -> Result<Record, LineFault> {
+    match line.iter().position(|byte| *byte == b'\t') {
+        Some(at) => Ok(Record::Put(key_from(&line[..at])?, value_from(&line[at + 1..])?)),
         None => Err(LineFault::NoTab),
     }
 }

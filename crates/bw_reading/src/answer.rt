@@ -4,7 +4,7 @@ ghost use Rattle.std.specs.Prelude.{◌≡◌};
 
 use bw_care::RecoverCause;
 use bw_device::{NotMade, NotTaken, Refused};
-use bw_digest::Damaged;
+use bw_digest::Damage;
 use std::alloc::{AllocError, AllocFailed};
 
 /// The call was done.
@@ -56,12 +56,12 @@ impl<T: Drop> From<AllocFailed<T>> for Fault {
     }
 }
 
-impl From<Damaged> for Fault {
+impl From<Damage> for Fault {
     ghost use Rattle.bw_reading.specs.declared.answer.Fault.TheVariants as fault;
 
     ghost from_gives = { λ _ told. told ≡ fault.Damaged };
 
-    fn from(_error: Damaged) -> Fault {
+    fn from(_error: Damage) -> Fault {
         Fault::Damaged
     }
 }

@@ -15,5 +15,5 @@ mod whole;
 pub use lost::Loss;
 pub use order::pairs_of;
 pub use pages::Pages;
-pub use pieces::{Piece, Pieces, sums_beside};
+pub use pieces::{Piece, Pieces};
 pub use whole::{Held, Spot, frame_at};

@@ -13,6 +13,8 @@ pub enum Loss {
     /// A piece of a file, from one byte to another, has not its digest, and is no frame but has some:
     /// these were taken as they are.
     Unchecked { lease: u32, from: u64, to: u64 },
+    /// The file of a lease ends at a byte, and its digests say that it went on to another.
+    Missing { lease: u32, from: u64, to: u64 },
     /// Between whole frames these are not.
     Frames { first: u64, last: u64 },
     /// A page was brought back as it was before this frame, and not what became of it since.
@@ -30,6 +32,9 @@ impl Display for Loss {
                 f,
                 "segment-{lease:04}.bw unchecked from {from} to {to}"
             ),
+            Loss::Missing { lease, from, to } => {
+                write!(f, "segment-{lease:04}.bw missing from {from} to {to}")
+            }
             Loss::Frames { first, last } if first == last => write!(f, "frame {first} lost"),
             Loss::Frames { first, last } => write!(f, "frames {first} to {last} lost"),
             Loss::Page { page, frame } => write!(f, "page {page} lost from frame {frame}"),

@@ -66,8 +66,8 @@ impl Pages {
         }
     }
 
-    /// The first frame behind this one that is missing; this one's successor where none is known.
-    fn missing_behind(&self, frame: u64) -> u64 {
+    /// The first frame after this one that is missing; its successor if none is known.
+    fn missing_after(&self, frame: u64) -> u64 {
         let next = frame.saturating_add(1);
         for gap in self.gaps.as_slice() {
             if gap.last >= next {
@@ -102,8 +102,13 @@ impl Pages {
         if lost.is_some() {
             return Ok(Line { draft, last, lost });
         }
-        if last.frame != back.frame || last.index != back.index {
-            let lost = Some(self.missing_behind(last.frame));
+        if last.frame == back.frame && last.index != back.index {
+            // What is missing between the two stood in that frame.
+            let lost = Some(last.frame);
+            return Ok(Line { draft, last, lost });
+        }
+        if last.frame != back.frame {
+            let lost = Some(self.missing_after(last.frame));
             return Ok(Line { draft, last, lost });
         }
         Ok(Line {

@@ -2,8 +2,10 @@
 
 ghost use Rattle.bw_home.specs.Ready.{IsReady};
 
+use crate::compared::Wanted;
 use crate::copying::Copied;
 use crate::fault::RescueFault;
+use crate::judged::judge;
 use crate::target::Target;
 use bw_home::{Home, HomeFault, System};
 use bw_look::Image;
@@ -44,8 +46,8 @@ fn live_images(alloc: Global, home: &mut Home) -> Result<Vec<Image>, RescueFault
 }
 
 /// Copies the live segments of an open store, byte by byte, into a new folder, with a digest for
-/// each. What was flushed is there, and what was not is not; the store stays as it is. There are so
-/// many leases.
+/// each of their pieces. What was flushed is there, and what was not is not; the store stays as it
+/// is. There are so many leases.
 ///
 /// It is refused as `copy` is, but that there is no folder that is read: `Home` where a segment could
 /// not be read.
@@ -60,6 +62,8 @@ pub fn backup<R: System>(
 {
     let target = Target::of(rt, to)?;
     let images = live_images(rt.alloc(), home)?;
-    target.write(rt, images.as_slice(), &mut Unseen)?;
-    target.end(rt, leases, &mut Unseen)
+    let judged = judge(rt.alloc(), images.as_slice(), &mut Unseen)?;
+    let making = target.begin(rt)?;
+    making.write(rt, images.as_slice(), &mut Unseen)?;
+    making.end(rt, leases, Wanted::Pages(&judged.leaves), &mut Unseen)
 }

@@ -1,29 +1,17 @@
 //! A store is written anew.
 
+use crate::compared::{Wanted, leaves_of};
 use crate::copying::Copied;
 use crate::fault::RescueFault;
-use crate::judged::{Judged, judge};
+use crate::judged::judge;
 use crate::load::load;
 use crate::reading::sound_images;
 use crate::target::Target;
-use bw_codec::Leaf;
 use bw_codec::limits::HEADER_LEN;
 use bw_core::StoreFault;
 use bw_home::{HomeFault, Options, System};
 use bw_remains::pairs_of;
 use bw_watch::Watch;
-use std::alloc::{AllocError, Global};
-
-/// The pages that were found.
-fn leaves_of(alloc: Global, judged: &Judged) -> Result<Vec<Leaf>, AllocError> {
-    let mut leaves = Vec::new(alloc);
-    for index in 0..judged.leaves.count() {
-        if let Some(leaf) = judged.leaves.page(index.saturating_add(1)) {
-            leaves.push(leaf.copy()?)?;
-        }
-    }
-    Ok(leaves)
-}
 
 /// Refuses segments without room for a frame, before anything is made.
 fn with_room(options: &Options) -> Result<(), RescueFault> {
@@ -51,13 +39,14 @@ pub fn compact<R: System, W: Watch>(
     let judged = judge(rt.alloc(), images.as_slice(), watch)?;
     let leaves = leaves_of(rt.alloc(), &judged)?;
     let pairs = pairs_of(rt.alloc(), leaves.as_slice())?;
+    let making = target.begin(rt)?;
     load(
         rt,
-        target.partial(),
+        making.partial(),
         leases,
         options,
         pairs.as_slice(),
         watch,
     )?;
-    target.end(rt, leases, watch)
+    making.end(rt, leases, Wanted::Pairs(pairs.as_slice()), watch)
 }

@@ -1,5 +1,6 @@
 //! A store is copied as it is.
 
+use crate::compared::Wanted;
 use crate::fault::RescueFault;
 use crate::judged::{Judged, judge};
 use crate::reading::sound_images;
@@ -42,12 +43,14 @@ fn live_of(images: Vec<Image>) -> Result<Vec<Image>, AllocError> {
     Ok(live)
 }
 
-/// Copies the live segments of a folder, byte by byte, into a new one, with a digest for each. It
-/// opens as the store of that moment. There are so many leases.
+/// Copies the live segments of a folder, byte by byte, into a new one, with a digest for each of their
+/// pieces. It opens as the store of that moment: its pages are compared with those of the other one
+/// before it gets its name. There are so many leases.
 ///
-/// Refused, and nothing is made: `Target` where the new folder is there already; `Source`, where the
-/// other one is locked for writing or damaged; `Recovery`, where it is no store. Behind `Partial` and
-/// `Target` a part may stand under the name with `.partial` behind, which is no copy.
+/// Refused, and nothing is made: `Target` if the new folder is there already; `Source`, if the
+/// other one is locked for writing or damaged; `Recovery`, if it is no store. After `Partial`,
+/// `Unlike` and `Target` a part may stand under the name with `.partial` behind, which is no copy, and
+/// which the next one takes over.
 pub fn copy<R: System, W: Watch>(
     rt: &R,
     from: &str,
@@ -57,7 +60,9 @@ pub fn copy<R: System, W: Watch>(
 ) -> Result<Copied, RescueFault> {
     let target = Target::of(rt, to)?;
     let images = sound_images(rt, from, leases, watch)?;
-    let _ = judge(rt.alloc(), images.as_slice(), watch)?;
-    target.write(rt, live_of(images)?.as_slice(), watch)?;
-    target.end(rt, leases, watch)
+    let judged = judge(rt.alloc(), images.as_slice(), watch)?;
+    let live = live_of(images)?;
+    let making = target.begin(rt)?;
+    making.write(rt, live.as_slice(), watch)?;
+    making.end(rt, leases, Wanted::Pages(&judged.leaves), watch)
 }

@@ -20,12 +20,16 @@ pub enum RescueFault {
     Source(FolderFault),
     /// The new folder is there already, or was not made.
     Target(FolderFault),
-    /// The same of the folder beside it, in which it is made: its name with `.partial` behind.
+    /// The folder in which the new one is made was not made. Its name is that of the new one, with
+    /// `.partial` at its end.
     Partial(FolderFault),
     /// What was read, or what was written, is no store.
     Recovery(RecoverCause),
     /// The new store was not opened, or a call on it was refused.
     Home(HomeFault),
+    /// What the new folder holds is not what was read. It stands under the name with `.partial`
+    /// behind.
+    Unlike,
     /// The log has the frames from the first to the last, and not the one that was asked for.
     NoFrame { first: u64, last: u64 },
 }
@@ -40,6 +44,7 @@ impl Display for RescueFault {
                 write!(f, "{fault}"),
             RescueFault::Recovery(cause) => write!(f, "{cause}"),
             RescueFault::Home(fault) => write!(f, "{fault}"),
+            RescueFault::Unlike => f.write_str("it does not hold what was read"),
             RescueFault::NoFrame { first, last } => write!(f, "the frames are {first} to {last}"),
         }
     }

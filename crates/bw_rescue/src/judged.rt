@@ -59,8 +59,8 @@ fn judge_boxes(alloc: Global, boxes: Vec<Box<dyn Segment>>) -> Result<Judged, Re
     }
 }
 
-// The same of copies. Their boxes are made here alone: a function that takes or gives a box makes
-// none.
+// What recovery says of copies of segments. Their boxes are made only here: a function that takes or
+// gives a box makes none.
 fn judge_copies(alloc: Global, copies: Vec<MemSegment>) -> Result<Judged, RescueFault> {
     let mut boxes: Vec<Box<dyn Segment>> = Vec::new(alloc);
     for copy in copies {

@@ -3,16 +3,21 @@
 //! Each call but `backup`, which copies an open store, reads a folder that it does not change, and
 //! whose lock it takes beside other readers. `verify` tells the first fault of each of its segments.
 //! `copy` and `compact` write the store of that moment into a new folder, `restore` that of an
-//! earlier frame, and `salvage` all that a damaged one still has (`bw_remains`). A new folder is made under another name, and gets its own once it was
-//! read again and stands on the disk (`Target`): a part of a copy is never taken for a store.
+//! earlier frame, and `salvage` all that a damaged one still has (`bw_remains`). A new folder is made
+//! under another name, and gets its own once it was read again and stands on the disk (`Target`): a
+//! part of a copy is never taken for a store.
 #![tactic(auto)]
 
 mod backing;
 mod compacting;
+mod compared;
 mod copying;
 mod fault;
 mod judged;
 mod load;
+mod locating;
+mod partial;
+mod pieces;
 mod reading;
 mod restoring;
 mod salvaging;
@@ -24,6 +29,7 @@ pub use bw_remains::Loss;
 pub use compacting::compact;
 pub use copying::{Copied, copy};
 pub use fault::RescueFault;
+pub use locating::{Located, locate};
 pub use restoring::restore;
 pub use salvaging::{Salvaged, salvage};
 pub use verifying::{Hurt, Verdict, Verified, verify};

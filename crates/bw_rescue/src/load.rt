@@ -162,7 +162,8 @@ impl<W: Watch> Loading<'_, W> {
         settle(home)
     }
 
-    /// The same; `false` where a spare was made, which is to be added first.
+    /// Puts all pairs that are left, and flushes them; `false` if a spare was made, which is to be
+    /// added first.
     fn go_on<R: System>(&mut self, rt: &R, home: &mut Home) -> Result<bool, HomeFault>
         requires { IsReady home.old holding }
         ensures { IsReady home.new holding }

@@ -44,7 +44,7 @@ pub(crate) fn sound_images<R: System, W: Watch>(
 #[derive(Drop)]
 pub(crate) struct Seen {
     pub(crate) image: Image,
-    /// Where the first piece begins, in bytes, that has not its digest, and what is told of it.
+    /// Where what was changed or lost begins, in bytes, and what is told of it.
     pub(crate) hurt: Option<(u64, FolderFault)>,
 }
 
@@ -54,6 +54,10 @@ fn look_at<R: System>(rt: &R, reader: &FolderReader, lease: u32) -> Result<Seen,
         Ok(bytes) => (bytes, None),
         Err(FolderFault::Damaged { lease, at }) => {
             let hurt = Some((at, FolderFault::Damaged { lease, at }));
+            (reader.bytes(rt, lease)?, hurt)
+        }
+        Err(FolderFault::Missing { lease, from, to }) => {
+            let hurt = Some((from, FolderFault::Missing { lease, from, to }));
             (reader.bytes(rt, lease)?, hurt)
         }
         Err(fault) => return Err(fault),

@@ -3,6 +3,7 @@
 use crate::copying::Copied;
 use crate::fault::{RescueFault, already_there};
 use crate::judged::{Judged, judge};
+use crate::pieces::ends_of;
 use crate::reading::{Seen, seen_images};
 use bw_care::RecoverCause;
 use bw_file::{Folder, FolderFault};
@@ -169,7 +170,9 @@ fn write_rest<R: System>(rt: &R, folder: &Folder, images: &[Image]) -> Result<()
     let held = images.iter().filter(|image| !image.bytes.is_empty());
     for image in held.skip(1) {
         if let Some(lease) = image.lease {
-            folder.write(rt, lease, image.bytes.as_slice())?;
+            let bytes = image.bytes.as_slice();
+            let ends = ends_of(rt.alloc(), bytes)?;
+            folder.write(rt, lease, bytes, ends.as_slice())?;
         }
     }
     Ok(())
@@ -191,7 +194,8 @@ fn write_all<R: System>(rt: &R, path: &str, images: &[Image]) -> Result<(), Fold
         },
     ) = first
     {
-        let begun = folder.write_held_back(rt, *lease, bytes.as_slice())?;
+        let ends = ends_of(rt.alloc(), bytes.as_slice())?;
+        let begun = folder.write_held_back(rt, *lease, bytes.as_slice(), ends.as_slice())?;
         write_rest(rt, &folder, images)?;
         begun.end()?;
     }

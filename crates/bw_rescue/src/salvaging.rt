@@ -1,15 +1,17 @@
 //! What a damaged folder still has goes into a new store.
 
+use crate::compared::Wanted;
 use crate::copying::Copied;
 use crate::fault::RescueFault;
 use crate::load::load;
 use crate::target::Target;
 use bw_care::RecoverCause;
 use bw_codec::Leaf;
+use bw_digest::told_end;
 use bw_file::{FolderFault, FolderReader};
 use bw_home::{Options, System};
 use bw_look::frame_in_folder;
-use bw_remains::{Held, Loss, Pages, frame_at, pairs_of, sums_beside};
+use bw_remains::{Held, Loss, Pages, frame_at, pairs_of};
 use bw_watch::{Watch, Work, folder_bytes};
 use std::alloc::{AllocError, Global};
 use std::collections::BTreeMap;
@@ -46,6 +48,11 @@ impl Wreck {
         bytes: Vec<u8>,
         sums: &[u8],
     ) -> Result<(), AllocError> {
+        let from = bytes.len() as u64;
+        let to = told_end(sums);
+        if to > from {
+            self.losses.push(Loss::Missing { lease, from, to })?;
+        }
         let held = Held::of(alloc, lease, bytes, sums)?;
         for piece in held.unchecked.as_slice() {
             self.losses.push(Loss::Unchecked {
@@ -63,12 +70,11 @@ impl Wreck {
         &mut self,
         rt: &R,
         reader: &FolderReader,
-        path: &str,
         lease: u32,
     ) -> Result<(), AllocError> {
         match reader.bytes(rt, lease) {
             Ok(bytes) => {
-                let sums = self.sums_of(rt, path, lease)?;
+                let sums = self.sums_of(rt, reader, lease)?;
                 self.add(rt.alloc(), lease, bytes, sums.as_slice())
             }
             Err(FolderFault::NoMemory) => Err(AllocError),
@@ -84,10 +90,10 @@ impl Wreck {
     fn sums_of<R: System>(
         &mut self,
         rt: &R,
-        path: &str,
+        reader: &FolderReader,
         lease: u32,
     ) -> Result<Vec<u8>, AllocError> {
-        match sums_beside(rt, path, lease) {
+        match reader.sums(rt, lease) {
             Ok(sums) => Ok(sums),
             Err(FolderFault::NoMemory) => Err(AllocError),
             Err(fault) => {
@@ -111,7 +117,7 @@ impl Wreck {
             losses: Vec::new(rt.alloc()),
         };
         for lease in &reader.leases(rt)? {
-            wreck.look(rt, &reader, path, *lease)?;
+            wreck.look(rt, &reader, *lease)?;
             watch.see(Work::Reading, wreck.bytes(), all);
         }
         Ok(wreck)
@@ -223,7 +229,7 @@ fn read_saved<R: System, W: Watch>(
 /// `restore` gives it, up to the first fault. Of each key the page with the greatest low that is not
 /// above it counts.
 ///
-/// Refused, and nothing is made: `Target` where the new folder is there already; `Source` where the
+/// Refused, and nothing is made: `Target` if the new folder is there already; `Source` if the
 /// other one cannot be listed, or is locked for writing; `Recovery`, `Empty`, where no page is left.
 pub fn salvage<R: System, W: Watch>(
     rt: &R,
@@ -241,14 +247,15 @@ pub fn salvage<R: System, W: Watch>(
         frame_bytes: frame_in_folder(other.capacity),
         ..other
     };
+    let making = target.begin(rt)?;
     load(
         rt,
-        target.partial(),
+        making.partial(),
         leases,
         &options,
         pairs.as_slice(),
         watch,
     )?;
-    let copied = target.end(rt, leases, watch)?;
+    let copied = making.end(rt, leases, Wanted::Pairs(pairs.as_slice()), watch)?;
     Ok(Salvaged { copied, losses })
 }

@@ -1,43 +1,33 @@
 //! A new folder. It is made under another name beside, and gets its own at the end: whatever stops
 //! this in between, a part of it is never taken for a store.
 
+use crate::compared::Wanted;
 use crate::copying::Copied;
-use crate::fault::{RescueFault, already_there};
+use crate::fault::RescueFault;
 use crate::judged::{bytes_of, judge};
+use crate::partial::{begin, finish, is_left, refuse_there};
+use crate::pieces::ends_of;
 use crate::reading::sound_images;
 use bw_file::{Folder, FolderFault};
 use bw_home::System;
 use bw_look::Image;
 use bw_watch::{Watch, Work};
-use std::fs;
+use std::fs::{self, File};
 use std::io::{self, ErrorKind};
 
-/// A new folder, and the one in which it is made.
+/// A new folder, and the one in which it is to be made.
 #[derive(Drop)]
 pub(crate) struct Target {
     to: String,
     partial: String,
 }
 
-/// Refuses a name that something has.
-fn refuse_there<R: System>(rt: &R, path: &str) -> Result<(), FolderFault> {
-    match fs::symlink_metadata(rt, path) {
-        Ok(_) => Err(already_there()),
-        Err(error) if error.kind() == ErrorKind::NotFound => Ok(()),
-        Err(error) => Err(FolderFault::from(error)),
-    }
-}
-
-/// Waits until each file of a folder stands on the disk, and each name in it.
-fn sync_files<R: System>(rt: &R, path: &str) -> Result<(), FolderFault> {
-    for entry in fs::read_dir(rt, path)? {
-        let entry = entry?;
-        let name = entry.file_name();
-        let file = format!(in rt.alloc(); "{path}/{name}")?;
-        fs::open(rt, file.as_str())?.sync_all()?;
-    }
-    fs::open(rt, path)?.sync_all()?;
-    Ok(())
+/// A new folder that is being made.
+#[derive(Drop)]
+pub(crate) struct Making {
+    target: Target,
+    /// Locked, so that nobody else makes it.
+    mark: File,
 }
 
 /// Gives a folder another name, and waits until that stands.
@@ -48,7 +38,7 @@ fn rename<R: System>(rt: &R, from: &str, to: &str) -> Result<(), FolderFault> {
     Ok(())
 }
 
-/// Writes the segments that have bytes, with a digest for each.
+/// Writes the segments, with a digest for each of their pieces.
 fn write_images<R: System, W: Watch>(
     rt: &R,
     path: &str,
@@ -60,7 +50,9 @@ fn write_images<R: System, W: Watch>(
     let mut done = 0u64;
     for image in images {
         if let Some(lease) = image.lease {
-            folder.write(rt, lease, image.bytes.as_slice())?;
+            let bytes = image.bytes.as_slice();
+            let ends = ends_of(rt.alloc(), bytes)?;
+            folder.write(rt, lease, bytes, ends.as_slice())?;
         }
         done = done.saturating_add(image.bytes.len() as u64);
         watch.see(Work::Writing, done, all);
@@ -70,7 +62,7 @@ fn write_images<R: System, W: Watch>(
 
 impl Target {
     /// A folder of this path, which nothing may have yet. The one in which it is made has `.partial`
-    /// behind its name, and may not be there either: who finds one that a stop left removes it.
+    /// behind its name, and may not be there either, but for what an earlier run left.
     pub(crate) fn of<R: System>(rt: &R, to: &str) -> Result<Target, RescueFault> {
         refuse_there(rt, to).map_err(RescueFault::of_target)?;
         let name = to.trim_end_matches('/');
@@ -79,14 +71,22 @@ impl Target {
             return Err(RescueFault::Target(missing));
         }
         let partial = format!(in rt.alloc(); "{name}.partial")?;
-        refuse_there(rt, partial.as_str()).map_err(RescueFault::of_partial)?;
+        let _ = is_left(rt, partial.as_str()).map_err(RescueFault::of_partial)?;
         let to = String::from_str(rt.alloc(), name)?;
         Ok(Target { to, partial })
     }
 
+    /// Makes the folder in which it is made.
+    pub(crate) fn begin<R: System>(self, rt: &R) -> Result<Making, RescueFault> {
+        let mark = begin(rt, self.partial.as_str()).map_err(RescueFault::of_partial)?;
+        Ok(Making { target: self, mark })
+    }
+}
+
+impl Making {
     /// The folder in which it is made.
     pub(crate) fn partial(&self) -> &str {
-        self.partial.as_str()
+        self.target.partial.as_str()
     }
 
     /// Writes these segments.
@@ -96,25 +96,30 @@ impl Target {
         images: &[Image],
         watch: &mut W,
     ) -> Result<(), RescueFault> {
-        write_images(rt, self.partial.as_str(), images, watch).map_err(RescueFault::of_partial)
+        write_images(rt, self.partial(), images, watch).map_err(RescueFault::of_partial)
     }
 
-    /// Reads what was written again, waits until it stands, and gives it its name; answers what it
-    /// holds.
+    /// Reads what was written again, compares it with what it has to be, waits until it stands, and
+    /// gives it its name; answers what it holds.
     pub(crate) fn end<R: System, W: Watch>(
         self,
         rt: &R,
         leases: u32,
+        wanted: Wanted<'_>,
         watch: &mut W,
     ) -> Result<Copied, RescueFault> {
-        let images = match sound_images(rt, self.partial.as_str(), leases, watch) {
+        let images = match sound_images(rt, self.partial(), leases, watch) {
             Ok(images) => images,
             Err(RescueFault::Source(fault)) => return Err(RescueFault::Partial(fault)),
             Err(fault) => return Err(fault),
         };
-        let copied = Copied::of(&judge(rt.alloc(), images.as_slice(), watch)?);
-        sync_files(rt, self.partial.as_str()).map_err(RescueFault::of_partial)?;
-        rename(rt, self.partial.as_str(), self.to.as_str()).map_err(RescueFault::of_target)?;
+        let judged = judge(rt.alloc(), images.as_slice(), watch)?;
+        if !wanted.is(rt.alloc(), &judged)? {
+            return Err(RescueFault::Unlike);
+        }
+        let copied = Copied::of(&judged);
+        finish(rt, self.partial()).map_err(RescueFault::of_partial)?;
+        rename(rt, self.partial(), self.target.to.as_str()).map_err(RescueFault::of_target)?;
         Ok(copied)
     }
 }

@@ -17,6 +17,8 @@ use std::fmt::{self, Display, Formatter};
 pub enum Hurt {
     /// The piece that begins here, in bytes, has not its digest.
     Damaged { lease: u32, at: u64 },
+    /// The file ends at the first of these bytes, and its digests say that it went on to the other.
+    Missing { lease: u32, from: u64, to: u64 },
     /// Here are bytes that are neither a header, nor a frame, nor a tail.
     BadBytes { lease: u32, at: u64 },
 }
@@ -25,6 +27,9 @@ impl Display for Hurt {
     fn fmt<W: fmt::Write>(&self, f: &mut Formatter<W>) -> fmt::Result {
         match self {
             Hurt::Damaged { lease, at } => write!(f, "damaged: segment-{lease:04}.bw at {at}"),
+            Hurt::Missing { lease, from, to } => {
+                write!(f, "missing: segment-{lease:04}.bw from {from} to {to}")
+            }
             Hurt::BadBytes { lease, at } => write!(f, "bad bytes: segment-{lease:04}.bw at {at}"),
         }
     }
@@ -95,6 +100,10 @@ impl Walk {
             Ok(sound) => sound,
             Err(FolderFault::Damaged { lease, at }) => {
                 self.hurts.push(Hurt::Damaged { lease, at })?;
+                return Ok(());
+            }
+            Err(FolderFault::Missing { lease, from, to }) => {
+                self.hurts.push(Hurt::Missing { lease, from, to })?;
                 return Ok(());
             }
             Err(fault) => return Err(RescueFault::from(fault)),

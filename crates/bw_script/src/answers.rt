@@ -43,7 +43,7 @@ pub enum Answer {
     Walk(u64),
     /// What was given up with the oldest segment.
     Cleaned(Cleaned),
-    /// The same, and by how many bytes the live segments got shorter.
+    /// What was given up with the oldest segment, and by how many bytes the live segments got shorter.
     Won(Cleaned, u64),
     Rolled,
     /// The bytes of a segment.
@@ -52,15 +52,16 @@ pub enum Answer {
     Spare,
     /// What a new folder holds.
     Copied(Copied),
-    /// No new folder was made, for this reason.
-    NotCopied(FolderFault),
+    /// No new folder was made, by the name of the one at fault and the reason.
+    NotCopied(String, FolderFault),
     /// The leases that are out.
     Leases(Vec<u32>),
     // What is printed as the store has it.
     History,
     Cuts,
     Segments,
-    Stats,
+    /// With a word that says whether an append failed, so that no other goes.
+    Stats(bool),
 }
 
 fn write_cleaned<O: Write>(out: &mut Printer<'_, O>, cleaned: &Cleaned) {
@@ -119,12 +120,20 @@ fn write_answer<O: Write>(out: &mut Printer<'_, O>, answer: &Answer) {
         Answer::Dump(bytes) => write_dump(out, bytes.as_slice()),
         Answer::Leases(leases) => write_leases(out, leases.as_slice()),
         Answer::Copied(copied) => write_copied(out, *copied),
-        Answer::NotCopied(fault) => out.line("fault ", *fault),
+        Answer::NotCopied(folder, fault) => {
+            out.text(b"fault folder ");
+            write_word(out, folder.as_bytes());
+            out.line(": ", *fault);
+        }
         _ => {}
     }
 }
 
-fn write_history<O: Write>(out: &mut Printer<'_, O>, entries: &[PackedEntry]) {
+/// The history, behind a line that says how much of it left memory, where some did.
+fn write_history<O: Write>(out: &mut Printer<'_, O>, forgotten: u64, entries: &[PackedEntry]) {
+    if forgotten > 0 {
+        out.line("forgotten ", forgotten);
+    }
     out.line("history ", entries.len());
     for entry in entries {
         write_entry(out, &entry.entry());
@@ -161,7 +170,7 @@ fn write_leases<O: Write>(out: &mut Printer<'_, O>, leases: &[u32]) {
 }
 
 /// All numbers of a store on one line.
-fn write_stats<O: Write>(out: &mut Printer<'_, O>, home: &Home)
+fn write_stats<O: Write>(out: &mut Printer<'_, O>, home: &Home, has_failed: bool)
     requires { IsReady home.now holding }
 {
     let kept = home.store.history().len() as u64;
@@ -169,7 +178,8 @@ fn write_stats<O: Write>(out: &mut Printer<'_, O>, home: &Home)
     out.named(" durable ", durable(home));
     out.named(" segments ", home.store.live());
     out.named(" spares ", home.store.spares());
-    out.line(" pages ", home.store.pages());
+    out.named(" pages ", home.store.pages());
+    out.text(if has_failed { b" failed\n" } else { b"\n" });
 }
 
 /// Writes an answer of this store.
@@ -177,10 +187,10 @@ fn write_all<O: Write>(out: &mut Printer<'_, O>, home: &Home, answer: &Answer)
     requires { IsReady home.now holding }
 {
     match answer {
-        Answer::History => write_history(out, home.store.history()),
+        Answer::History => write_history(out, home.store.forgotten(), home.store.history()),
         Answer::Cuts => write_cuts(out, home.store.cuts()),
         Answer::Segments => write_segments(out, home),
-        Answer::Stats => write_stats(out, home),
+        Answer::Stats(has_failed) => write_stats(out, home, *has_failed),
         _ => write_answer(out, answer),
     }
 }

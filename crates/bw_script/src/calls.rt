@@ -5,11 +5,13 @@ ghost use Rattle.bw_home.specs.Ready.{IsReady};
 use crate::answers::Answer;
 use bw_codec::{Key, Value};
 use bw_core::StoreFault;
+use bw_device::MAX_LEASES;
+use bw_file::FolderFault;
 use bw_home::{GroupNotPut, Home};
 use bw_rescue::RescueFault;
 use bw_ring::Group;
-use bw_words::{Command, Fault, LEASES, Miss, Request, System};
-use std::alloc::Global;
+use bw_words::{Command, Fault, Miss, Request, System};
+use std::alloc::{AllocError, Global};
 use std::str;
 
 /// Whether the group found a place in its writer's queue, before which the store takes all that
@@ -172,6 +174,11 @@ fn count(home: &mut Home) -> Result<Answer, Miss>
     Ok(Answer::Count(home.store.count()?))
 }
 
+/// Why no new folder was made: this one is at fault.
+fn not_copied(folder: Result<String, AllocError>, fault: FolderFault) -> Result<Answer, Miss> {
+    Ok(Answer::NotCopied(folder?, fault))
+}
+
 /// Copies the store into a new folder, once all that waits was taken and flushed. Where the folder
 /// cannot be made, that is an answer.
 fn backup<R: System>(rt: &R, home: &mut Home, to: &Value) -> Result<Answer, Miss>
@@ -182,11 +189,13 @@ fn backup<R: System>(rt: &R, home: &mut Home, to: &Value) -> Result<Answer, Miss
         return Err(Miss::Fault(Fault::BadWord));
     };
     let _ = flush(home)?;
-    match bw_rescue::backup(rt, home, path, LEASES) {
+    match bw_rescue::backup(rt, home, path, MAX_LEASES) {
         Ok(copied) => Ok(Answer::Copied(copied)),
-        Err(RescueFault::Target(fault) | RescueFault::Partial(fault)) => Ok(Answer::NotCopied(
-            fault,
-        )),
+        Err(RescueFault::Target(fault)) => not_copied(format!(in rt.alloc(); "{path}"), fault),
+        Err(RescueFault::Partial(fault)) => {
+            let front = path.trim_end_matches('/');
+            not_copied(format!(in rt.alloc(); "{front}.partial"), fault)
+        }
         Err(fault) => Err(Miss::from(fault)),
     }
 }
@@ -304,6 +313,6 @@ pub fn answer<R: System>(rt: &R, home: &mut Home, request: Request) -> Result<An
         Request::Backup(to) => backup_served(rt, home, &to),
         Request::Durable => Ok(Answer::Durable(durable(home))),
         Request::Pages => Ok(Answer::Pages(home.store.pages())),
-        Request::Stats | Request::Quit => Ok(Answer::Stats),
+        Request::Stats | Request::Reopen | Request::Quit => Ok(Answer::Stats(false)),
     }
 }

@@ -3,13 +3,14 @@
 //! status.
 
 use bw_core::StoreFault;
+use bw_device::MAX_LEASES;
 use bw_file::FolderFault;
 use bw_home::HomeFault;
 use bw_keys::{KeysFault, Loaded, Task, Told, perform};
 use bw_look::Printer;
-use bw_segments::tell_above;
+use bw_segments::{tell_far, tell_located};
 use bw_watch::{Progress, Watch};
-use bw_words::{Host, LEASES, Miss, Refusal, Stop};
+use bw_words::{Host, Miss, Refusal, Stop};
 use std::io::{IsTerminal, Read, Write};
 
 /// Says how many pairs went in.
@@ -40,11 +41,7 @@ fn tell_skipped<E: Write>(out: &mut Printer<'_, E>, loaded: Loaded) {
 fn tell_folder<E: Write>(out: &mut Printer<'_, E>, dir: &str, fault: FolderFault) -> u8 {
     out.named("folder ", dir);
     out.line(": ", fault);
-    if matches!(fault, FolderFault::Damaged { .. }) {
-        4
-    } else {
-        6
-    }
+    if fault.is_damage() { 4 } else { 6 }
 }
 
 /// Says what was refused, and what may be done, and gives the exit status.
@@ -53,7 +50,7 @@ fn tell_refusal<E: Write>(out: &mut Printer<'_, E>, dir: &str, refusal: Refusal)
     match refusal {
         Refusal::Store(StoreFault::NoSegment) => {
             out.named("folder ", dir);
-            out.line(": the log is full, with segments ", LEASES);
+            out.line(": the log is full, with segments ", MAX_LEASES);
         }
         Refusal::Store(StoreFault::Device { .. }) => {
             out.named("folder ", dir);
@@ -114,6 +111,14 @@ fn told<E: Write>(end: Result<Told, KeysFault>, dir: &str, errors: &mut E) -> u8
             tell_skipped(&mut out, loaded);
             0
         }
+        Ok(Told::Halted(fault, durable)) => {
+            let status = tell_fault(&mut out, dir, fault);
+            if durable > 0 {
+                out.named("imported ", durable);
+                out.text(b" before that, which are durable\n");
+            }
+            status
+        }
         Err(fault) => tell_fault(&mut out, dir, fault),
     };
     match out.end() {
@@ -122,13 +127,30 @@ fn told<E: Write>(end: Result<Told, KeysFault>, dir: &str, errors: &mut E) -> u8
     }
 }
 
-/// Whether there are more segments than leases.
-fn is_above(end: &Result<Told, KeysFault>) -> bool {
+/// What was refused, if an end is a refusal.
+fn refusal_of(end: &Result<Told, KeysFault>) -> Option<Refusal> {
     match end {
-        Err(KeysFault::Home(fault)) => {
-            matches!(Miss::from(*fault), Miss::Refused(Refusal::NoLease))
-        }
-        _ => false,
+        Err(KeysFault::Home(fault)) | Ok(Told::Halted(KeysFault::Home(fault), _)) =>
+            match Miss::from(*fault) {
+                Miss::Refused(refusal) => Some(refusal),
+                _ => None,
+            },
+        _ => None,
+    }
+}
+
+/// Says which file of a folder keeps a run out, if there is no lease for it; and which are at fault, if
+/// recovery refused them.
+fn tell_files<R: Host, E: Write>(
+    rt: &R,
+    dir: &str,
+    refusal: Refusal,
+    errors: &mut E,
+) -> Result<(), Stop> {
+    match refusal {
+        Refusal::NoLease => tell_far(rt, dir, errors),
+        Refusal::Recovery(cause) => tell_located(rt, dir, cause, errors),
+        _ => Ok(()),
     }
 }
 
@@ -144,7 +166,7 @@ fn performed<R: Host, I: Read, O: Write, E: Write + IsTerminal>(
     is_shown: bool,
 ) -> Result<Told, KeysFault> {
     let mut watch = Progress::new(rt, Some(dir), errors, is_shown);
-    let end = perform(rt, dir, LEASES, task, input, output, &mut watch);
+    let end = perform(rt, dir, MAX_LEASES, task, input, output, &mut watch);
     watch.rest();
     end
 }
@@ -164,7 +186,10 @@ pub fn keys<R: Host, I: Read, O: Write, E: Write + IsTerminal>(
     let end = performed(rt, dir, task, input, output, errors, is_shown);
     let end = written(end, output);
     let status = told(end, dir, errors);
-    let is_told = !is_above(&end) || tell_above(rt, dir, errors).is_ok();
+    let is_told = match refusal_of(&end) {
+        Some(refusal) => tell_files(rt, dir, refusal, errors).is_ok(),
+        None => true,
+    };
     if is_told && errors.flush().is_ok() {
         status
     } else {

@@ -6,14 +6,14 @@ use crate::replay::replay;
 use bw_file::FolderFault;
 use bw_look::Printer;
 use bw_segments::{
-    compact, copy, look, restore, salvage, scan, tell_above, tell_unheeded, upgrade,
+    compact, copy, look, restore, salvage, scan, tell_far, tell_located, tell_unheeded, upgrade,
     upgrade_folder, verify,
 };
 use bw_watch::{Progress, Watch};
 use bw_words::{Host, Manner, Met, Mode, Refusal, Stop, is_memory, mode_of, print};
 use bw_writers::threads;
 use clap::Error;
-use std::io::{IsTerminal, Read, Write};
+use std::io::{ErrorKind, IsTerminal, Read, Write};
 
 /// Does what the command line asks for, and tells how far that is.
 fn go<R: Host, I: Read, O: Write, W: Watch>(
@@ -40,7 +40,8 @@ fn go<R: Host, I: Read, O: Write, W: Watch>(
     }
 }
 
-/// The same, by a watch on standard error. What the folder does not heed is told before.
+/// Does what a mode asks for, by a watch on standard error. It says first what the folder does not
+/// heed.
 fn start<R: Host, I: Read, O: Write, E: Write + IsTerminal>(
     rt: &R,
     mode: &Mode<'_>,
@@ -58,7 +59,19 @@ fn start<R: Host, I: Read, O: Write, E: Write + IsTerminal>(
     end
 }
 
-/// The same; where a folder has more segments than there are leases, it is told which of them can go.
+/// Says which file of the folder that was read keeps a run out, if there is no lease for it; and
+/// which are at fault, if recovery refused them.
+fn tell_files<R: Host, E: Write>(rt: &R, dir: &str, met: Met, errors: &mut E) -> Result<(), Stop> {
+    if met.far {
+        tell_far(rt, dir, errors)?;
+    }
+    match met.cause {
+        Some(cause) => tell_located(rt, dir, cause, errors),
+        None => Ok(()),
+    }
+}
+
+/// Does what a mode asks for, and then says what is to be said of its folder.
 fn ended<R: Host, I: Read, O: Write, E: Write + IsTerminal>(
     rt: &R,
     mode: &Mode<'_>,
@@ -68,13 +81,13 @@ fn ended<R: Host, I: Read, O: Write, E: Write + IsTerminal>(
     is_shown: bool,
 ) -> Result<Met, Stop> {
     let met = start(rt, mode, input, output, errors, is_shown)?;
-    if met.above {
+    if met.far || met.cause.is_some() {
         if let Some(dir) = mode.source() {
             // What was printed stands before it, wherever the two streams end.
             if output.flush().is_err() {
                 return Err(Stop::Output);
             }
-            tell_above(rt, dir, errors)?;
+            tell_files(rt, dir, met, errors)?;
         }
     }
     Ok(met)
@@ -110,6 +123,16 @@ impl<'a> Folders<'a> {
     }
 }
 
+/// Says why a new folder was not made under the name that it has meanwhile.
+fn tell_partial<E: Write>(out: &mut Printer<'_, E>, front: &str, fault: FolderFault) {
+    out.named("folder ", front);
+    out.line(".partial: ", fault);
+    if is_there(fault) {
+        out.named("an earlier run that was stopped may have left ", front);
+        out.text(b".partial: remove it, and run this again\n");
+    }
+}
+
 /// Says why a run ended at a fault, without its input, or without its folder.
 fn tell_stop<E: Write>(errors: &mut E, folders: Folders<'_>, stop: Stop) -> Result<(), Stop> {
     let mut out = Printer::new(errors);
@@ -126,9 +149,18 @@ fn tell_stop<E: Write>(errors: &mut E, folders: Folders<'_>, stop: Stop) -> Resu
             out.named("folder ", folders.source);
             out.line(": ", fault);
         }
-        Stop::Partial(fault) => {
+        Stop::Partial(fault) => tell_partial(&mut out, folders.dir.trim_end_matches('/'), fault),
+        Stop::NoStore => {
+            out.named("folder ", folders.source);
+            out.text(b": no store\n");
+        }
+        Stop::Within => {
+            out.named("folder ", folders.dir);
+            out.line(": it lies in the folder that is read, ", folders.source);
+        }
+        Stop::Unlike => {
             out.named("folder ", folders.dir.trim_end_matches('/'));
-            out.line(".partial: ", fault);
+            out.text(b".partial: it does not hold what was read\n");
         }
         _ => out.text(b"input failed\n"),
     }
@@ -177,13 +209,18 @@ fn status_of_end<O: Write, E: Write>(
             Ok(()) => 4,
             Err(_) => 6,
         },
-        _ => { if met.refusal { 4 } else { 0 } }
+        _ if met.refusal => 4,
+        _ if met.bare => 7,
+        _ => 0,
     }
 }
 
-/// Whether a file's bytes are not those that were appended.
-fn is_damage(fault: FolderFault) -> bool {
-    matches!(fault, FolderFault::Damaged { .. })
+/// Whether the system says that a name is taken.
+fn is_there(fault: FolderFault) -> bool {
+    match fault {
+        FolderFault::System(error) => error.kind() == ErrorKind::AlreadyExists,
+        _ => false,
+    }
 }
 
 /// Prints what an end has to say, and gives its exit status.
@@ -208,7 +245,7 @@ fn status_of<O: Write, E: Write>(
             match stop {
                 Stop::Fault(..) if is_told => 3,
                 Stop::Folder(fault) | Stop::Source(fault) | Stop::Partial(fault)
-                    if is_told && is_damage(fault) => 4,
+                    if is_told && fault.is_damage() => 4,
                 _ => 6,
             }
         }
@@ -237,12 +274,21 @@ fn run_usage<O: Write, E: Write>(error: &Error, output: &mut O, errors: &mut E) 
     status_of(Err(usage(error, errors)), none, None, output, errors)
 }
 
+/// Says that the input is waited for, and how it ends.
+fn tell_typed<E: Write>(errors: &mut E) -> Result<(), Stop> {
+    let mut out = Printer::new(errors);
+    out.text(b"reading the terminal, up to an end of input (Ctrl-D)\n");
+    out.end()?;
+    Ok(())
+}
+
 /// Runs the program on the words after its name, and answers its exit status: 0; 1 where `get` finds
 /// no value; 2 where the words are no command line; 3 at a fault of the script; 4 where something
 /// was refused, a writer gave up, or a file of the folder is damaged; 5 at once where a growth was
-/// refused; 6 where a read or a write failed. The outputs are flushed before it answers. Where the
+/// refused; 6 where a read or a write failed; 7 where `verify` found no fault, and bytes without a
+/// digest. The outputs are flushed before it answers. Where the
 /// errors go to a terminal, it tells there how far long work is; of a listing only where the output
-/// is not shown on one.
+/// is not shown on one. Where the input is typed on a terminal, a mode that reads it says so before.
 pub fn run<R: Host, I: Read, O: Write, E: Write + IsTerminal>(
     rt: &R,
     words: &[&str],
@@ -250,14 +296,27 @@ pub fn run<R: Host, I: Read, O: Write, E: Write + IsTerminal>(
     output: &mut O,
     errors: &mut E,
     is_shown: bool,
+    is_typed: bool,
 ) -> u8 {
-    let status = match mode_of(rt.alloc(), words) {
-        Ok(Mode::Keys(dir, task)) => {
-            return keys(rt, dir, &task, input, output, errors, is_shown);
+    let mode = match mode_of(rt.alloc(), words) {
+        Ok(mode) => mode,
+        Err(error) => {
+            let status = run_usage(&error, output, errors);
+            return written_out(status, output, errors);
         }
-        Ok(mode) => run_mode(rt, &mode, input, output, errors, is_shown),
-        Err(error) => run_usage(&error, output, errors),
     };
+    if is_typed && mode.reads_input() && tell_typed(errors).is_err() {
+        return 6;
+    }
+    if let Mode::Keys(dir, task) = mode {
+        return keys(rt, dir, &task, input, output, errors, is_shown);
+    }
+    let status = run_mode(rt, &mode, input, output, errors, is_shown);
+    written_out(status, output, errors)
+}
+
+/// The exit status, once the outputs are written out.
+fn written_out<O: Write, E: Write>(status: u8, output: &mut O, errors: &mut E) -> u8 {
     let is_printed = output.flush().is_ok();
     let is_told = errors.flush().is_ok();
     if is_printed && is_told { status } else { 6 }

@@ -6,13 +6,14 @@ ghost use Rattle.bw_home.specs.Ready.{IsReady};
 use crate::answers::{Answer, tell};
 use crate::calls::{call, durable, put_taking, turn_on};
 use crate::tended::{Served, Tending};
+use bw_device::MAX_LEASES;
 use bw_home::{Added, Home, Legs, with_store_at};
 use bw_look::Printer;
 use bw_pairs::{Lines, READS};
 use bw_watch::{Watch, Work, folder_bytes};
 use bw_words::{
-    Command, Fault, LEASES, LONGEST, Manner, Met, Miss, Options, PROTOCOL, Refusal, Request, Stop,
-    System, missed, no_input, parse, parse_request, print, print_found, refuse,
+    Command, Fault, LONGEST, Manner, Met, Miss, Options, PROTOCOL, Reading, Refusal, Request, Stop,
+    System, leases_in, missed, no_input, parse, parse_request, print, print_found, refuse,
 };
 use std::io::{Read, Write};
 
@@ -36,25 +37,20 @@ enum Done {
     Answered,
     /// A spare was made, and the line is answered once that was added.
     Add,
+    /// The folder is to be opened once more.
+    Reopen,
     /// A spare was made, of which no line tells: the line is answered, or is asked again then.
     Room,
 }
 
 /// What comes of room that is made behind an answer, or is not. The line is answered already, so a
-/// spare that cannot be made is none: `stats` tells it.
+/// spare that cannot be made is none: `stats` tells it. A refused growth ends the run.
 fn done_of_room(room: Result<bool, Miss>) -> Result<Done, Miss> {
     match room {
         Ok(true) => Ok(Done::Room),
         Err(Miss::Ended(stop)) => Err(Miss::Ended(stop)),
-        _ => Ok(Done::Answered),
-    }
-}
-
-/// The same behind the line of a script, which a refused growth ends.
-fn done_of_script(room: Result<bool, Miss>) -> Result<Done, Miss> {
-    match room {
         Err(Miss::Refused(refusal)) if refusal.is_no_memory() => Err(Miss::Refused(refusal)),
-        room => done_of_room(room),
+        _ => Ok(Done::Answered),
     }
 }
 
@@ -91,10 +87,68 @@ fn tell_added<O: Write>(added: Added, output: &mut O) -> Result<Met, Stop> {
     }
 }
 
+/// What a store has that ends to be opened once more, in records.
+#[derive(Debug, Clone, Copy)]
+struct Ended {
+    /// How many were accepted.
+    accepted: u64,
+    /// How many of them are durable.
+    durable: u64,
+    /// How many are where the frame of a failed append is found whole.
+    sealed: u64,
+    /// The number of that frame.
+    next: u64,
+}
+
+impl Ended {
+    /// What this store has, which accepted so many records.
+    fn of(home: &Home, accepted: u64) -> Ended
+        requires { IsReady home.now holding }
+    {
+        let durable = home.store.durable_end() as u64;
+        Ended {
+            accepted,
+            durable,
+            sealed: home.store.cuts().last().copied().unwrap_or(durable),
+            next: home.store.next_frame().unwrap_or(u64::MAX),
+        }
+    }
+
+    /// How many records are gone, where this frame is the last that was found.
+    fn lost(self, last: u64) -> u64 {
+        let kept = if last >= self.next {
+            self.sealed
+        } else {
+            self.durable
+        };
+        self.accepted.saturating_sub(kept)
+    }
+}
+
+/// Says that the folder was opened once more: which frame is its last, and how many records that were
+/// accepted are gone.
+fn print_reopened<O: Write>(output: &mut O, frame: u64, lost: u64) -> Result<(), Stop> {
+    let mut out = Printer::new(output);
+    out.named("reopened frame ", frame);
+    out.line(" lost ", lost);
+    out.end()?;
+    Ok(())
+}
+
+/// How many records a request puts.
+fn records_in(request: &Request) -> u64 {
+    match request {
+        Request::Do(Command::Put(_, group)) => group.len() as u64,
+        _ => 0,
+    }
+}
+
 /// The lines of an input, over a store.
 #[derive(Drop)]
 struct Script<'a, I, O, W> {
     manner: Manner,
+    /// How the words of a line give their bytes.
+    reading: Reading,
     /// How many writers the store has.
     writers: usize,
     /// Whether the file of what was given up is a spare again.
@@ -104,6 +158,12 @@ struct Script<'a, I, O, W> {
     watch: &'a mut W,
     /// How the store is tended.
     tending: Tending,
+    /// Whether the store stands in a folder.
+    in_folder: bool,
+    /// How many records were accepted, of requests.
+    accepted: u64,
+    /// What the store before this one had.
+    ended: Option<Ended>,
     /// What came of the last line; none before the first leg.
     done: Option<Done>,
     /// Whether the last line is asked again.
@@ -128,7 +188,7 @@ impl<I: Read + Drop, O: Write, W: Watch> Script<'_, I, O, W> {
     }
 
     /// Whether there is a line: the last one again, or the next one.
-    fn has_line(&mut self) -> Result<bool, Miss> {
+    fn next_line(&mut self) -> Result<bool, Miss> {
         if self.is_again {
             self.is_again = false;
             return Ok(true);
@@ -139,10 +199,10 @@ impl<I: Read + Drop, O: Write, W: Watch> Script<'_, I, O, W> {
 
     /// What the next line asks for as a request.
     fn next_request(&mut self) -> Result<Asked, Miss> {
-        if !self.has_line()? {
+        if !self.next_line()? {
             return Ok(Asked::Nothing);
         }
-        match parse_request(self.lines.line()) {
+        match parse_request(self.lines.line(), self.reading) {
             Ok(request) => Ok(Asked::Request(request)),
             Err(fault) => Ok(Asked::NoRequest(fault)),
         }
@@ -151,10 +211,10 @@ impl<I: Read + Drop, O: Write, W: Watch> Script<'_, I, O, W> {
     /// The next command. Lines that have none are skipped.
     fn next_command(&mut self) -> Result<Asked, Miss> {
         for _ in 0..u64::MAX {
-            if !self.has_line()? {
+            if !self.next_line()? {
                 break;
             }
-            match parse(self.lines.line(), self.writers) {
+            match parse(self.lines.line(), self.writers, self.reading) {
                 Ok(None) => {}
                 Ok(Some(command)) => return Ok(Asked::Command(command)),
                 Err(fault) => return Err(Miss::Fault(fault)),
@@ -221,7 +281,7 @@ impl<I: Read + Drop, O: Write, W: Watch> Script<'_, I, O, W> {
         };
         tell(home, self.output, &answer)?;
         if !matches!(answer, Answer::Cleaned(_)) {
-            return done_of_script(self.tending.look(rt, home));
+            return done_of_room(self.tending.look(rt, home));
         }
         home.empty(rt)?;
         if !self.reuse {
@@ -242,6 +302,7 @@ impl<I: Read + Drop, O: Write, W: Watch> Script<'_, I, O, W> {
         requires { IsReady home.old holding }
         ensures { IsReady home.new holding }
     {
+        let count = records_in(&request);
         let answer = match self.tending.serve(rt, home, request)? {
             Served::Answer(Answer::Spare) => return Ok(Done::Add),
             Served::Answer(answer) => answer,
@@ -250,6 +311,7 @@ impl<I: Read + Drop, O: Write, W: Watch> Script<'_, I, O, W> {
                 return Ok(Done::Room);
             }
         };
+        self.note_put(&answer, count);
         tell(home, self.output, &answer)?;
         if !matches!(answer, Answer::Won(..)) {
             self.write_receipt()?;
@@ -258,6 +320,29 @@ impl<I: Read + Drop, O: Write, W: Watch> Script<'_, I, O, W> {
         home.empty(rt)?;
         self.write_receipt()?;
         done_of_room(home.make_spare(rt).map(|()| true).map_err(Miss::from))
+    }
+
+    /// Counts so many records, if the answer says that they were accepted.
+    fn note_put(&mut self, answer: &Answer, count: u64) {
+        if let Answer::Put(is_accepted) = answer {
+            if *is_accepted {
+                self.accepted = self.accepted.saturating_add(count);
+            }
+        }
+    }
+
+    /// Ends the store, so that its folder is opened once more. What can still be kept of it is.
+    fn do_reopen(&mut self, home: &mut Home) -> Result<Done, Miss>
+        requires { IsReady home.old holding }
+        ensures { IsReady home.new holding }
+    {
+        if !self.in_folder {
+            print(self.output, "fault ", Fault::UnknownCommand)?;
+            return Ok(Done::Answered);
+        }
+        let _ = home.settle();
+        self.ended = Some(Ended::of(home, self.accepted));
+        Ok(Done::Reopen)
     }
 
     /// Does what the next line asks for. What is no request is answered too.
@@ -274,6 +359,10 @@ impl<I: Read + Drop, O: Write, W: Watch> Script<'_, I, O, W> {
             Asked::Request(Request::Quit) => {
                 print(self.output, "", "bye")?;
                 Ok(Done::End)
+            }
+            Asked::Request(Request::Reopen) => {
+                self.is_receipt = true;
+                self.do_reopen(home)
             }
             Asked::Request(request) => {
                 self.is_receipt = request.is_receipt();
@@ -329,15 +418,34 @@ impl<I: Read + Drop, O: Write, W: Watch> Script<'_, I, O, W> {
         }
     }
 
-    /// Tells that a store is there: which frame is its last, or what was found.
+    /// The lines that are left go to a store that is opened once more.
+    fn begin_anew(&mut self, options: &Options<'_>) {
+        self.tending = Tending::new(options);
+        self.accepted = 0;
+        self.done = None;
+    }
+
+    /// Says what store is there: which frame is its last, or what was found.
+    fn tell_store(&mut self, home: &Home) -> Result<(), Stop>
+        requires { IsReady home.now holding }
+    {
+        let last = durable(home);
+        match (self.ended.take(), self.manner) {
+            (Some(ended), _) => {
+                print_reopened(self.output, last, ended.lost(last))?;
+                self.write_receipt()
+            }
+            (None, Manner::Requests) => print_ready(self.output, last),
+            (None, Manner::Script | Manner::Taking) => print_found(self.output, home.found()),
+        }
+    }
+
+    /// Tells that a store is there.
     fn begin(&mut self, home: &Home)
         requires { IsReady home.now holding }
     {
         self.watch.rest();
-        let told = match self.manner {
-            Manner::Requests => print_ready(self.output, durable(home)),
-            Manner::Script | Manner::Taking => print_found(self.output, home.found()),
-        };
+        let told = self.tell_store(home);
         if let Err(stop) = told {
             self.end = Err(stop);
             self.done = Some(Done::End);
@@ -363,7 +471,7 @@ impl<I: Read + Drop, O: Write, W: Watch> Script<'_, I, O, W> {
         requires { IsReady home.now holding }
     {
         let is_added = matches!(home.added(), Some(Added { refused: None, .. }));
-        if self.tending.took_further() && is_added && self.manner != Manner::Requests {
+        if self.tending.take_told_segment() && is_added && self.manner != Manner::Requests {
             let segments = home.store.live().saturating_add(home.store.spares());
             self.watch.added(segments);
         }
@@ -391,7 +499,7 @@ impl<R: System, I: Read + Drop, O: Write, W: Watch> Legs<R> for Script<'_, I, O,
             return Some(self.end);
         }
         self.up_to_spare(rt, home);
-        if self.done == Some(Done::End) {
+        if matches!(self.done, Some(Done::End | Done::Reopen)) {
             Some(self.end)
         } else {
             None
@@ -402,9 +510,41 @@ impl<R: System, I: Read + Drop, O: Write, W: Watch> Legs<R> for Script<'_, I, O,
 /// How many bytes the folder of a run has, where it has one and somebody is told of it.
 fn held_in<R: System, W: Watch>(rt: &R, options: &Options<'_>, watch: &W) -> u64 {
     match options.dir {
-        Some(dir) => folder_bytes(rt, dir, LEASES, watch),
+        Some(dir) => folder_bytes(rt, dir, MAX_LEASES, watch),
         None => 0,
     }
+}
+
+// Runs the lines over the store that is there; `None` if its folder is to be opened once more.
+fn run_store<R: System, I: Read + Drop, O: Write, W: Watch>(
+    rt: &R,
+    options: &Options<'_>,
+    script: &mut Script<'_, I, O, W>,
+) -> Option<Result<Met, Stop>> {
+    let leases = leases_in(rt, options.dir);
+    let ended = with_store_at(rt, options.dir, leases, &options.store, script);
+    match ended {
+        Ok(end) if script.ended.is_none() => Some(end),
+        Ok(_) => {
+            script.begin_anew(options);
+            None
+        }
+        Err(fault) => Some(missed(script.output, 0, Miss::from(fault))),
+    }
+}
+
+// Runs the lines over one store after another.
+fn run_stores<R: System, I: Read + Drop, O: Write, W: Watch>(
+    rt: &R,
+    options: &Options<'_>,
+    script: &mut Script<'_, I, O, W>,
+) -> Result<Met, Stop> {
+    'stores: for _ in rt.forever() {
+        if let Some(end) = run_store(rt, options, script) {
+            return end;
+        }
+    }
+    unreachable!()
 }
 
 // Runs the lines over a store.
@@ -420,22 +560,23 @@ fn run_lines<R: System, I: Read + Drop, O: Write, W: Watch>(
     watch.see(Work::Opening, 0, held);
     let mut script = Script {
         manner,
+        reading: options.reading,
         writers: options.store.writers,
         reuse: options.reuse,
         lines,
         output: &mut *output,
         watch: &mut *watch,
         tending: Tending::new(options),
+        in_folder: options.dir.is_some(),
+        accepted: 0,
+        ended: None,
         done: None,
         is_again: false,
         taken: 0,
         is_receipt: false,
         end: Ok(Met::NOTHING),
     };
-    match with_store_at(rt, options.dir, LEASES, &options.store, &mut script) {
-        Ok(end) => end,
-        Err(fault) => missed(script.output, 0, Miss::from(fault)),
-    }
+    run_stores(rt, options, &mut script)
 }
 
 /// Makes a store, or goes on from the one in a folder, and runs the lines of the input over it in

@@ -1,7 +1,7 @@
 //! A store that is served, or over which a script with `--most-segments` runs, makes room by itself,
-//! as `bw_keys` does it: where one spare is left, its oldest segment is given up if that pays, and
-//! else a segment is added. A spare that was made is added before the next leg, and the line that
-//! wants it is asked again then.
+//! as `bw_keys` does it. A spare that was made is added before the next leg, and the line that wants
+//! it is asked again then. Where no room can be made, a store that is served refuses puts while
+//! deletes, flushes and a cleaning still find room.
 
 ghost use Rattle.bw_home.specs.Ready.{IsReady};
 
@@ -9,6 +9,8 @@ use crate::answers::Answer;
 use crate::calls::{answer, durable};
 use bw_core::StoreFault;
 use bw_home::Home;
+use bw_keys::Admission;
+use bw_ring::Group;
 use bw_words::{Command, Miss, Options, Refusal, Request, System};
 
 /// How a store is tended.
@@ -17,6 +19,8 @@ pub struct Tending {
     /// Whether it is: a script without `--most-segments` has no room made.
     is_on: bool,
     room: bw_keys::Tending,
+    /// Whether an append of the log failed.
+    has_failed: bool,
 }
 
 /// What comes of a request.
@@ -32,14 +36,19 @@ fn is_full(miss: &Miss) -> bool {
     matches!(miss, Miss::Refused(Refusal::Store(StoreFault::NoSegment)))
 }
 
-/// Whether it is a put, and the queue of the one writer had a place for it.
-fn is_put_at_once(home: &mut Home, request: &Request) -> bool
-    requires { IsReady home.old holding }
-    ensures { IsReady home.new holding }
-{
+/// Whether a device failed, or an append did before.
+fn is_of_device(miss: &Miss) -> bool {
+    matches!(
+        miss,
+        Miss::Refused(Refusal::Store(StoreFault::Device { .. } | StoreFault::Failed))
+    )
+}
+
+/// The group that a request puts.
+fn group_in(request: &Request) -> Option<&Group> {
     match request {
-        Request::Do(Command::Put(_, group)) => home.offer(0, group.copy()).is_ok(),
-        _ => false,
+        Request::Do(Command::Put(_, group)) => Some(group),
+        _ => None,
     }
 }
 
@@ -48,7 +57,12 @@ impl Tending {
     pub fn new(options: &Options<'_>) -> Tending {
         Tending {
             is_on: options.most > 0,
-            room: bw_keys::Tending::new(options.store.capacity, u32::from(options.most)),
+            room: bw_keys::Tending::new(
+                options.store.capacity,
+                u64::from(options.store.frame_bytes),
+                options.most,
+            ),
+            has_failed: false,
         }
     }
 
@@ -61,12 +75,24 @@ impl Tending {
         if !self.is_on {
             return Ok(false);
         }
-        Ok(self.room.look(rt, home)?)
+        let made = self.room.look(rt, home).map_err(Miss::from);
+        self.note(home, made.as_ref().err());
+        made
+    }
+
+    /// Notes whether an append failed, behind which no other goes: a flush tells it.
+    fn note(&mut self, home: &mut Home, miss: Option<&Miss>)
+        requires { IsReady home.old holding }
+        ensures { IsReady home.new holding }
+    {
+        if miss.is_some_and(|miss| is_of_device(miss)) {
+            self.has_failed = matches!(home.flush(), Err(StoreFault::Failed));
+        }
     }
 
     /// Whether a further segment was made since this was asked last, as `bw_keys` says.
-    pub fn took_further(&mut self) -> bool {
-        self.room.took_further()
+    pub fn take_told_segment(&mut self) -> bool {
+        self.room.take_told_segment()
     }
 
     /// Makes room for what was refused, if it was for want of a segment and there is a way.
@@ -77,7 +103,7 @@ impl Tending {
         if !self.is_on || !is_full(&miss) {
             return Err(miss);
         }
-        if self.room.has_room(rt, home)? {
+        if self.room.make_room(rt, home)? {
             Ok(())
         } else {
             Err(miss)
@@ -91,10 +117,11 @@ impl Tending {
     {
         match answer {
             Answer::Frame(frame) => {
-                let has_flushed = self.room.took_flush();
+                let has_flushed = self.room.take_told_flush();
                 let is_told = frame.is_some() || !has_flushed;
                 Answer::Frame(if is_told { frame } else { Some(durable(home)) })
             }
+            Answer::Stats(_) => Answer::Stats(self.has_failed),
             answer => answer,
         }
     }
@@ -118,9 +145,95 @@ impl Tending {
         }
     }
 
+    /// Whether it is a put, and the queue of the one writer had a place for it.
+    fn is_put_at_once(&mut self, home: &mut Home, request: &Request) -> bool
+        requires { IsReady home.old holding }
+        ensures { IsReady home.new holding }
+    {
+        match group_in(request) {
+            Some(group) => self.room.waits(group) && home.offer(0, group.copy()).is_ok(),
+            None => false,
+        }
+    }
+
+    /// Whether room was made for what waits, where a request has all of that taken before.
+    fn take_waiting<R: System>(
+        &mut self,
+        rt: &R,
+        home: &mut Home,
+        request: &Request,
+    ) -> Result<bool, Miss>
+        requires { IsReady home.old holding }
+        ensures { IsReady home.new holding }
+    {
+        if !request.takes() {
+            return Ok(false);
+        }
+        Ok(self.room.take_waiting(rt, home)?)
+    }
+
+    /// Whether a request may be done: a put where the log has room for it, a cleaning where it finds
+    /// room for what it writes, and any other.
+    fn admits<R: System>(
+        &mut self,
+        rt: &R,
+        home: &mut Home,
+        request: &Request,
+    ) -> Result<Admission, Miss>
+        requires { IsReady home.old holding }
+        ensures { IsReady home.new holding }
+    {
+        if let Some(group) = group_in(request) {
+            return Ok(self.room.admits(rt, home, group)?);
+        }
+        let is_cleaning = matches!(request, Request::Do(Command::Clean));
+        if is_cleaning && !self.room.may_clean(home) {
+            return Ok(Admission::No);
+        }
+        Ok(Admission::Yes)
+    }
+
+    /// The answer of a request that is admitted. What somebody asked for may have made room.
+    fn served<R: System>(
+        &mut self,
+        rt: &R,
+        home: &mut Home,
+        request: Request,
+    ) -> Result<Served, Miss>
+        requires { IsReady home.old holding }
+        ensures { IsReady home.new holding }
+    {
+        match self.admits(rt, home, &request)? {
+            Admission::Yes => {}
+            Admission::Room => return Ok(Served::Room),
+            Admission::No => return Err(Miss::from(StoreFault::NoSegment)),
+        }
+        let served = self.answered(rt, home, request)?;
+        if matches!(served, Served::Answer(Answer::Won(..) | Answer::Spare)) {
+            self.room.look_again();
+        }
+        Ok(served)
+    }
+
+    /// The answer of a request to a log that failed: what was taken is read, and nothing is put.
+    fn served_failed<R: System>(
+        &mut self,
+        rt: &R,
+        home: &mut Home,
+        request: Request,
+    ) -> Result<Served, Miss>
+        requires { IsReady home.old holding }
+        ensures { IsReady home.new holding }
+    {
+        if group_in(&request).is_some() {
+            return Err(Miss::from(StoreFault::Failed));
+        }
+        self.answered(rt, home, request)
+    }
+
     /// Does what a request asks for, and makes room where it wants some. What was accepted is taken
     /// before anything is read, so a program reads what it put. A spare that is asked for is not
-    /// added here.
+    /// added here. Behind an append that failed every put is refused.
     pub fn serve<R: System>(
         &mut self,
         rt: &R,
@@ -130,15 +243,28 @@ impl Tending {
         requires { IsReady home.old holding }
         ensures { IsReady home.new holding }
     {
-        if is_put_at_once(home, &request) {
-            return Ok(Served::Answer(Answer::Put(true)));
+        if self.has_failed {
+            return self.served_failed(rt, home, request);
         }
-        if !request.takes() {
-            return self.answered(rt, home, request);
-        }
-        if self.room.takes_room(rt, home)? {
+        let served = self.done(rt, home, request);
+        self.note(home, served.as_ref().err());
+        served
+    }
+
+    /// Does what a request asks for, if no append failed.
+    fn done<R: System>(&mut self, rt: &R, home: &mut Home, request: Request) -> Result<Served, Miss>
+        requires { IsReady home.old holding }
+        ensures { IsReady home.new holding }
+    {
+        if self.room.first_look(rt, home)? {
             return Ok(Served::Room);
         }
-        self.answered(rt, home, request)
+        if self.is_put_at_once(home, &request) {
+            return Ok(Served::Answer(Answer::Put(true)));
+        }
+        if self.take_waiting(rt, home, &request)? {
+            return Ok(Served::Room);
+        }
+        self.served(rt, home, request)
     }
 }

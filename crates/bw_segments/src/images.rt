@@ -1,7 +1,7 @@
 //! Segments that are looked at, as bytes: the files of a folder, or lines in hex. None is changed.
 
 use bw_codec::limits::{HEADER_LEN, MAX_FRAME};
-use bw_device::{Desk, MemSegment};
+use bw_device::{Desk, MAX_LEASES, MemSegment};
 use bw_file::FolderReader;
 use bw_look::Image;
 use bw_pairs::{Lines, READS};
@@ -17,22 +17,19 @@ const LONGEST: u32 = 2_097_152;
 /// The least capacity of a copy, in bytes: a header and the longest frame.
 pub const LEAST: u64 = HEADER_LEN as u64 + MAX_FRAME as u64;
 
-/// The segments of a folder, by their leases. One that no run could open is refused, and so is one
-/// whose bytes do not fit the sums beside it.
+/// The segments of a folder, by their leases. One whose bytes do not fit the sums beside it is
+/// refused.
 pub fn images_in<R: System, W: Watch>(
     rt: &R,
     path: &str,
     watch: &mut W,
 ) -> Result<Vec<Image>, Miss> {
     let reader = FolderReader::open(rt, path)?;
-    let all = folder_bytes(rt, path, LEASES, watch);
+    let all = folder_bytes(rt, path, MAX_LEASES, watch);
     let leases = reader.leases(rt)?;
     let mut images = Vec::new(rt.alloc());
     let mut done = 0u64;
     for lease in &leases {
-        if *lease >= LEASES {
-            return Err(Miss::Refused(Refusal::NoLease));
-        }
         let bytes = reader.sound_bytes(rt, *lease)?;
         done = done.saturating_add(bytes.len() as u64);
         images.push(Image {

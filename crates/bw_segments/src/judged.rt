@@ -2,11 +2,11 @@
 
 use crate::images::copy_of;
 use bw_care::{Recovered, recover};
-use bw_device::{Desk, MemSegment, Segment};
+use bw_device::{Desk, MAX_LEASES, MemSegment, Segment};
 use bw_home::Found;
 use bw_look::Image;
 use bw_page::Leaves;
-use bw_words::{LEASES, Miss};
+use bw_words::Miss;
 use std::alloc::Global;
 
 /// What recovery says of segments.
@@ -45,8 +45,8 @@ fn judge_boxes(alloc: Global, boxes: Vec<Box<dyn Segment>>) -> Result<Judged, Mi
     }
 }
 
-/// The same of copies. Their boxes are made here alone: a function that takes or gives a box makes
-/// none.
+/// What recovery says of copies of segments. Their boxes are made only here: a function that takes or
+/// gives a box makes none.
 pub fn judge_copies(alloc: Global, copies: Vec<MemSegment>) -> Result<Judged, Miss> {
     let mut boxes: Vec<Box<dyn Segment>> = Vec::new(alloc);
     for copy in copies {
@@ -57,7 +57,7 @@ pub fn judge_copies(alloc: Global, copies: Vec<MemSegment>) -> Result<Judged, Mi
 
 /// What recovery says of copies of these segments.
 pub fn judge(alloc: Global, images: &[Image]) -> Result<Judged, Miss> {
-    let mut desk = Desk::new(alloc, LEASES)?;
+    let mut desk = Desk::new(alloc, MAX_LEASES)?;
     let mut copies = Vec::new(alloc);
     for image in images {
         copies.push(copy_of(alloc, &mut desk, image.bytes.as_slice())?)?;

@@ -12,7 +12,7 @@ mod rescued;
 mod scanned;
 mod upgraded;
 
-pub use heed::{tell_above, tell_unheeded};
+pub use heed::{tell_far, tell_located, tell_unheeded};
 pub use looks::look;
 pub use rescued::{compact, copy, restore, salvage, verify};
 pub use scanned::scan;

@@ -146,6 +146,9 @@ pub fn look<R: System, I: Read, O: Write, W: Watch>(
         Ok(images) => images,
         Err((number, miss)) => return missed(output, number, miss),
     };
+    if dir.is_some() && images.is_empty() && !matches!(view, View::Print) {
+        return Err(Stop::NoStore);
+    }
     watch.see(Work::Recovering, 0, bytes_in(images.as_slice()));
     match view {
         View::Print => print_images(rt.alloc(), images.as_slice(), output),

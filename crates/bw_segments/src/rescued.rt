@@ -1,10 +1,13 @@
 //! `bwlog verify`, `copy`, `salvage` and `restore`: what `bw_rescue` does, in words.
 
+use bw_care::RecoverCause;
+use bw_device::MAX_LEASES;
+use bw_file::FolderReader;
 use bw_home::Options;
 use bw_look::Printer;
 use bw_rescue::{Copied, Hurt, Loss, RescueFault, Salvaged, Verdict, Verified};
 use bw_watch::Watch;
-use bw_words::{Ends, LEASES, Met, Miss, Stop, System, missed};
+use bw_words::{Ends, Met, Miss, Stop, System, missed};
 use std::io::Write;
 
 /// What was met where something is damaged.
@@ -44,7 +47,10 @@ pub fn copy<R: System, O: Write, W: Watch>(
     output: &mut O,
     watch: &mut W,
 ) -> Result<Met, Stop> {
-    let copied = bw_rescue::copy(rt, ends.from, ends.to, LEASES, watch);
+    if ends.is_within() {
+        return Err(Stop::Within);
+    }
+    let copied = bw_rescue::copy(rt, ends.from, ends.to, MAX_LEASES, watch);
     watch.rest();
     tell_copied(output, "copied frame ", copied)
 }
@@ -57,7 +63,10 @@ pub fn compact<R: System, O: Write, W: Watch>(
     output: &mut O,
     watch: &mut W,
 ) -> Result<Met, Stop> {
-    let copied = bw_rescue::compact(rt, ends.from, ends.to, LEASES, options, watch);
+    if ends.is_within() {
+        return Err(Stop::Within);
+    }
+    let copied = bw_rescue::compact(rt, ends.from, ends.to, MAX_LEASES, options, watch);
     watch.rest();
     tell_copied(output, "copied frame ", copied)
 }
@@ -70,7 +79,10 @@ pub fn restore<R: System, O: Write, W: Watch>(
     output: &mut O,
     watch: &mut W,
 ) -> Result<Met, Stop> {
-    let copied = bw_rescue::restore(rt, ends.from, ends.to, frame, LEASES, watch);
+    if ends.is_within() {
+        return Err(Stop::Within);
+    }
+    let copied = bw_rescue::restore(rt, ends.from, ends.to, frame, MAX_LEASES, watch);
     watch.rest();
     tell_copied(output, "restored frame ", copied)
 }
@@ -89,7 +101,10 @@ pub fn salvage<R: System, O: Write, W: Watch>(
     output: &mut O,
     watch: &mut W,
 ) -> Result<Met, Stop> {
-    let salvaged = bw_rescue::salvage(rt, ends.from, ends.to, LEASES, watch);
+    if ends.is_within() {
+        return Err(Stop::Within);
+    }
+    let salvaged = bw_rescue::salvage(rt, ends.from, ends.to, MAX_LEASES, watch);
     watch.rest();
     let Salvaged { copied, losses } = match salvaged {
         Ok(salvaged) => salvaged,
@@ -123,6 +138,17 @@ fn write_verified<O: Write>(out: &mut Printer<'_, O>, verified: Verified) {
     }
 }
 
+/// Whether a folder has the file of no segment.
+fn is_bare<R: System>(rt: &R, dir: &str) -> bool {
+    let Ok(reader) = FolderReader::open(rt, dir) else {
+        return false;
+    };
+    match reader.leases(rt) {
+        Ok(leases) => leases.is_empty(),
+        Err(_) => false,
+    }
+}
+
 /// Verifies a folder.
 pub fn verify<R: System, O: Write, W: Watch>(
     rt: &R,
@@ -130,17 +156,23 @@ pub fn verify<R: System, O: Write, W: Watch>(
     output: &mut O,
     watch: &mut W,
 ) -> Result<Met, Stop> {
-    let verified = bw_rescue::verify(rt, dir, LEASES, watch);
+    let verified = bw_rescue::verify(rt, dir, MAX_LEASES, watch);
     watch.rest();
     let verdict = match verified {
         Ok(verdict) => verdict,
+        Err(RescueFault::Recovery(RecoverCause::Empty)) if is_bare(rt, dir) => {
+            return Err(Stop::NoStore);
+        }
         Err(fault) => return missed(output, 0, Miss::from(fault)),
     };
     let mut out = Printer::new(output);
     let met = match verdict {
         Verdict::Whole(verified) => {
             write_verified(&mut out, verified);
-            Met::NOTHING
+            Met {
+                bare: verified.unsummed > 0,
+                ..Met::NOTHING
+            }
         }
         Verdict::Hurt(hurts) => {
             write_hurts(&mut out, hurts.as_slice());

@@ -2,11 +2,11 @@
 
 use crate::images::{bytes_in, copies_of, images};
 use crate::judged::{Judged, judge_copies};
-use bw_device::Desk;
+use bw_device::{Desk, MAX_LEASES};
 use bw_look::{Image, Printer, write_page};
 use bw_page::Leaves;
 use bw_watch::{Watch, Work};
-use bw_words::{LEASES, Met, Miss, Stop, System, missed, write_found};
+use bw_words::{Met, Miss, Stop, System, missed, write_found};
 use std::alloc::Global;
 use std::io::{Read, Write};
 
@@ -21,7 +21,7 @@ fn write_pages<O: Write>(out: &mut Printer<'_, O>, leaves: &Leaves) {
 
 /// What recovery says of segments. No more of them is kept than one copy.
 fn judge_all(alloc: Global, images: Vec<Image>) -> Result<Judged, Miss> {
-    let mut desk = Desk::new(alloc, LEASES)?;
+    let mut desk = Desk::new(alloc, MAX_LEASES)?;
     judge_copies(alloc, copies_of(alloc, &mut desk, images)?)
 }
 

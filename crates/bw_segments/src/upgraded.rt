@@ -4,12 +4,12 @@
 ghost use Rattle.bw_home.specs.Ready.{IsReady};
 
 use crate::images::{copies_of, copy_of, images};
-use bw_core::Upgraded;
-use bw_device::{Desk, MemSegment};
-use bw_home::{Course, Home, Options, with_segments};
+use bw_core::{StoreFault, Upgraded};
+use bw_device::{Desk, MAX_LEASES, MemSegment};
+use bw_home::{Course, Home, HomeFault, Options, with_segments};
 use bw_look::{Image, Printer, write_page};
 use bw_watch::{Unseen, Watch, Work, folder_bytes};
-use bw_words::{LEASES, Met, Miss, Stop, System, missed, write_dump};
+use bw_words::{LEASES, Met, Miss, Stop, System, leases_in, missed, write_dump};
 use std::alloc::Global;
 use std::io::{Read, Write};
 
@@ -167,6 +167,14 @@ pub fn upgrade<R: System, I: Read, O: Write>(
 
 // ---- a folder
 
+/// Says that there was nothing to be done.
+fn tell_new<O: Write>(output: &mut O) -> Result<Met, Stop> {
+    let mut out = Printer::new(output);
+    out.text(b"upgraded segments 0 pages 0 frames 0, no segment has format 1\n");
+    out.end()?;
+    Ok(Met::NOTHING)
+}
+
 /// Upgrades the store in a folder, where it stands, and says what was done.
 pub fn upgrade_folder<R: System, O: Write, W: Watch>(
     rt: &R,
@@ -174,12 +182,13 @@ pub fn upgrade_folder<R: System, O: Write, W: Watch>(
     output: &mut O,
     watch: &mut W,
 ) -> Result<Met, Stop> {
-    let held = folder_bytes(rt, path, LEASES, watch);
+    let held = folder_bytes(rt, path, MAX_LEASES, watch);
     watch.see(Work::Upgrading, 0, held);
-    let upgraded = bw_home::upgrade(rt, path, LEASES);
+    let upgraded = bw_home::upgrade(rt, path, leases_in(rt, Some(path)));
     watch.rest();
     let upgraded = match upgraded {
         Ok(upgraded) => upgraded,
+        Err(HomeFault::Store(StoreFault::NothingOld)) => return tell_new(output),
         Err(fault) => return missed(output, 0, Miss::from(fault)),
     };
     let mut out = Printer::new(output);

@@ -16,16 +16,33 @@ use bw_log::Log;
 use std::alloc::Global;
 use std::io::ErrorKind;
 
-/// Whether a store would go on from these segments, or begin anew in their place.
-fn would_begin(alloc: Global, boxes: Vec<Box<dyn Segment>>) -> Result<(), HomeFault> {
-    if let Err(fault) = recover(alloc, boxes) {
-        let _ = beginning_of(fault)?;
+/// The length of the longest segment of a log, in bytes.
+fn longest_of(log: &Log) -> u64
+    requires { IsSound log.now holding }
+{
+    let mut longest = 0u64;
+    for i in 0..log.live() {
+        if let Some((_, _, length)) = log.live_segment(i) {
+            longest = longest.max(length);
+        }
     }
-    Ok(())
+    longest
+}
+
+/// The length of the longest of these segments, where a store would go on from them; 0 where it would
+/// begin anew in their place.
+fn would_begin(alloc: Global, boxes: Vec<Box<dyn Segment>>) -> Result<u64, HomeFault> {
+    match recover(alloc, boxes) {
+        Ok(found) => Ok(longest_of(&found.log)),
+        Err(fault) => {
+            let _ = beginning_of(fault)?;
+            Ok(0)
+        }
+    }
 }
 
 /// The same of copies. Their boxes are made here alone.
-fn would_go_on(alloc: Global, copies: Vec<MemSegment>) -> Result<(), HomeFault> {
+fn would_go_on(alloc: Global, copies: Vec<MemSegment>) -> Result<u64, HomeFault> {
     let mut boxes: Vec<Box<dyn Segment>> = Vec::new(alloc);
     for copy in copies {
         boxes.push(Box::new(alloc, copy)?)?;
@@ -73,6 +90,7 @@ fn copies_of<R: System>(
 
 /// Looks at the folder of this path, where there is one, and changes nothing there. It would be
 /// opened with so many segments at least, of this capacity in bytes, by a desk of so many leases.
+/// Answers how many bytes the longest of its live segments has; 0 where it has none.
 ///
 /// What recovery refuses of its segments is refused, but for the beginning of a first frame.
 /// Whoever opens it looks again at what is opened, so nothing hangs on what somebody else does in
@@ -83,16 +101,16 @@ pub fn look<R: System>(
     leases: u32,
     least: u32,
     capacity: u64,
-) -> Result<(), HomeFault> {
+) -> Result<u64, HomeFault> {
     let reader = match FolderReader::open(rt, path) {
         Ok(reader) => reader,
         // Whoever opens it makes it.
-        Err(FolderFault::System(error)) if error.kind() == ErrorKind::NotFound => return Ok(()),
+        Err(FolderFault::System(error)) if error.kind() == ErrorKind::NotFound => return Ok(0),
         Err(fault) => return Err(HomeFault::from(fault)),
     };
     let copies = copies_of(rt, &reader, leases, least, capacity)?;
     if copies.iter().all(|copy| copy.len() == 0) {
-        return Ok(());
+        return Ok(0);
     }
     would_go_on(rt.alloc(), copies)
 }

@@ -114,6 +114,7 @@ impl From<RescueFault> for Miss {
             RescueFault::Source(fault) => Miss::Ended(Stop::Source(fault)),
             RescueFault::Target(fault) => Miss::Ended(Stop::Folder(fault)),
             RescueFault::Partial(fault) => Miss::Ended(Stop::Partial(fault)),
+            RescueFault::Unlike => Miss::Ended(Stop::Unlike),
             RescueFault::Recovery(cause) => Miss::from(cause),
             RescueFault::Home(fault) => Miss::from(fault),
             RescueFault::NoFrame { first, last } => Miss::Refused(Refusal::NoFrame { first, last }),

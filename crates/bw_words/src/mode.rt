@@ -1,6 +1,8 @@
 //! What a command line asks for.
 
-use bw_keys::Task;
+use crate::script::Reading;
+use bw_home::System;
+use bw_keys::{FEW, Task, leases_of};
 
 /// How lines are read and answered.
 #[derive(Debug, Clone, Copy, PartialEq, Eq)]
@@ -35,7 +37,7 @@ pub enum Mode<'a> {
     Threads(Options<'a>, Pace),
     /// Recovery says what segments hold: those of a folder, or lines in hex.
     Scan(Option<&'a str>),
-    /// The same segments are shown in this view.
+    /// The segments of a folder, or lines in hex, are shown in this view.
     Look(View, Option<&'a str>),
     /// A folder is verified.
     Verify(&'a str),
@@ -58,6 +60,21 @@ pub struct Ends<'a> {
     pub from: &'a str,
     /// The new folder.
     pub to: &'a str,
+}
+
+/// A path without what says nothing: slashes at its end, and `./` at its beginning.
+fn plain(path: &str) -> &str {
+    path.trim_start_matches("./").trim_end_matches('/')
+}
+
+impl Ends<'_> {
+    /// Whether the new folder would lie in the one that is read, as far as their names say.
+    pub fn is_within(&self) -> bool {
+        match plain(self.to).strip_prefix(plain(self.from)) {
+            Some(rest) => rest.starts_with('/'),
+            None => false,
+        }
+    }
 }
 
 impl<'a> Mode<'a> {
@@ -86,6 +103,24 @@ impl<'a> Mode<'a> {
         }
     }
 
+    /// Whether a store is made in memory.
+    pub fn is_in_memory(&self) -> bool {
+        match self {
+            Mode::Lines(options, _) | Mode::Threads(options, _) => options.dir.is_none(),
+            _ => false,
+        }
+    }
+
+    /// Whether it reads the input.
+    pub fn reads_input(&self) -> bool {
+        match self {
+            Mode::Lines(..) | Mode::Threads(..) => true,
+            Mode::Scan(dir) | Mode::Look(_, dir) | Mode::Upgrade(dir) => dir.is_none(),
+            Mode::Keys(_, task) => task.reads_input(),
+            _ => false,
+        }
+    }
+
     /// The options of a run over a folder.
     pub fn in_folder(&self) -> Option<(&'a str, Options<'a>)> {
         match self {
@@ -98,17 +133,21 @@ impl<'a> Mode<'a> {
 /// The options of `replay`, and of `serve` and `threads` likewise.
 #[derive(Clone, Copy)]
 pub struct Options<'a> {
-    /// The store: 2 to 64 segments at the beginning, with room for 65,560 to 16,777,216 bytes each.
+    /// The store: 2 to 64 segments at the beginning, with room for 65,560 to 16,777,216 bytes each; in
+    /// a folder up to 4,096, and up to 1 GiB.
     pub store: bw_home::Options,
     /// The folder in which they are; in memory where there is none.
     pub dir: Option<&'a str>,
     /// Whether a segment that was given up comes back as the last spare.
     pub reuse: bool,
-    /// Up to how many segments a store adds by itself, 2 to 64; 0 where it makes no room by itself.
-    pub most: u16,
+    /// How the words of its lines give their bytes.
+    pub reading: Reading,
+    /// Up to how many segments a store adds by itself, 2 to 64, in a folder to 4,096; 0 if it makes no
+    /// room by itself.
+    pub most: u32,
     /// Whether `m` was given, and is no default.
     pub gives_m: bool,
-    /// The same of `f`.
+    /// Whether `f` was given.
     pub gives_f: bool,
 }
 
@@ -129,5 +168,13 @@ pub struct Pace {
     pub readers: u32,
 }
 
-/// How many leases there are for the program's segments.
-pub const LEASES: u32 = 64;
+/// How many leases there are for segments in memory, and how many segments are read from lines.
+pub const LEASES: u32 = FEW;
+
+/// How many leases there are for a run over a folder, or in memory if there is none.
+pub fn leases_in<R: System>(rt: &R, dir: Option<&str>) -> u32 {
+    match dir {
+        Some(path) => leases_of(rt, path),
+        None => LEASES,
+    }
+}

@@ -1,9 +1,11 @@
 //! The command line, read by `clap`.
 
-use crate::mode::{Ends, Manner, Mode, Options, Pace, View};
+use crate::mode::{Ends, LEASES, Manner, Mode, Options, Pace, View};
 use crate::people::{FORMS as OVER_KEYS, keys_in};
+use crate::script::Reading;
 use crate::table::{ABOUT, COMPACT, FORMS, Form, Kind, Row, VERSION};
 use bw_codec::limits::{MAX_PAIRS, MIN_FRAME, MIN_PAIRS};
+use bw_device::MAX_LEASES;
 use bw_look::frame_in_folder;
 use clap::error::ErrorKind;
 use clap::{Arg, ArgAction, ArgMatches, Command, Error};
@@ -15,10 +17,12 @@ fn range_of(least: i64, most: i64) -> &'static str {
         (0, 64) => "0..64",
         (1, 64) => "1..64",
         (2, 64) => "2..64",
+        (2, 4096) => "2..4096",
         (4, 32) => "4..32",
         (1, 4096) => "1..4096",
         (65_536, 262_144) => "65536..262144",
         (65_560, 16_777_216) => "65560..16777216",
+        (65_560, 1_073_741_824) => "65560..1073741824",
         (1, 1_000_000_000) => "1..1000000000",
         _ => "NUMBER",
     }
@@ -28,6 +32,24 @@ fn with_range<'a>(option: Arg<'a>, least: i64, most: i64) -> Arg<'a> {
     option
         .value_name(range_of(least, most))
         .value_parser(clap::value_parser!(u32).range(least..=most))
+}
+
+/// Where segments may stand.
+#[derive(Clone, Copy)]
+enum Room {
+    /// Wherever it is.
+    Anywhere,
+    /// In memory, where they are smaller and fewer.
+    Memory,
+}
+
+/// The greatest value of a number, where its segments stand here.
+fn most_in(row: &Row, most: i64, room: Room) -> i64 {
+    match (room, row.name) {
+        (Room::Memory, "capacity") => most.min(i64::from(LARGE.capacity)),
+        (Room::Memory, "segments" | "most-segments") => most.min(i64::from(LEASES)),
+        _ => most,
+    }
 }
 
 /// An option of a row, or a word without an option's name.
@@ -51,13 +73,15 @@ fn text_of<'a>(option: Arg<'a>, kind: Kind) -> Arg<'a> {
     }
 }
 
-fn option_of<'a>(alloc: Global, row: &Row) -> Result<Arg<'a>, AllocError> {
+fn option_of<'a>(alloc: Global, row: &Row, room: Room) -> Result<Arg<'a>, AllocError> {
     let option = named(alloc, row);
     match row.kind {
-        Kind::Number(least, most, default) => Ok(with_range(option, least, most).default_value(
-            default,
-        )),
-        Kind::Open(least, most) => Ok(with_range(option, least, most)),
+        Kind::Number(least, most, default) => Ok(with_range(
+            option,
+            least,
+            most_in(row, most, room),
+        ).default_value(default)),
+        Kind::Open(least, most) => Ok(with_range(option, least, most_in(row, most, room))),
         Kind::Frame => Ok(
             option
                 .value_name("NUMBER")
@@ -75,21 +99,22 @@ fn option_of<'a>(alloc: Global, row: &Row) -> Result<Arg<'a>, AllocError> {
     }
 }
 
-/// The same. Where a mode has the option by which it makes a new store, the limits of one want it.
-fn option_in<'a>(alloc: Global, form: &Form, row: &Row) -> Result<Arg<'a>, AllocError> {
-    let option = option_of(alloc, row)?;
+/// An option of a mode. If the mode has the option by which it makes a new store, the limits of a
+/// store want that one.
+fn option_in<'a>(alloc: Global, form: &Form, row: &Row, room: Room) -> Result<Arg<'a>, AllocError> {
+    let option = option_of(alloc, row, room)?;
     match row.kind {
         Kind::Open(..) if form.name == "copy" => option.requires_arg(COMPACT.name),
         _ => Ok(option),
     }
 }
 
-fn form_of<'a>(alloc: Global, form: &Form) -> Result<Command<'a>, AllocError> {
+fn form_of<'a>(alloc: Global, form: &Form, room: Room) -> Result<Command<'a>, AllocError> {
     let mut command = Command::new(alloc, form.name)
         .about(form.about)
         .after_help(form.example);
     for row in form.options {
-        command = command.arg(option_in(alloc, form, row)?)?;
+        command = command.arg(option_in(alloc, form, row, room)?)?;
     }
     Ok(command)
 }
@@ -99,24 +124,25 @@ fn with_forms<'a>(
     alloc: Global,
     command: Command<'a>,
     forms: &[Form],
+    room: Room,
 ) -> Result<Command<'a>, AllocError> {
     let mut command = command;
     for form in forms {
-        command = command.subcommand(form_of(alloc, form)?)?;
+        command = command.subcommand(form_of(alloc, form, room)?)?;
     }
     Ok(command)
 }
 
 /// The command `bwlog` with its modes.
-fn command_of<'a>(alloc: Global) -> Result<Command<'a>, AllocError> {
+fn command_of<'a>(alloc: Global, room: Room) -> Result<Command<'a>, AllocError> {
     let command = Command::new(alloc, "bwlog")
         .about(ABOUT)
         .version(VERSION)
         .bin_name("bwlog")?
         .no_binary_name(true)
         .subcommand_required(true);
-    let command = with_forms(alloc, command, &OVER_KEYS)?;
-    with_forms(alloc, command, &FORMS)
+    let command = with_forms(alloc, command, &OVER_KEYS, room)?;
+    with_forms(alloc, command, &FORMS, room)
 }
 
 /// The folder that was named.
@@ -186,13 +212,18 @@ fn store_of(found: &ArgMatches<'_>, size: Size) -> bw_home::Options {
     }
 }
 
-/// All that they say. Each option has a value, its default at least.
-fn found_of<'a>(found: &ArgMatches<'a>, size: Size) -> Options<'a> {
+/// All that they say; up to so many segments are added if they do not say how many.
+fn found_of<'a>(found: &ArgMatches<'a>, size: Size, most: u32) -> Options<'a> {
     Options {
         store: store_of(found, size),
         dir: dir_of(found),
         reuse: found.get_flag("reuse"),
-        most: found.get_one("most-segments").unwrap_or(0),
+        reading: if found.get_flag("raw") {
+            Reading::Raw
+        } else {
+            Reading::Words
+        },
+        most: number_in(found, "most-segments", most),
         gives_m: found.get_raw("m").is_some(),
         gives_f: found.get_raw("frame").is_some(),
     }
@@ -289,13 +320,14 @@ fn mode_in<'a>(matches: &ArgMatches<'a>) -> Mode<'a> {
         return mode;
     }
     if let Some(found) = matches.subcommand_matches("replay") {
-        return Mode::Lines(found_of(found, size_of(found)), manner_of(found));
+        return Mode::Lines(found_of(found, size_of(found), 0), manner_of(found));
     }
     if let Some(found) = matches.subcommand_matches("serve") {
-        return Mode::Lines(found_of(found, LARGE), Manner::Requests);
+        let most = dir_of(found).map_or(LEASES, |_| MAX_LEASES);
+        return Mode::Lines(found_of(found, LARGE, most), Manner::Requests);
     }
     if let Some(found) = matches.subcommand_matches("threads") {
-        return Mode::Threads(found_of(found, size_of(found)), pace_of(found));
+        return Mode::Threads(found_of(found, size_of(found), 0), pace_of(found));
     }
     if let Some(found) = matches.subcommand_matches("upgrade") {
         return Mode::Upgrade(dir_of(found));
@@ -307,10 +339,14 @@ fn mode_in<'a>(matches: &ArgMatches<'a>) -> Mode<'a> {
 }
 
 /// What the words after the program's name ask for. What they do not give as a parse, help among
-/// it, is clap's error, whose text is for the user.
+/// it, is clap's error, whose text is for the user. Segments in memory have narrower ranges.
 pub fn mode_of<'a>(alloc: Global, words: &'a [&'a str]) -> Result<Mode<'a>, Error> {
-    let matches = command_of(alloc)?.try_get_matches_from(words)?;
-    Ok(mode_in(&matches))
+    let matches = command_of(alloc, Room::Anywhere)?.try_get_matches_from(words)?;
+    let mode = mode_in(&matches);
+    if mode.is_in_memory() {
+        let _ = command_of(alloc, Room::Memory)?.try_get_matches_from(words)?;
+    }
+    Ok(mode)
 }
 
 /// Whether clap had too little memory.

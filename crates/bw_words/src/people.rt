@@ -2,9 +2,9 @@
 
 use crate::mode::Mode;
 use crate::options::text_in;
-use crate::table::{Form, Kind, Row};
-use bw_keys::{Listed, Style, Task};
-use bw_pairs::{Letters, Spelling};
+use crate::table::{CAPACITY, Form, Kind, Row};
+use bw_keys::{Import, Listed, Range, Style, Task};
+use bw_pairs::{Letters, Source, Spelling};
 use clap::ArgMatches;
 
 const KEY: Row = Row {
@@ -37,6 +37,19 @@ const RAW: Row = Row {
     help: "writes all bytes as they are",
 };
 
+const RAW_WORDS: Row = Row {
+    name: "raw",
+    kind: Kind::Flag,
+    help: "takes KEY and VALUE as their own bytes, also where they begin with 0x",
+};
+
+const RAW_LINES: Row = Row {
+    name: "raw",
+    kind: Kind::Either("format"),
+    help: "a line for each pair, whose key and value are their own bytes, also where they begin \
+        with 0x",
+};
+
 const HEX: Row = Row {
     name: "hex",
     kind: Kind::Flag,
@@ -52,19 +65,31 @@ const LEAST: Row = Row {
 const ABOVE: Row = Row {
     name: "to",
     kind: Kind::Text("KEY"),
-    help: "the key before which the list ends [default: behind the last]",
+    help: "the key before which it ends [default: after the last]",
 };
 
 const PREFIX: Row = Row {
     name: "prefix",
     kind: Kind::Text("BYTES"),
-    help: "what each key begins with, 1 to 128 bytes [default: anything]",
+    help: "what each key begins with, 0 to 128 bytes [default: anything]",
 };
 
 const LIMIT: Row = Row {
     name: "limit",
     kind: Kind::Large("NUMBER"),
     help: "how many pairs at most, 0 to 2^64 - 1 [default: all]",
+};
+
+const ONLY_KEYS: Row = Row {
+    name: "keys",
+    kind: Kind::Either("values"),
+    help: "only the keys, one a line",
+};
+
+const ONLY_VALUES: Row = Row {
+    name: "values",
+    kind: Kind::Flag,
+    help: "only the values, one a line",
 };
 
 const REVERSE: Row = Row {
@@ -99,12 +124,18 @@ const MAPSIZE: Row = Row {
         db_load refuses [default: none]",
 };
 
+const ROOM: Row = Row {
+    help: "how many bytes a new segment has room for [default: 16777216, or as many as the longest \
+        segment of the folder has]",
+    ..CAPACITY
+};
+
 /// These modes.
 pub const FORMS: [Form; 7] = [
     Form {
         name: "put",
         about: "Puts a value at a key, and answers once it is durable",
-        options: &[KEY, VALUE, NEW_DIR],
+        options: &[KEY, VALUE, NEW_DIR, RAW_WORDS],
         example: "Example: bwlog put --dir store greeting hello",
     },
     Form {
@@ -122,25 +153,36 @@ pub const FORMS: [Form; 7] = [
     Form {
         name: "list",
         about: "Prints each key and its value, with a tab between",
-        options: &[DIR, LEAST, ABOVE, PREFIX, LIMIT, REVERSE, RAW, HEX],
+        options: &[
+            DIR,
+            LEAST,
+            ABOVE,
+            PREFIX,
+            LIMIT,
+            REVERSE,
+            ONLY_KEYS,
+            ONLY_VALUES,
+            RAW,
+            HEX,
+        ],
         example: "Example: bwlog list --dir store --prefix user: --limit 10",
     },
     Form {
         name: "count",
         about: "Prints how many keys there are",
-        options: &[DIR],
-        example: "Example: bwlog count --dir store",
+        options: &[DIR, LEAST, ABOVE, PREFIX],
+        example: "Example: bwlog count --dir store --prefix user:",
     },
     Form {
         name: "import",
         about: "Puts all pairs of standard input, and answers once they are durable",
-        options: &[NEW_DIR, IN_FORMAT, SKIP],
+        options: &[NEW_DIR, IN_FORMAT, RAW_LINES, SKIP, ROOM],
         example: "Example: mdb_dump other | bwlog import --dir store --format dump",
     },
     Form {
         name: "export",
         about: "Writes all pairs to standard output, for import or for other stores",
-        options: &[DIR, OUT_FORMAT, MAPSIZE],
+        options: &[DIR, LEAST, ABOVE, PREFIX, OUT_FORMAT, MAPSIZE],
         example: "Example: bwlog export --dir store --format dump | db_load other.db",
     },
 ];
@@ -161,15 +203,34 @@ fn word_in<'a>(found: &ArgMatches<'a>, name: &str) -> &'a str {
     text_in(found, name).unwrap_or("")
 }
 
-/// What the words behind `list` say.
-fn listed_in<'a>(found: &ArgMatches<'a>) -> Listed<'a> {
-    Listed {
+/// Which keys are meant.
+fn range_in<'a>(found: &ArgMatches<'a>) -> Range<'a> {
+    Range {
         from: text_in(found, "from"),
         to: text_in(found, "to"),
         prefix: text_in(found, "prefix"),
+    }
+}
+
+/// In which style pairs are listed.
+fn parts_in(found: &ArgMatches<'_>) -> Style {
+    let spelling = spelling_in(found);
+    if found.get_flag("keys") {
+        Style::Keys(spelling)
+    } else if found.get_flag("values") {
+        Style::Values(spelling)
+    } else {
+        Style::Tabs(spelling)
+    }
+}
+
+/// What the words after `list` say.
+fn listed_in<'a>(found: &ArgMatches<'a>) -> Listed<'a> {
+    Listed {
+        range: range_in(found),
         limit: found.get_one("limit").unwrap_or(u64::MAX),
         reverse: found.get_flag("reverse"),
-        spelling: spelling_in(found),
+        style: parts_in(found),
     }
 }
 
@@ -183,6 +244,26 @@ fn style_in(found: &ArgMatches<'_>) -> Style {
     }
 }
 
+/// How the pairs of an import are spelled.
+fn source_in(found: &ArgMatches<'_>) -> Source {
+    if found.get_flag("raw") {
+        return Source::Raw;
+    }
+    match word_in(found, "format") {
+        "dump" => Source::Dump,
+        _ => Source::Words,
+    }
+}
+
+/// How the pairs of an import go in.
+fn import_in(found: &ArgMatches<'_>) -> Import {
+    Import {
+        source: source_in(found),
+        skips: found.get_flag("skip"),
+        capacity: found.get_one("capacity"),
+    }
+}
+
 /// A task over the folder that was named.
 fn keys<'a>(found: &ArgMatches<'a>, task: Task<'a>) -> Option<Mode<'a>> {
     Some(Mode::Keys(word_in(found, "dir"), task))
@@ -193,7 +274,11 @@ fn one_in<'a>(matches: &ArgMatches<'a>) -> Option<Mode<'a>> {
     if let Some(found) = matches.subcommand_matches("put") {
         return keys(
             found,
-            Task::Put(word_in(found, "KEY"), word_in(found, "VALUE")),
+            Task::Put(
+                word_in(found, "KEY"),
+                word_in(found, "VALUE"),
+                found.get_flag("raw"),
+            ),
         );
     }
     if let Some(found) = matches.subcommand_matches("get") {
@@ -211,15 +296,13 @@ pub fn keys_in<'a>(matches: &ArgMatches<'a>) -> Option<Mode<'a>> {
         return keys(found, Task::List(listed_in(found)));
     }
     if let Some(found) = matches.subcommand_matches("count") {
-        return keys(found, Task::Count);
+        return keys(found, Task::Count(range_in(found)));
     }
     if let Some(found) = matches.subcommand_matches("import") {
-        let is_dump = word_in(found, "format") == "dump";
-        let skips = found.get_flag("skip");
-        return keys(found, Task::Import { is_dump, skips });
+        return keys(found, Task::Import(import_in(found)));
     }
     if let Some(found) = matches.subcommand_matches("export") {
-        return keys(found, Task::Export(style_in(found)));
+        return keys(found, Task::Export(range_in(found), style_in(found)));
     }
     one_in(matches)
 }

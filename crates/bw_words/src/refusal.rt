@@ -32,6 +32,14 @@ impl Refusal {
         )
     }
 
+    /// Why recovery refused what segments hold, if it did.
+    pub fn cause(&self) -> Option<RecoverCause> {
+        match self {
+            Refusal::Recovery(cause) => Some(*cause),
+            _ => None,
+        }
+    }
+
     /// Its number and name.
     fn name(&self) -> &'static str {
         match self {

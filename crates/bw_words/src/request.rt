@@ -1,7 +1,8 @@
 //! One line of a program that drives a store: a request, or a fault.
 
 use crate::script::{
-    Command, Fault, alone, asked_of, group_of, key_of, number_of, ops_of, single, text_of, value_of,
+    Command, Fault, Reading, alone, asked_of, group_of, key_of, number_of, ops_of, single, text_of,
+    value_of,
 };
 use bw_codec::{Key, Value};
 use std::str;
@@ -31,6 +32,8 @@ pub enum Request {
     Durable,
     /// All numbers of the store.
     Stats,
+    /// The folder is opened once more, behind a failed append.
+    Reopen,
     /// A copy in a new folder, whose path is a text in these bytes.
     Backup(Value),
     /// The run ends.
@@ -60,8 +63,8 @@ impl Request {
 }
 
 /// The path that a word gives: a text of 1 to 512 bytes.
-fn path_of(word: &str) -> Result<Value, Fault> {
-    let path = value_of(word)?;
+fn path_of(word: &str, reading: Reading) -> Result<Value, Fault> {
+    let path = value_of(reading, word)?;
     if path.as_slice().is_empty() || str::from_utf8(path.as_slice()).is_err() {
         return Err(Fault::BadWord);
     }
@@ -69,23 +72,23 @@ fn path_of(word: &str) -> Result<Value, Fault> {
 }
 
 /// The request of a name that takes one word.
-fn request_of(name: &str, word: &str) -> Result<Request, Fault> {
+fn request_of(name: &str, word: &str, reading: Reading) -> Result<Request, Fault> {
     match name {
-        "next" => Ok(Request::Next(key_of(word)?)),
-        "prev" => Ok(Request::Prev(key_of(word)?)),
-        "below" => Ok(Request::Below(key_of(word)?)),
-        "backup" => Ok(Request::Backup(path_of(word)?)),
-        _ => Ok(Request::Do(asked_of(name, word)?)),
+        "next" => Ok(Request::Next(key_of(reading, word)?)),
+        "prev" => Ok(Request::Prev(key_of(reading, word)?)),
+        "below" => Ok(Request::Below(key_of(reading, word)?)),
+        "backup" => Ok(Request::Backup(path_of(word, reading)?)),
+        _ => Ok(Request::Do(asked_of(name, word, reading)?)),
     }
 }
 
 /// The request of a walk: a key, and how many pairs from there on, of 1 to `MOST_PAIRS`.
-fn scan_of(words: &mut SplitWhitespace<'_>) -> Result<Request, Fault> {
+fn scan_of(words: &mut SplitWhitespace<'_>, reading: Reading) -> Result<Request, Fault> {
     let Some(word) = words.next() else {
         return Err(Fault::WrongNumberOfWords);
     };
     let most = single(words.next(), words.next())?;
-    let key = key_of(word)?;
+    let key = key_of(reading, word)?;
     match number_of(most)? {
         most @ 1..=MOST_PAIRS => Ok(Request::Scan(key, most)),
         _ => Err(Fault::BadNumber),
@@ -103,6 +106,7 @@ fn plain_of(name: &str) -> Option<Request> {
         "stats" => Some(Request::Stats),
         "clean" => Some(Request::Do(Command::Clean)),
         "add" => Some(Request::Do(Command::Add)),
+        "reopen" => Some(Request::Reopen),
         "quit" => Some(Request::Quit),
         _ => None,
     }
@@ -110,18 +114,18 @@ fn plain_of(name: &str) -> Option<Request> {
 
 /// What a line asks for. A line that a script would skip is no command here, since each line has an
 /// answer.
-pub fn parse_request(line: &[u8]) -> Result<Request, Fault> {
+pub fn parse_request(line: &[u8], reading: Reading) -> Result<Request, Fault> {
     let mut words = text_of(line)?.unwrap_or("").split_whitespace();
     let name = words.next().unwrap_or("");
     match name {
         "put" | "del" | "group" => {
-            let group = group_of(ops_of(name, &mut words)?)?;
+            let group = group_of(reading, ops_of(name, &mut words)?)?;
             Ok(Request::Do(Command::Put(0, group)))
         }
         "get" | "next" | "prev" | "below" | "page" | "evict" | "rewrite" | "walk" | "backup" => {
-            request_of(name, single(words.next(), words.next())?)
+            request_of(name, single(words.next(), words.next())?, reading)
         }
-        "scan" => scan_of(&mut words),
+        "scan" => scan_of(&mut words, reading),
         _ => alone(plain_of(name), words.next()),
     }
 }

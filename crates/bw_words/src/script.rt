@@ -33,6 +33,15 @@ pub enum Fault {
     BadWord,
 }
 
+/// How a word gives its bytes.
+#[derive(Debug, Clone, Copy, PartialEq, Eq)]
+pub enum Reading {
+    /// They are its own, or those of its hex digits behind `0x`.
+    Words,
+    /// They are its own, whatever these are.
+    Raw,
+}
+
 /// What a line asks for.
 #[derive(Drop)]
 pub enum Command {
@@ -93,10 +102,14 @@ fn writer_of(word: &str, writers: usize) -> Result<usize, Fault> {
     }
 }
 
-/// The bytes that a word stands for, at the front of `room`: those of its hex digits after `0x`, or
-/// its own. The room is enough for a value, and a key is shorter.
-fn bytes_of<'a>(word: &'a [u8], room: &'a mut [u8; MAX_VALUE]) -> Result<&'a [u8], Fault> {
-    if !word.starts_with(b"0x") {
+/// The bytes that a word stands for in this reading; those of hex digits come to the front of `room`.
+/// The room is enough for a value, and a key is shorter.
+fn bytes_of<'a>(
+    reading: Reading,
+    word: &'a [u8],
+    room: &'a mut [u8; MAX_VALUE],
+) -> Result<&'a [u8], Fault> {
+    if reading == Reading::Raw || !word.starts_with(b"0x") {
         return Ok(word);
     }
     let digits = &word[2..];
@@ -110,15 +123,15 @@ fn bytes_of<'a>(word: &'a [u8], room: &'a mut [u8; MAX_VALUE]) -> Result<&'a [u8
     }
 }
 
-pub fn key_of(word: &str) -> Result<Key, Fault> {
+pub fn key_of(reading: Reading, word: &str) -> Result<Key, Fault> {
     let mut room = [0u8; MAX_VALUE];
-    let bytes = bytes_of(word.as_bytes(), &mut room)?;
+    let bytes = bytes_of(reading, word.as_bytes(), &mut room)?;
     Key::new(bytes).map_err(|_| Fault::BadWord)
 }
 
-pub fn value_of(word: &str) -> Result<Value, Fault> {
+pub fn value_of(reading: Reading, word: &str) -> Result<Value, Fault> {
     let mut room = [0u8; MAX_VALUE];
-    let bytes = bytes_of(word.as_bytes(), &mut room)?;
+    let bytes = bytes_of(reading, word.as_bytes(), &mut room)?;
     Value::new(bytes).map_err(|_| Fault::BadWord)
 }
 
@@ -197,41 +210,49 @@ pub fn ops_of<'a>(name: &str, words: &mut SplitWhitespace<'a>) -> Result<Ops<'a>
     }
 }
 
-fn record_of(op: OpWords<'_>) -> Result<Record, Fault> {
+fn record_of(reading: Reading, op: OpWords<'_>) -> Result<Record, Fault> {
     match op {
-        OpWords::Put(key, value) => Ok(Record::Put(key_of(key)?, value_of(value)?)),
-        OpWords::Del(key) => Ok(Record::Del(key_of(key)?)),
+        OpWords::Put(key, value) => Ok(Record::Put(
+            key_of(reading, key)?,
+            value_of(reading, value)?,
+        )),
+        OpWords::Del(key) => Ok(Record::Del(key_of(reading, key)?)),
     }
 }
 
 /// The put or delete of these words goes into the group, if it is there.
-fn push_op(group: &mut Group, op: Option<OpWords<'_>>) -> Result<(), Fault> {
+fn push_op(group: &mut Group, reading: Reading, op: Option<OpWords<'_>>) -> Result<(), Fault> {
     let Some(op) = op else {
         return Ok(());
     };
-    match group.push(record_of(op)?) {
+    match group.push(record_of(reading, op)?) {
         Ok(()) => Ok(()),
         Err(_) => Err(Fault::WrongNumberOfWords),
     }
 }
 
 /// The group of these words; the first of them from the left that is wrong is told.
-pub fn group_of(ops: Ops<'_>) -> Result<Group, Fault> {
-    let mut group = Group::one(record_of(ops.first)?);
-    push_op(&mut group, ops.second)?;
-    push_op(&mut group, ops.third)?;
-    push_op(&mut group, ops.fourth)?;
+pub fn group_of(reading: Reading, ops: Ops<'_>) -> Result<Group, Fault> {
+    let mut group = Group::one(record_of(reading, ops.first)?);
+    push_op(&mut group, reading, ops.second)?;
+    push_op(&mut group, reading, ops.third)?;
+    push_op(&mut group, reading, ops.fourth)?;
     Ok(group)
 }
 
 /// What a writer puts in a line of this name. The words are counted before any is looked at.
-fn put_of(name: &str, words: &mut SplitWhitespace<'_>, writers: usize) -> Result<Command, Fault> {
+fn put_of(
+    name: &str,
+    words: &mut SplitWhitespace<'_>,
+    writers: usize,
+    reading: Reading,
+) -> Result<Command, Fault> {
     let Some(writer) = words.next() else {
         return Err(Fault::WrongNumberOfWords);
     };
     let ops = ops_of(name, words)?;
     let writer = writer_of(writer, writers)?;
-    Ok(Command::Put(writer, group_of(ops)?))
+    Ok(Command::Put(writer, group_of(reading, ops)?))
 }
 
 /// The word of a command that takes one.
@@ -243,9 +264,9 @@ pub fn single<'a>(one: Option<&'a str>, two: Option<&'a str>) -> Result<&'a str,
 }
 
 /// The command of a name that takes one word, a key or a number.
-pub fn asked_of(name: &str, word: &str) -> Result<Command, Fault> {
+pub fn asked_of(name: &str, word: &str, reading: Reading) -> Result<Command, Fault> {
     if name == "get" {
-        return Ok(Command::Get(key_of(word)?));
+        return Ok(Command::Get(key_of(reading, word)?));
     }
     let number = number_of(word)?;
     match name {
@@ -284,13 +305,13 @@ fn plain_of(name: &str) -> Option<Command> {
 }
 
 /// The command of words that are parted by spaces.
-fn command_of(text: &str, writers: usize) -> Result<Command, Fault> {
+fn command_of(text: &str, writers: usize, reading: Reading) -> Result<Command, Fault> {
     let mut words = text.split_whitespace();
     let name = words.next().unwrap_or("");
     match name {
-        "put" | "del" | "group" => put_of(name, &mut words, writers),
+        "put" | "del" | "group" => put_of(name, &mut words, writers, reading),
         "turn" | "page" | "evict" | "rewrite" | "walk" | "dump" | "get" => {
-            asked_of(name, single(words.next(), words.next())?)
+            asked_of(name, single(words.next(), words.next())?, reading)
         }
         _ => alone(plain_of(name), words.next()),
     }
@@ -319,9 +340,9 @@ pub fn text_of(line: &[u8]) -> Result<Option<&str>, Fault> {
 }
 
 /// What a line asks for, where there are so many writers; nothing where it is skipped.
-pub fn parse(line: &[u8], writers: usize) -> Result<Option<Command>, Fault> {
+pub fn parse(line: &[u8], writers: usize, reading: Reading) -> Result<Option<Command>, Fault> {
     match text_of(line)? {
-        Some(text) => Ok(Some(command_of(text, writers)?)),
+        Some(text) => Ok(Some(command_of(text, writers, reading)?)),
         None => Ok(None),
     }
 }
@@ -332,7 +353,7 @@ pub fn parse_group(line: &[u8], writers: usize) -> Result<Option<(usize, Group)>
         return Ok(None);
     };
     match text.split_whitespace().next().unwrap_or("") {
-        "put" | "del" | "group" => match command_of(text, writers)? {
+        "put" | "del" | "group" => match command_of(text, writers, Reading::Words)? {
             Command::Put(writer, group) => Ok(Some((writer, group))),
             _ => Err(Fault::UnknownCommand),
         },

@@ -4,6 +4,7 @@ use crate::miss::Miss;
 use crate::printed::print;
 use crate::refusal::Refusal;
 use crate::script::Fault;
+use bw_care::RecoverCause;
 use bw_core::StoreFault;
 use bw_file::FolderFault;
 use bw_look::NotWritten;
@@ -25,10 +26,16 @@ pub enum Stop {
     Output,
     /// The folder of the segments could not be opened, read or written.
     Folder(FolderFault),
-    /// The same of the folder that is read, where another one is written.
+    /// The folder that is read was not opened, or a file in it is damaged, and another one is written.
     Source(FolderFault),
-    /// The same of the one in which that is made, whose name has `.partial` behind.
+    /// The folder in which the new one is made, whose name ends in `.partial`, was not made.
     Partial(FolderFault),
+    /// What stands in that one is not what was read.
+    Unlike,
+    /// The folder that is looked at has the file of no segment.
+    NoStore,
+    /// The folder that would be made lies in the one that is read.
+    Within,
 }
 
 impl From<AllocError> for Stop {
@@ -65,8 +72,12 @@ pub struct Met {
     pub refusal: bool,
     /// The log had no room.
     pub full: bool,
-    /// There are more segments than leases.
-    pub above: bool,
+    /// There was no lease for a file, or for a new segment.
+    pub far: bool,
+    /// Some bytes have no digest, of a folder that was verified.
+    pub bare: bool,
+    /// Recovery refused what the segments hold, for this cause.
+    pub cause: Option<RecoverCause>,
 }
 
 impl Met {
@@ -74,7 +85,9 @@ impl Met {
     pub const NOTHING: Met = Met {
         refusal: false,
         full: false,
-        above: false,
+        far: false,
+        bare: false,
+        cause: None,
     };
 
     /// What both have met.
@@ -82,7 +95,9 @@ impl Met {
         Met {
             refusal: self.refusal | other.refusal,
             full: self.full | other.full,
-            above: self.above | other.above,
+            far: self.far | other.far,
+            bare: self.bare | other.bare,
+            cause: self.cause.or(other.cause),
         }
     }
 }
@@ -106,7 +121,9 @@ pub fn refuse<O: Write>(output: &mut O, refusal: Refusal) -> Result<Met, Stop> {
     Ok(Met {
         refusal: true,
         full: matches!(refusal, Refusal::Store(StoreFault::NoSegment)),
-        above: matches!(refusal, Refusal::NoLease),
+        far: matches!(refusal, Refusal::NoLease),
+        bare: false,
+        cause: refusal.cause(),
     })
 }
 

@@ -1,19 +1,23 @@
 //! The modes of the program and their options, with their help, but for the modes over keys.
 
 use bw_codec::limits::{HEADER_LEN, MAX_FRAME, MAX_PAIRS, MIN_FRAME, MIN_PAIRS};
+use bw_device::{MAX_CAPACITY, MAX_LEASES};
 
 /// The least capacity of a segment, in bytes: a header and the shortest of the longest frames.
 const LEAST: i64 = HEADER_LEN as i64 + MIN_FRAME as i64;
 
-/// The greatest capacity of a segment, in bytes.
-const MOST: i64 = 16_777_216;
+/// The greatest capacity of a segment, in bytes. In memory it is less.
+const MOST: i64 = MAX_CAPACITY as i64;
+
+/// The most segments of a store. In memory there are fewer.
+const MOST_LEASES: i64 = MAX_LEASES as i64;
 
 /// What an option takes.
 #[derive(Clone, Copy)]
 pub enum Kind {
     /// A number from one to another, and what it is where none is given.
     Number(i64, i64, &'static str),
-    /// The same, where the help tells what it is then.
+    /// A number from one to another; the help says what it is if none is given.
     Open(i64, i64),
     Folder,
     /// A folder that has to be given.
@@ -24,7 +28,7 @@ pub enum Kind {
     Large(&'static str),
     /// Any text, by the name of its value.
     Text(&'static str),
-    /// The same, which has to be given, without the name of an option before it.
+    /// Any text, which has to be given, without the name of an option before it.
     Word,
     /// One of these texts, and which where none is given.
     Choice(&'static [&'static str], &'static str),
@@ -69,14 +73,16 @@ const FRAME: Row = Row {
 
 const SEGMENTS: Row = Row {
     name: "segments",
-    kind: Kind::Number(2, 64, "4"),
-    help: "how many segments there are at the beginning",
+    kind: Kind::Number(2, MOST_LEASES, "4"),
+    help: "how many segments there are at the beginning; in memory up to 64",
 };
 
-const CAPACITY: Row = Row {
+pub const CAPACITY: Row = Row {
     name: "capacity",
     kind: Kind::Open(LEAST, MOST),
-    help: "how many bytes a segment has room for [default: 262168, in a folder 16777216]",
+    help: "how many bytes a segment has room for; in memory up to 16777216. With room for fewer than \
+        eight frames more spares are kept [default: 262168, in a folder 16777216, or as many as its \
+        longest segment has]",
 };
 
 const ROOM_DRAWN: Row = Row {
@@ -87,15 +93,15 @@ const ROOM_DRAWN: Row = Row {
 
 const MOST_SEGMENTS: Row = Row {
     name: "most-segments",
-    kind: Kind::Number(2, 64, "64"),
-    help: "up to how many segments are added where one spare is left and a cleaning does not pay",
+    kind: Kind::Open(2, MOST_LEASES),
+    help: "up to how many segments are added where one spare is left and a cleaning does not pay; in \
+        memory up to 64 [default: 64, in a folder 4096]",
 };
 
-/// The same of what is the specification's, word for word, where it is not given.
+/// Room that is made only if it is asked for: a script's answers are the store's own otherwise.
 const ROOM: Row = Row {
-    kind: Kind::Open(2, 64),
     help: "makes room where one spare is left: the oldest segment is given up where that pays, and \
-        else one is added, up to so many [default: no room is made]",
+        else one is added, up to so many; in memory up to 64 [default: no room is made]",
     ..MOST_SEGMENTS
 };
 
@@ -131,13 +137,19 @@ const TAKE: Row = Row {
     help: "a group that finds its ring full has the store take what waits first",
 };
 
+const RAW: Row = Row {
+    name: "raw",
+    kind: Kind::Flag,
+    help: "takes the words of a line as their own bytes, also where they begin with 0x",
+};
+
 const REUSE: Row = Row {
     name: "reuse",
     kind: Kind::Flag,
     help: "a segment that was given up comes back as the last spare",
 };
 
-/// The same of `threads`, which then cleans where it pays.
+/// Segments that come back, of `threads`, which then cleans if it pays.
 const REUSE_BETWEEN: Row = Row {
     help: "runs the scripts in parts that a segment has room for, gives up the oldest segment \
         between two of them where --clean-at says so and it pays, and has it back as the last spare",
@@ -218,12 +230,12 @@ const FORGET: Row = Row {
 };
 
 /// The store of a script.
-const REPLAY: [Row; 10] = [
-    WRITERS, PLACES, M, FRAME, SEGMENTS, CAPACITY, STORE_DIR, TAKE, REUSE, ROOM,
+const REPLAY: [Row; 11] = [
+    WRITERS, PLACES, M, FRAME, SEGMENTS, CAPACITY, STORE_DIR, TAKE, RAW, REUSE, ROOM,
 ];
 
 /// The store of a program, which is one writer.
-const SERVE: [Row; 7] = [
+const SERVE: [Row; 8] = [
     Row {
         kind: Kind::Number(1, 4096, "1024"),
         ..PLACES
@@ -235,10 +247,13 @@ const SERVE: [Row; 7] = [
     FRAME,
     SEGMENTS,
     Row {
-        help: "how many bytes a segment has room for [default: 16777216]",
+        help: "how many bytes a segment has room for; in memory up to 16777216. With room for fewer \
+            than eight frames more spares are kept [default: 16777216, or as many as the longest \
+            segment of the folder has]",
         ..CAPACITY
     },
     STORE_DIR,
+    RAW,
     MOST_SEGMENTS,
 ];
 
@@ -259,7 +274,7 @@ const COPY: [Row; 7] = [
         ..FRAME
     },
     Row {
-        kind: Kind::Open(2, 64),
+        kind: Kind::Open(2, MOST_LEASES),
         help: "of --compact: how many segments there are at least [default: 4]",
         ..SEGMENTS
     },
@@ -279,7 +294,7 @@ const THREADS: [Row; 15] = [
     M,
     FRAME,
     Row {
-        kind: Kind::Number(2, 64, "32"),
+        kind: Kind::Number(2, MOST_LEASES, "32"),
         ..SEGMENTS
     },
     CAPACITY,
@@ -294,7 +309,7 @@ const THREADS: [Row; 15] = [
     Row {
         help: "runs the scripts in parts that a segment has room for, and makes room between two of \
             them where one spare is left: the oldest segment is given up where that pays, and else \
-            one is added, up to so many [default: no room is made]",
+            one is added, up to so many; in memory up to 64 [default: no room is made]",
         ..ROOM
     },
 ];

@@ -4,7 +4,7 @@
 ghost use Rattle.std.specs.Prelude.{◌≡◌, vec_len, IfOk};
 ghost use Rattle.bw_home.specs.Sharing.{IsShared};
 
-use crate::room::{Made, has_room, is_due};
+use crate::room::{Made, is_due, make_room};
 use crate::runs::{Run, drive_tended};
 use bw_codec::limits::HEADER_LEN;
 use bw_codec::{Leaf, Record};
@@ -440,7 +440,7 @@ impl Legs {
         if self.is_done() {
             return Ok(None);
         }
-        has_room(rt, home, options)
+        make_room(rt, home, options)
     }
 
     /// Runs legs up to where a spare was made, in place of the oldest segment or as a further one:

@@ -43,7 +43,7 @@ fn wins(home: &SharedHome, capacity: u64) -> bool
 
 // Whether the oldest segment was given up for a spare; `false` where there was too little room for
 // that.
-fn has_won<R: Host>(rt: &R, home: &mut SharedHome) -> Result<bool, Miss>
+fn clean_for_room<R: Host>(rt: &R, home: &mut SharedHome) -> Result<bool, Miss>
     requires { IsShared home.old holding }
     ensures { IsShared home.new holding }
 {
@@ -75,7 +75,7 @@ fn won_or_further<R: Host>(rt: &R, home: &mut SharedHome, most: u32) -> Result<O
     requires { IsShared home.old holding }
     ensures { IsShared home.new holding }
 {
-    if has_won(rt, home)? {
+    if clean_for_room(rt, home)? {
         return Ok(Some(Made::Again));
     }
     further(rt, home, most)
@@ -84,7 +84,7 @@ fn won_or_further<R: Host>(rt: &R, home: &mut SharedHome, most: u32) -> Result<O
 /// Makes room where the options want it and one spare is left, or none: by a cleaning if that pays,
 /// and else by a further segment; `None` where there is no need, or no way. What a leg appends fits
 /// one segment, so with two spares it finds its room.
-pub fn has_room<R: Host>(
+pub fn make_room<R: Host>(
     rt: &R,
     home: &mut SharedHome,
     options: &Options<'_>,
@@ -95,7 +95,7 @@ pub fn has_room<R: Host>(
     if options.most == 0 || home.store.spares() > 1 {
         return Ok(None);
     }
-    let most = u32::from(options.most);
+    let most = options.most;
     if wins(home, options.store.capacity) {
         return won_or_further(rt, home, most);
     }

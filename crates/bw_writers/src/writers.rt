@@ -14,7 +14,7 @@ use bw_pairs::{Lines, READS};
 use bw_ring::Group;
 use bw_watch::Watch;
 use bw_words::{
-    Host, LEASES, LONGEST, Met, Miss, Options, Pace, Stop, missed, no_input, parse_group,
+    Host, LONGEST, Met, Miss, Options, Pace, Stop, leases_in, missed, no_input, parse_group,
     print_found, write_pairs,
 };
 use std::alloc::{AllocError, Global};
@@ -243,10 +243,11 @@ pub fn threads<R: Host, I: Read, O: Write, W: Watch>(
         courses: Some(courses),
         readers: Readers::none(rt.alloc())?,
     };
+    let leases = leases_in(rt, options.dir);
     let places = pace.readers.max(1) as usize;
     let store = &options.store;
     // Where a refusal ended the run, the store has shut its readers out, and they come to their end.
-    let end = with_readers(rt, options.dir, LEASES, places, store, &mut writers);
+    let end = with_readers(rt, options.dir, leases, places, store, &mut writers);
     tell_added(watch, writers.added);
     let met = match end {
         Ok(end) => end?,

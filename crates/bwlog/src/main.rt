@@ -26,6 +26,7 @@ fn start<R: Host>(host: &HostRuntime, rt: &R) -> io::Result<u8> {
         texts.push(word.as_str())?;
     }
     let is_shown = host.stdout().is_terminal();
+    let is_typed = host.stdin().is_terminal();
     let mut output = BufWriter::new(alloc, host.stdout())?;
     let status = run(
         rt,
@@ -34,6 +35,7 @@ fn start<R: Host>(host: &HostRuntime, rt: &R) -> io::Result<u8> {
         &mut output,
         &mut host.stderr(),
         is_shown,
+        is_typed,
     );
     Ok(status)
 }

@@ -55,38 +55,58 @@ struct Yard {
 
 /// A yard without a box.
 fn empty_yard(alloc: Global, leases: u32) -> Option<Yard> {
-    Some(Yard {
-        alloc,
-        desk: Desk::new(alloc, leases).ok()?,
-        boxes: Vec::new(alloc),
-    })
-}
-
-/// One more box of this room, which holds these bytes and fails so.
-fn add_box(yard: &mut Yard, bytes: &[u8], room: u64, fuse: Fuse) -> Option<()> {
-    let segment = fused(yard.alloc, &mut yard.desk, bytes, room, fuse)?;
-    yard.boxes.push(Box::new(yard.alloc, segment).ok()?).ok()
-}
-
-/// So many boxes more of this room, of which each holds these bytes.
-fn add_boxes(yard: &mut Yard, many: u32, bytes: &[u8], room: u64) -> Option<()> {
-    for _ in 0..many {
-        add_box(yard, bytes, room, NEVER)?;
+    match Desk::new(alloc, leases) {
+        Ok(desk) => Some(Yard {
+            alloc,
+            desk,
+            boxes: Vec::new(alloc),
+        }),
+        Err(_) => None,
     }
-    Some(())
+}
+
+/// Whether one more box of this room stands there, which holds these bytes and fails so.
+fn add_box(yard: &mut Yard, bytes: &[u8], room: u64, fuse: Fuse) -> bool {
+    let Some(segment) = fused(yard.alloc, &mut yard.desk, bytes, room, fuse) else {
+        return false;
+    };
+    match Box::new(yard.alloc, segment) {
+        Ok(one) => yard.boxes.push(one).is_ok(),
+        Err(_) => false,
+    }
+}
+
+/// Whether a box of the least capacity stands there, which fails so, and behind it so many more.
+fn add_boxes(yard: &mut Yard, more: u32, fuse: Fuse) -> bool {
+    if !add_box(yard, &[], LEAST, fuse) {
+        return false;
+    }
+    for _ in 0..more {
+        if !add_box(yard, &[], LEAST, NEVER) {
+            return false;
+        }
+    }
+    true
 }
 
 /// A yard of a box of the least capacity, which fails so, and so many more, with leases from 0 on.
 fn yard_of(alloc: Global, more: u32, fuse: Fuse) -> Option<Yard> {
-    let mut full = empty_yard(alloc, 8)?;
-    add_box(&mut full, &[], LEAST, fuse)?;
-    add_boxes(&mut full, more, &[], LEAST)?;
-    Some(full)
+    let Some(mut full) = empty_yard(alloc, 8) else {
+        return None;
+    };
+    if add_boxes(&mut full, more, fuse) {
+        Some(full)
+    } else {
+        None
+    }
 }
 
 /// What stood in a yard, in which one more box of this room stands then.
 fn taken_out(yard: &mut Yard, room: u64) -> Option<Vec<Box<dyn Segment>>> {
     let boxes = mem::replace(&mut yard.boxes, Vec::new(yard.alloc));
-    add_box(yard, &[], room, NEVER)?;
-    Some(boxes)
+    if add_box(yard, &[], room, NEVER) {
+        Some(boxes)
+    } else {
+        None
+    }
 }

@@ -42,6 +42,16 @@ pub fn then(first: Try, second: Option<Try>) -> Option<Try> {
     }
 }
 
+/// Whether a first try was refused: then the call is asked once more.
+pub fn was_refused(first: Option<Try>) -> bool {
+    first == Some(Try::Refused)
+}
+
+/// A first try that was refused, where the second one went.
+pub fn refused_then(second: Option<Try>) -> Option<Try> {
+    then(Try::Refused, second)
+}
+
 /// A call of which all is made anew each time.
 pub trait Ask {
     /// Makes what it needs, and asks.

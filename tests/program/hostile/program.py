@@ -1,6 +1,7 @@
 """The built program, and what its drawn runs leave in a folder."""
 
 import os
+import re
 import subprocess
 import tempfile
 
@@ -9,6 +10,12 @@ from hostile.segments import Draw
 # Where a sync takes no time, if there is such a place.
 FAST = "/dev/shm" if os.path.isdir("/dev/shm") else None
 LIMIT = 60
+# What is told of the files of a folder that recovery refuses, behind the answer (docs/USING.md, "It is damaged").
+NAMED = re.compile(
+    rb"folder [^\n]*: (bad bytes: segment-\d{4}\.bw at \d+|(segment|frame) \d+ is missing, between [^\n]*|(segments|frames) \d+ to \d+ are missing, between [^\n]*"
+    rb"|segment \d+ is there twice, in [^\n]*|the oldest segment is number \d+, in segment-\d{4}\.bw: [^\n]*)\n"
+)
+RECOVERY = re.compile(rb"^refused E1[3-7] ", re.M)
 
 
 class Otherwise(Exception):
@@ -20,12 +27,13 @@ class Program:
         self.path = path
 
     def run(self, words, text=b"", **more):
-        """Exit status, what it printed and what it told."""
+        """Exit status, what it printed and what it told, but for the files that it names where recovery refused them."""
         try:
             answer = subprocess.run([self.path, *words], input=text, capture_output=True, timeout=LIMIT, close_fds=False, **more)
         except subprocess.TimeoutExpired:
             raise Otherwise("%s took more than %d seconds" % (words, LIMIT)) from None
-        return answer.returncode, answer.stdout, answer.stderr
+        errors = NAMED.sub(b"", answer.stderr) if RECOVERY.search(answer.stdout) else answer.stderr
+        return answer.returncode, answer.stdout, errors
 
 
 def run_of(program, seed):

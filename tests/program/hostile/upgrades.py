@@ -112,6 +112,11 @@ def in_a_folder(program, segments, folder, draw):
     before = looked_at(folder)
     first, standing = upgraded(segments, 64)
     answer = program.run(["upgrade", "--dir=" + folder])
+    if first == "refused E11 NothingOld\n":
+        # A folder has nothing to win then, and that is no refusal.
+        if answer != (0, b"upgraded segments 0 pages 0 frames 0, no segment has format 1\n", b"") or looked_at(folder) != before:
+            raise Otherwise("upgrade of a folder of format 2 answers %r" % (answer,))
+        return "E11"
     if answer != (4 if standing is None else 0, first.encode(), b""):
         raise Otherwise("upgrade of a folder answers %r, and the reader %r" % (answer, first))
     if standing is None:
@@ -161,7 +166,7 @@ def a_full_log_of_lines(program, _folder, _segments, _draw):
 
 
 # What is told of an empty file for which no run has a lease.
-ABOVE = "folder %s: segment-0064.bw is empty, and no run opens more than 64 segments: remove it\n"
+FAR = "folder %s: segment-0400.bw is far above the other files: rename it, or remove it if it is empty\n"
 
 
 def a_page_a_segment(count):
@@ -176,23 +181,23 @@ def a_page_a_segment(count):
 
 
 def no_lease_is_left(program, folder, _segments, _draw):
-    """An upgrade for whose frame there is no lease makes no file. One that an earlier program made is told by its name, and hinders nobody
-    once it is gone."""
+    """A file whose name is far above the others keeps out what would make the files between, an upgrade too; it is told by its name, and hinders
+    nobody once it is gone."""
     segments = a_page_a_segment(64)
     laid(folder, segments)
-    before = held_in(folder)
-    answer = program.run(["upgrade", "--dir", folder])
-    if answer != (4, b"refused E20 NoLease\n", b"") or held_in(folder) != before:
-        raise Otherwise("an upgrade without a lease answers %r, and the folder has %s" % (answer, sorted(held_in(folder))))
-    above = os.path.join(folder, "segment-0064.bw")
-    with open(above, "wb"):
+    far = os.path.join(folder, "segment-0400.bw")
+    with open(far, "wb"):
         pass
-    modes = [["replay"], ["serve"], ["threads"], ["scan"], ["print"], ["stats"], ["picture"], ["upgrade"], ["restore", "--to", folder + "-to", "--frame", "9"]]
-    for words in modes:
+    before = held_in(folder)
+    for words in (["replay"], ["serve"], ["threads"], ["upgrade"]):
         answer = program.run([*words, "--dir", folder])
-        if answer != (4, b"refused E20 NoLease\n", (ABOVE % folder).encode()):
-            raise Otherwise("%s over a file without a lease answers %r" % (words, answer))
-    os.remove(above)
+        held = {name: data for name, data in held_in(folder).items() if name != "lock"}
+        if answer != (4, b"refused E20 NoLease\n", (FAR % folder).encode()) or held != before:
+            raise Otherwise("%s over a far file answers %r, and the folder has %s" % (words, answer, sorted(held)))
+    os.remove(far)
     answer = program.run(["scan", "--dir", folder])
     if answer != (0, told(segments).encode(), b""):
         raise Otherwise("scan of 64 segments answers %r" % (answer,))
+    answer = program.run(["upgrade", "--dir", folder])
+    if answer != (0, b"upgraded segments 64 pages 64 frames 1\n", b""):
+        raise Otherwise("an upgrade of 64 segments answers %r" % (answer,))

@@ -1,6 +1,6 @@
 /* Answers questions about a folder, a line each: what tests/program/reading.py compares with a map. C11 and C++14.
  *
- *   ask FOLDER      get HEX, at HEX, walk HEX, count: value HEX, pair HEX HEX, none, end, count N
+ *   ask FOLDER      get HEX, at HEX, below HEX, walk HEX, count: value HEX, pair HEX HEX, none, end, count N
  *
  * A folder that is refused is told as `refused N`. First it calls everything as nobody should. */
 #include <hechdoram_read.h>
@@ -64,6 +64,7 @@ static void misuse(void) {
     if (bw_read_get(&closed, "k", 1, NULL, 0, NULL) != BW_MISUSE || bw_read_at(&closed, "k", 1, &pair) != BW_MISUSE) abort();
     if (bw_read_first(&closed, &pair) != BW_MISUSE || bw_read_next(NULL, &pair) != BW_MISUSE) abort();
     if (bw_read_first_of(&closed, "", 0, &pair) != BW_MISUSE || bw_read_count(&closed) != 0) abort();
+    if (bw_read_below(&closed, "k", 1, &pair) != BW_MISUSE || bw_read_below(NULL, "", 0, &pair) != BW_MISUSE) abort();
     for (int answer = -30; answer < 5; answer++) if (!bw_read_error(answer)[0]) abort();
 }
 
@@ -73,6 +74,7 @@ static void misuse_open(const char *folder, bw_reader *reader) {
     if (bw_read_open(folder, reader) != BW_MISUSE || bw_read_next(reader, &pair) != BW_BAD_LENGTH) abort();
     if (bw_read_get(reader, NULL, 0, NULL, 0, NULL) != BW_MISUSE || bw_read_get(reader, "k", 1, NULL, 1, NULL) != BW_MISUSE) abort();
     if (bw_read_at(reader, "", 0, &pair) != BW_BAD_LENGTH || bw_read_at(reader, "k", 1, NULL) != BW_MISUSE) abort();
+    if (bw_read_below(reader, NULL, 1, &pair) != BW_MISUSE || bw_read_below(reader, "k", BW_MAX_KEY + 1, &pair) != BW_BAD_LENGTH) abort();
 }
 
 static void answer(bw_reader *reader, const char *line) {
@@ -82,6 +84,7 @@ static void answer(bw_reader *reader, const char *line) {
     bw_pair pair;
     if (line[0] == 'g') get(reader, bytes, len);
     else if (line[0] == 'a') tell_pair(bw_read_at(reader, bytes, len, &pair), &pair);
+    else if (line[0] == 'b') tell_pair(bw_read_below(reader, bytes, len, &pair), &pair);
     else if (line[0] == 'w') walk(reader, bytes, len);
     else printf("count %llu\n", (unsigned long long)bw_read_count(reader));
 }

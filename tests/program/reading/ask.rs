@@ -1,6 +1,6 @@
 //! Answers questions about a folder, a line each, as ask.c does.
 
-use hechdoram_read::{Error, Pair, Reader};
+use hechdoram::{Error, Kind, Pair, Reader, Span};
 use std::io::{self, BufRead, Write};
 use std::{env, process, thread};
 
@@ -23,20 +23,20 @@ fn answer(reader: &Reader, line: &str) -> String {
     match word {
         "get" => reader.get(&bytes).map_or("none\n".into(), |value| format!("value {}\n", hex(&value))),
         "at" => reader.at_or_above(&bytes).map_or("none\n".into(), |pair| pair_line(&pair)),
-        "walk" => reader.items(&bytes).map(|pair| pair_line(&pair)).collect::<String>() + "end\n",
+        "below" => reader.below(&bytes).map_or("none\n".into(), |pair| pair_line(&pair)),
+        "walk" => reader.scan(Span::prefix(&bytes)).map(|pair| pair_line(&pair)).collect::<String>() + "end\n",
         _ => format!("count {}\n", reader.count()),
     }
 }
 
-fn number(error: Error) -> i32 {
-    match error {
-        Error::NoMemory => -1,
-        Error::NoStore => -12,
-        Error::Damaged => -13,
-        Error::Io(_) => -15,
-        Error::InUse => -16,
-        Error::BadPath => -17,
-        Error::Unknown(answer) => answer,
+fn number(error: &Error) -> i32 {
+    match error.kind() {
+        Kind::NoMemory => -1,
+        Kind::NoStore => -12,
+        Kind::Damaged => -13,
+        Kind::System(_) => -15,
+        Kind::InUse => -16,
+        _ => -17,
     }
 }
 
@@ -45,16 +45,17 @@ fn main() {
     let reader = match Reader::open(&folder) {
         Ok(reader) => reader,
         Err(error) => {
-            println!("refused {}", number(error));
+            println!("refused {}", number(&error));
             process::exit(if error.to_string().is_empty() { 4 } else { 3 });
         }
     };
     // Several threads may ask it at once.
-    let seen: Vec<Pair> = reader.items(b"").collect();
+    let seen: Vec<Pair> = reader.scan(Span::all()).collect();
     thread::scope(|threads| {
         for _ in 0..4 {
             threads.spawn(|| {
-                assert!(reader.items(b"").eq(seen.iter().cloned()));
+                assert!(reader.scan(Span::all()).eq(seen.iter().cloned()));
+                assert!(reader.scan(Span::all()).rev().eq(seen.iter().rev().cloned()));
                 assert!(seen.iter().all(|pair| reader.get(&pair.0).as_ref() == Some(&pair.1)));
             });
         }

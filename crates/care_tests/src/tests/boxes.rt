@@ -15,55 +15,77 @@ pub(super) struct Yard {
 
 /// A yard without a box.
 pub(super) fn empty_yard(alloc: Global, leases: u32) -> Option<Yard> {
-    Some(Yard {
-        alloc,
-        desk: Desk::new(alloc, leases).ok()?,
-        boxes: Vec::new(alloc),
-    })
+    match Desk::new(alloc, leases) {
+        Ok(desk) => Some(Yard {
+            alloc,
+            desk,
+            boxes: Vec::new(alloc),
+        }),
+        Err(_) => None,
+    }
 }
 
-/// One more box of this room, which holds these bytes and fails so.
-pub(super) fn add_box(yard: &mut Yard, bytes: &[u8], room: u64, fuse: Fuse) -> Option<()> {
-    let segment = fused(yard.alloc, &mut yard.desk, bytes, room, fuse)?;
-    yard.boxes.push(Box::new(yard.alloc, segment).ok()?).ok()
+/// Whether one more box of this room stands there, which holds these bytes and fails so.
+pub(super) fn add_box(yard: &mut Yard, bytes: &[u8], room: u64, fuse: Fuse) -> bool {
+    let Some(segment) = fused(yard.alloc, &mut yard.desk, bytes, room, fuse) else {
+        return false;
+    };
+    match Box::new(yard.alloc, segment) {
+        Ok(one) => yard.boxes.push(one).is_ok(),
+        Err(_) => false,
+    }
 }
 
-/// So many boxes more of this room, of which each holds these bytes.
-pub(super) fn add_boxes(yard: &mut Yard, many: u32, bytes: &[u8], room: u64) -> Option<()> {
+/// Whether so many boxes more of this room stand there, of which each holds these bytes.
+pub(super) fn add_boxes(yard: &mut Yard, many: u32, bytes: &[u8], room: u64) -> bool {
     for _ in 0..many {
-        add_box(yard, bytes, room, NEVER)?;
+        if !add_box(yard, bytes, room, NEVER) {
+            return false;
+        }
     }
-    Some(())
+    true
 }
 
-/// What stood in a yard, in which one more box of this room stands then.
+/// What stood in a yard.
+pub(super) fn all_out(yard: &mut Yard) -> Vec<Box<dyn Segment>> {
+    mem::replace(&mut yard.boxes, Vec::new(yard.alloc))
+}
+
+/// What stood in a yard, where one more box of this room stands from then on.
 pub(super) fn taken_out(yard: &mut Yard, room: u64) -> Option<Vec<Box<dyn Segment>>> {
-    let boxes = mem::replace(&mut yard.boxes, Vec::new(yard.alloc));
-    add_box(yard, &[], room, NEVER)?;
-    Some(boxes)
-}
-
-/// One more box, for a piece.
-pub(super) fn add_piece(yard: &mut Yard, piece: &Piece, room: u64, fuse: Fuse) -> Option<()> {
-    let bytes = bytes_of(yard.alloc, piece)?;
-    add_box(yard, &bytes, room, fuse)
-}
-
-/// A yard with a box of the least capacity for each piece.
-pub(super) fn boxes_of(alloc: Global, pieces: &[Piece]) -> Option<Yard> {
-    let mut full = empty_yard(alloc, 8)?;
-    for piece in pieces {
-        add_piece(&mut full, piece, LEAST, NEVER)?;
+    let boxes = all_out(yard);
+    if add_box(yard, &[], room, NEVER) {
+        Some(boxes)
+    } else {
+        None
     }
-    Some(full)
 }
 
-/// A yard with a box for each of these, of which one fails so.
-pub(super) fn boxes_with(alloc: Global, fuse: Fuse, all: &[Kept]) -> Option<Yard> {
-    let mut full = empty_yard(alloc, 8)?;
+/// Whether one more box stands there, for a piece.
+pub(super) fn add_piece(yard: &mut Yard, piece: &Piece, room: u64, fuse: Fuse) -> bool {
+    match bytes_of(yard.alloc, piece) {
+        Some(bytes) => add_box(yard, &bytes, room, fuse),
+        None => false,
+    }
+}
+
+/// Whether a box of the least capacity stands there for each piece.
+pub(super) fn add_pieces(yard: &mut Yard, pieces: &[Piece]) -> bool {
+    for piece in pieces {
+        if !add_piece(yard, piece, LEAST, NEVER) {
+            return false;
+        }
+    }
+    true
+}
+
+/// Whether a box stands there for each of these, of which one fails so.
+pub(super) fn add_kept(yard: &mut Yard, fuse: Fuse, all: &[Kept]) -> bool {
     for (piece, room, fails) in all {
         let fuse = if *fails { fuse } else { NEVER };
-        add_piece(&mut full, piece, *room, fuse)?;
+        if !add_piece(yard, piece, *room, fuse) {
+            return false;
+        }
     }
-    Some(full)
+    true
 }

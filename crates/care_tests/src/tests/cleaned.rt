@@ -1,12 +1,12 @@
 //! Cleanings of logs that were recovered from worked segments.
 
 use super::steps::Step::{Add, Bytes, Cleans, NotCleaned, Page, Stands};
-use super::steps::{Course, Step, walked, wrong_in_course};
+use super::steps::{Course, Step, walked};
 use Piece::{Torn, Whole};
 use bw_care::CleanFault;
 use bw_log::LogFault;
 use test_boxes::{Kept, LEAST, Piece};
-use test_tables::wrong_table;
+use test_tables::{WrongStep, tables_go};
 use test_vectors::{BEHIND_SECOND, SECOND, THIRD_LOST, THIRD_NEWER, THIRD_OLDER};
 
 /// The bytes that a cleaning leaves, then one with nothing old, then none.
@@ -76,18 +76,18 @@ const TABLES: &[Course] = &[
 ];
 
 #[test]
-fn cleanings_go_as_told(rt: HostRuntime) {
-    let wrong = wrong_table(TABLES, |course| wrong_in_course(rt.alloc(), course));
-    assert_eq!(rt; wrong, None);
+fn cleanings_go_as_told(rt: HostRuntime) -> Result<(), WrongStep> {
+    tables_go(rt.alloc(), TABLES)
 }
 
 #[test]
-fn a_failed_append_of_the_cleaner_drops_no_box(rt: HostRuntime) {
+fn a_failed_append_of_the_cleaner_drops_no_box(rt: HostRuntime) -> Result<(), WrongStep> {
     // The cleaner's frame has 38 bytes, of which each number is kept.
     for keep in 0..=38usize {
         // Two reads of a recovery, and one of the page.
         if let Some(step) = walked(rt.alloc(), THIRD, (3, keep as u64), FAILED) {
-            assert_eq!(rt; Some((keep, step)), None);
+            return Err(WrongStep(keep, step));
         }
     }
+    Ok(())
 }

@@ -1,6 +1,6 @@
 //! A cleaning whose pages need more frames than one.
 
-use super::boxes::{Yard, add_box, empty_yard};
+use super::boxes::{Yard, add_box, all_out, empty_yard};
 use super::steps::{cleaned, cleans};
 use bw_care::recover;
 use bw_codec::limits::{LATEST, MIN_FRAME};
@@ -50,31 +50,31 @@ fn put_frame(out: &mut Vec<u8>, number: u64, behind: u8, body: u32) -> Option<()
     Some(())
 }
 
-// The segment of this number: in the first stand forty full pages in two frames, the second is
-// begun behind it.
-fn add_segment(yard: &mut Yard, number: u64) -> Option<()> {
+// The bytes of the segment of this number: in the first stand forty full pages in two frames, the
+// second is begun behind it.
+fn put_segment(out: &mut Vec<u8>, number: u64) -> Option<()> {
     let header = Header {
         version: LATEST,
         number,
         m: 4,
         f: MIN_FRAME,
     };
-    let mut out = Vec::new(yard.alloc);
-    encode_header(&header, &mut out).ok()?;
+    encode_header(&header, out).ok()?;
     if number == 1 {
-        put_frame(&mut out, 1, 0, 54_032)?;
-        put_frame(&mut out, 2, 20, 54_160)?;
+        put_frame(out, 1, 0, 54_032)?;
+        put_frame(out, 2, 20, 54_160)?;
     }
-    add_box(yard, &out, ROOM, NEVER)
+    Some(())
 }
 
-// Both segments and a spare.
-fn segments(alloc: Global) -> Option<Yard> {
-    let mut full = empty_yard(alloc, 8)?;
-    add_segment(&mut full, 1)?;
-    add_segment(&mut full, 2)?;
-    add_box(&mut full, &[], ROOM, NEVER)?;
-    Some(full)
+fn add_segment(yard: &mut Yard, number: u64) -> bool {
+    let mut out = Vec::new(yard.alloc);
+    put_segment(&mut out, number).is_some() && add_box(yard, &out, ROOM, NEVER)
+}
+
+// Whether both segments and a spare stand there.
+fn add_segments(yard: &mut Yard) -> bool {
+    add_segment(yard, 1) && add_segment(yard, 2) && add_box(yard, &[], ROOM, NEVER)
 }
 
 // Whether forty pages are recovered again, from the cleaner's frames alone.
@@ -86,19 +86,26 @@ fn are_there(alloc: Global, live: Vec<Box<dyn Segment>>) -> bool {
 }
 
 // Whether the log that is recovered is cleaned, and all pages are there then.
-fn are_cleaned(alloc: Global) -> Option<bool> {
-    let told = cleaned(1, 0, 40, 2);
-    match recover(alloc, segments(alloc)?.boxes) {
+fn is_cleaned(alloc: Global, boxes: Vec<Box<dyn Segment>>) -> bool {
+    match recover(alloc, boxes) {
         Ok(found) => {
             let mut log = found.log;
-            let goes = cleans(alloc, &mut log, Ok(told));
-            Some(goes && are_there(alloc, log.into_segments().0))
+            let goes = cleans(alloc, &mut log, Ok(cleaned(1, 0, 40, 2)));
+            goes && are_there(alloc, log.into_segments().0)
         }
-        Err(_) => None,
+        Err(_) => false,
+    }
+}
+
+// Whether a log of forty full pages is recovered and cleaned, and all of them are there then.
+fn are_cleaned(alloc: Global) -> bool {
+    match empty_yard(alloc, 8) {
+        Some(mut yard) => add_segments(&mut yard) && is_cleaned(alloc, all_out(&mut yard)),
+        None => false,
     }
 }
 
 #[test]
 fn forty_full_pages_are_cleaned_into_two_frames(rt: HostRuntime) {
-    assert!(rt; are_cleaned(rt.alloc()) == Some(true));
+    assert!(rt; are_cleaned(rt.alloc()));
 }

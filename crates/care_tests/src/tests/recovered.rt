@@ -2,12 +2,14 @@
 
 ghost use Rattle.bw_care.specs.Views.{IsSound};
 
-use super::boxes::{Yard, add_box, add_boxes, add_piece, boxes_of, boxes_with, empty_yard};
+use super::boxes::{
+    Yard, add_box, add_boxes, add_kept, add_piece, add_pieces, all_out, empty_yard,
+};
 use bw_care::{RecoverCause, recover};
 use bw_device::{Desk, Segment};
 use std::alloc::Global;
 use test_boxes::{Kept, LEAST, NEVER, Piece, are_shown};
-use test_tables::wrong_table;
+use test_tables::{Table, WrongStep, tables_go};
 use test_vectors::{
     CUT_AT_ONCE, FIRST, GREATEST, JOINED, OLD_CUT_AT_ONCE, OLD_FIRST, OLD_GREATEST, OLD_JOINED,
     OLD_SECOND, OLD_THIRD_NEWER, OLD_THIRD_OLDER, SECOND, THIRD_NEWER, THIRD_OLDER, UPGRADED,
@@ -22,7 +24,6 @@ enum Told {
 }
 
 /// A list of boxes.
-#[derive(Drop)]
 enum Boxes {
     /// One of ample room for each piece.
     Ample(&'static [Piece]),
@@ -36,7 +37,6 @@ enum Boxes {
 }
 
 /// Boxes, and what is told of them.
-#[derive(Drop)]
 struct Row(Boxes, Told);
 
 use Boxes::{Again, Ample, Beside, Many};
@@ -73,7 +73,6 @@ const NEWER: Text = (THIRD_NEWER, OLD_THIRD_NEWER);
 const ABOVE: (&[u8], &[u8]) = (&[0x33], &[0x32]);
 
 /// A piece in either format, with a number for each.
-#[derive(Drop)]
 enum Part {
     All(Text),
     /// So many of its bytes, from the first on.
@@ -88,7 +87,6 @@ enum Part {
 
 /// Boxes of ample room in either format, and what is told of them, or of those in format 2 and of those
 /// in format 1.
-#[derive(Drop)]
 enum Twice {
     Same(&'static [Part], Told),
     Other(&'static [Part], (Told, Told)),
@@ -219,32 +217,43 @@ fn piece_of(format: Format, part: &Part) -> Piece {
     }
 }
 
+// Whether a box stands there for each part in this format.
+fn add_parts(yard: &mut Yard, format: Format, parts: &[Part]) -> bool {
+    for part in parts {
+        if !add_piece(yard, &piece_of(format, part), LEAST, NEVER) {
+            return false;
+        }
+    }
+    true
+}
+
 // Whether the boxes are told so in this format.
-fn is_told_in(alloc: Global, format: Format, row: &Twice) -> Option<bool> {
+fn is_told_in(alloc: Global, format: Format, row: &Twice) -> bool {
     let (parts, told) = match row {
         Same(parts, told) => (*parts, *told),
         Other(parts, told) => (*parts, of(format, told)),
     };
-    let mut pieces = Vec::new(alloc);
-    for part in parts {
-        pieces.push(piece_of(format, part)).ok()?;
+    match empty_yard(alloc, 8) {
+        Some(mut yard) => {
+            add_parts(&mut yard, format, parts) && is_told(alloc, &mut yard, &told)
+        }
+        None => false,
     }
-    is_told(alloc, boxes_of(alloc, pieces.as_slice())?, &told)
 }
 
 /// Rows in one format.
 #[derive(Drop)]
 struct InFormat(Format, &'static [Twice]);
 
-/// The first row or step that does not go as told.
-fn wrong_in_format(alloc: Global, table: &InFormat) -> Option<usize> {
-    let InFormat(format, rows) = table;
-    for (i, row) in rows.iter().enumerate() {
-        if is_told_in(alloc, *format, row) != Some(true) {
-            return Some(i);
+impl Table for InFormat {
+    fn wrong_step(&self, alloc: Global) -> Option<usize> {
+        for (i, row) in self.1.iter().enumerate() {
+            if !is_told_in(alloc, self.0, row) {
+                return Some(i);
+            }
         }
+        None
     }
-    None
 }
 
 // ---- both formats
@@ -365,86 +374,80 @@ const FAILING: &[Row] = &[
     Row(Again(1), Found(2, 4, 0, 2, 0, 0, JK)),
 ];
 
-// The same boxes behind a recovery that the second of them failed.
-fn failed(alloc: Global, full: Yard) -> Option<Yard> {
-    match recover(alloc, full.boxes) {
-        Ok(_) => None,
+// Whether the same boxes stand there behind a recovery that the second of them failed.
+fn are_failed(yard: &mut Yard) -> bool {
+    match recover(yard.alloc, all_out(yard)) {
+        Ok(_) => false,
         Err(fault) => {
-            if fault.cause != (RecoverCause::Device { lease: 1 }) {
-                return None;
-            }
-            Some(Yard {
-                alloc,
-                desk: full.desk,
-                boxes: fault.boxes,
-            })
+            let is_so = fault.cause == (RecoverCause::Device { lease: 1 });
+            yard.boxes = fault.boxes;
+            is_so
         }
     }
 }
 
-// A box of another desk, then 4,096 of this one.
-fn too_many(alloc: Global) -> Option<Yard> {
-    let mut full = empty_yard(alloc, 1)?;
-    add_box(&mut full, b"X", 1, NEVER)?;
-    full.desk = Desk::new(alloc, 4_096).ok()?;
-    add_boxes(&mut full, 4_096, b"X", 1)?;
-    Some(full)
+// Whether a box of another desk stands there, and behind it 4,096 of this one.
+fn add_too_many(yard: &mut Yard) -> bool {
+    if !add_box(yard, b"X", 1, NEVER) {
+        return false;
+    }
+    match Desk::new(yard.alloc, 4_096) {
+        Ok(desk) => {
+            yard.desk = desk;
+            add_boxes(yard, 4_096, b"X", 1)
+        }
+        Err(_) => false,
+    }
 }
 
-// A box for a piece, and a spare.
-fn beside(alloc: Global, piece: &Piece, room: u64, spare: u64) -> Option<Yard> {
-    let mut full = empty_yard(alloc, 8)?;
-    add_piece(&mut full, piece, room, NEVER)?;
-    add_box(&mut full, b"", spare, NEVER)?;
-    Some(full)
-}
-
-fn made(alloc: Global, boxes: &Boxes) -> Option<Yard> {
+// Whether the boxes stand there.
+fn add_all(yard: &mut Yard, boxes: &Boxes) -> bool {
     match boxes {
-        Ample(pieces) => boxes_of(alloc, *pieces),
-        Beside(piece, room, spare) => beside(alloc, piece, *room, *spare),
-        Again(calls) => failed(alloc, boxes_with(alloc, (*calls, 0), AGAIN)?),
-        Many => too_many(alloc),
+        Ample(pieces) => add_pieces(yard, *pieces),
+        Beside(piece, room, spare) => {
+            add_piece(yard, piece, *room, NEVER) && add_box(yard, b"", *spare, NEVER)
+        }
+        Again(calls) => add_kept(yard, (*calls, 0), AGAIN) && are_failed(yard),
+        Many => add_too_many(yard),
     }
 }
 
 // Whether boxes are told so; a fault hands all of them back, in order.
-fn is_told(alloc: Global, full: Yard, told: &Told) -> Option<bool> {
-    let Yard {
-        mut desk,
-        boxes,
-        ..
-    } = full;
+fn is_told(alloc: Global, yard: &mut Yard, told: &Told) -> bool {
+    let boxes = all_out(yard);
     let count = boxes.len();
     match recover(alloc, boxes) {
-        Ok(found) => {
-            let returned = desk.collect();
-            Some(is_found(&found, returned, told))
-        }
+        Ok(found) => is_found(&found, yard.desk.collect(), told),
         Err(fault) => {
-            let back = fault.boxes.len() == count && desk.collect() == 0;
+            let back = fault.boxes.len() == count && yard.desk.collect() == 0;
             match told {
-                Fault(cause) => Some(back && fault.cause == *cause),
-                _ => Some(false),
+                Fault(cause) => back && fault.cause == *cause,
+                _ => false,
             }
         }
     }
 }
 
 // Whether the boxes of a row are told so.
-fn goes(alloc: Global, row: &Row) -> Option<bool> {
-    let Row(boxes, told) = row;
-    is_told(alloc, made(alloc, boxes)?, told)
+fn goes(alloc: Global, row: &Row) -> bool {
+    match empty_yard(alloc, 8) {
+        Some(mut yard) => add_all(&mut yard, &row.0) && is_told(alloc, &mut yard, &row.1),
+        None => false,
+    }
 }
 
-/// The first row or step that does not go as told.
-fn wrong_of_rows(alloc: Global, rows: &&'static [Row]) -> Option<usize> {
-    for (i, row) in rows.iter().enumerate() {
-        if goes(alloc, row) != Some(true) {
-            return Some(i);
+/// Rows of boxes.
+struct Rows(&'static [Row]);
+
+impl Table for Rows {
+    fn wrong_step(&self, alloc: Global) -> Option<usize> {
+        for (i, row) in self.0.iter().enumerate() {
+            if !goes(alloc, row) {
+                return Some(i);
+            }
         }
+        None
     }
-    None
 }
 
 /// The tables of either format, in this one.
@@ -456,34 +459,28 @@ fn in_format(format: Format) -> [InFormat; 3] {
     ]
 }
 
-const TABLES: &[&'static [Row]] = &[
+#[test]
+fn worked_boxes_are_told(rt: HostRuntime) -> Result<(), WrongStep> {
+    tables_go(rt.alloc(), &in_format(Format::Latest))
+}
+
+#[test]
+fn worked_boxes_of_format_1_are_told(rt: HostRuntime) -> Result<(), WrongStep> {
+    tables_go(rt.alloc(), &in_format(Format::Old))
+}
+
+const TABLES: &[Rows] = &[
     // A small spare is refused behind no frame and before links.
-    SPARES,
-    FAILING,
+    Rows(SPARES),
+    Rows(FAILING),
     // Too many boxes are refused before any byte.
-    &[Row(Many, Fault(BadConfig))],
+    Rows(&[Row(Many, Fault(BadConfig))]),
+    // Boxes of both formats.
+    Rows(MIXED),
+    Rows(OLD_SPARES),
 ];
 
 #[test]
-fn worked_boxes_are_told(rt: HostRuntime) {
-    let worked = in_format(Format::Latest);
-    let worked = wrong_table(&worked, |table| wrong_in_format(rt.alloc(), table));
-    let beside = wrong_table(TABLES, |rows| wrong_of_rows(rt.alloc(), rows));
-    assert_eq!(rt; (worked, beside), (None, None));
-}
-
-#[test]
-fn worked_boxes_of_format_1_are_told(rt: HostRuntime) {
-    let worked = in_format(Format::Old);
-    let wrong = wrong_table(&worked, |table| wrong_in_format(rt.alloc(), table));
-    assert_eq!(rt; wrong, None);
-}
-
-/// Boxes of both formats.
-const BOTH_TABLES: &[&'static [Row]] = &[MIXED, OLD_SPARES];
-
-#[test]
-fn boxes_of_both_formats_are_told(rt: HostRuntime) {
-    let wrong = wrong_table(BOTH_TABLES, |rows| wrong_of_rows(rt.alloc(), rows));
-    assert_eq!(rt; wrong, None);
+fn boxes_are_told(rt: HostRuntime) -> Result<(), WrongStep> {
+    tables_go(rt.alloc(), TABLES)
 }

@@ -4,12 +4,13 @@
 ghost use Rattle.bw_log.specs.Views.{IsSound as IsSoundBeside};
 ghost use Rattle.test_boxes.specs.Views.{IsSound};
 
-use super::boxes::{Yard, boxes_with, taken_out};
+use super::boxes::{Yard, add_kept, empty_yard, taken_out};
 use bw_care::{CleanFault, Cleaned, Upgraded, clean, recover, upgrade};
 use bw_device::Segment;
 use bw_log::Log;
 use std::alloc::Global;
 use test_boxes::{Fuse, Kept, LEAST, NEVER, are_bytes, is_added, is_page};
+use test_tables::Table;
 
 /// One call on a log, with what it has to answer.
 #[derive(Drop)]
@@ -124,26 +125,46 @@ fn wrong_step(yard: &mut Yard, log: &mut Log, steps: &[Step]) -> Option<usize>
     None
 }
 
-/// The first step that did not go as told over what is recovered from segments and spares, of which
-/// one fails so, with one more box in the yard.
-pub(super) fn walked(alloc: Global, kept: &[Kept], fuse: Fuse, steps: &[Step]) -> Option<usize> {
-    let Some(mut yard) = boxes_with(alloc, fuse, kept) else {
-        return Some(0);
-    };
-    let Some(boxes) = taken_out(&mut yard, LEAST) else {
-        return Some(0);
-    };
+// The first step that did not go as told over what is recovered from boxes.
+fn wrong_over(
+    alloc: Global,
+    yard: &mut Yard,
+    boxes: Vec<Box<dyn Segment>>,
+    steps: &[Step],
+) -> Option<usize> {
     match recover(alloc, boxes) {
-        Ok(mut found) => wrong_step(&mut yard, &mut found.log, steps),
+        Ok(mut found) => wrong_step(yard, &mut found.log, steps),
         Err(_) => Some(0),
     }
 }
 
+// The first step that did not go as told over segments and spares, of which one fails so, with one
+// more box in the yard.
+fn wrong_in(yard: &mut Yard, kept: &[Kept], fuse: Fuse, steps: &[Step]) -> Option<usize> {
+    let alloc = yard.alloc;
+    if !add_kept(yard, fuse, kept) {
+        return Some(0);
+    }
+    match taken_out(yard, LEAST) {
+        Some(boxes) => wrong_over(alloc, yard, boxes, steps),
+        None => Some(0),
+    }
+}
+
+/// The first step that did not go as told over what is recovered from segments and spares, of which
+/// one fails so, with one more box in the yard.
+pub(super) fn walked(alloc: Global, kept: &[Kept], fuse: Fuse, steps: &[Step]) -> Option<usize> {
+    match empty_yard(alloc, 8) {
+        Some(mut yard) => wrong_in(&mut yard, kept, fuse, steps),
+        None => Some(0),
+    }
+}
+
 /// Segments and spares, and how what is recovered from them goes.
-#[derive(Drop)]
 pub(super) struct Course(pub(super) &'static [Kept], pub(super) &'static [Step]);
 
-/// The first row or step that does not go as told.
-pub(super) fn wrong_in_course(alloc: Global, course: &Course) -> Option<usize> {
-    walked(alloc, course.0, NEVER, course.1)
+impl Table for Course {
+    fn wrong_step(&self, alloc: Global) -> Option<usize> {
+        walked(alloc, self.0, NEVER, self.1)
+    }
 }

@@ -1,12 +1,12 @@
 //! Upgrades of logs that were recovered from worked segments of format 1.
 
 use super::steps::Step::{Add, Bytes, NotUpgraded, Page, Stands, Upgrades, Versions};
-use super::steps::{Course, Step, walked, wrong_in_course};
+use super::steps::{Course, Step, walked};
 use Piece::{Behind, Torn, Whole};
 use bw_care::CleanFault;
 use bw_log::LogFault;
 use test_boxes::{Kept, LEAST, Piece};
-use test_tables::wrong_table;
+use test_tables::{WrongStep, tables_go};
 use test_vectors::{
     FIRST, OLD_BEHIND_SECOND, OLD_FIRST, OLD_GREATEST, OLD_SECOND, OLD_THIRD_LOST, OLD_THIRD_NEWER,
     OLD_THIRD_OLDER, THIRD_OLDER, UPGRADED,
@@ -149,13 +149,12 @@ const TABLES: &[Course] = &[
 ];
 
 #[test]
-fn upgrades_go_as_told(rt: HostRuntime) {
-    let wrong = wrong_table(TABLES, |course| wrong_in_course(rt.alloc(), course));
-    assert_eq!(rt; wrong, None);
+fn upgrades_go_as_told(rt: HostRuntime) -> Result<(), WrongStep> {
+    tables_go(rt.alloc(), TABLES)
 }
 
 #[test]
-fn a_failed_append_of_the_upgrade_drops_no_box(rt: HostRuntime) {
+fn a_failed_append_of_the_upgrade_drops_no_box(rt: HostRuntime) -> Result<(), WrongStep> {
     // The header of the new segment has 24 bytes, and its frame 33; each number of them is kept.
     for keep in 0..=57usize {
         let (calls, kept) = if keep <= 24 {
@@ -164,7 +163,8 @@ fn a_failed_append_of_the_upgrade_drops_no_box(rt: HostRuntime) {
             (1, keep - 24)
         };
         if let Some(step) = walked(rt.alloc(), FIRST_AND_SPARE, (calls, kept as u64), FAILED) {
-            assert_eq!(rt; Some((keep, step)), None);
+            return Err(WrongStep(keep, step));
         }
     }
+    Ok(())
 }

@@ -2,7 +2,7 @@
 
 use bw_codec::{CodecFault, FrameRead, FrameSeen, Header, check_frame, read_frame};
 use std::alloc::Global;
-use test_tables::wrong_row;
+use test_tables::{Row, WrongRow, rows_go};
 use test_vectors::digits::{bytes_of, changed};
 use test_vectors::{FIRST, OLD_FIRST};
 
@@ -23,10 +23,9 @@ fn seen_in(bytes: &[u8], header: &Header) -> Found {
     }
 }
 
-/// What stands at the front of the bytes of a frame of this format, where a page has at most so many
-/// pairs and frames are of the least limit; `None` where memory was wanted, or where a check finds
-/// something else.
-pub(crate) fn found_in(alloc: Global, version: u16, m: u16, bytes: &[u8]) -> Option<Found> {
+/// Whether this stands at the front of the bytes of a frame of this format, where a page has at most so
+/// many pairs and frames are of the least limit, and a check finds it as well.
+pub(super) fn is_found(alloc: Global, version: u16, m: u16, bytes: &[u8], told: Found) -> bool {
     let header = Header {
         version,
         number: 1,
@@ -37,27 +36,9 @@ pub(crate) fn found_in(alloc: Global, version: u16, m: u16, bytes: &[u8]) -> Opt
         Ok(FrameRead::Whole(_, used)) => Found::Whole(used),
         Ok(FrameRead::Tail) => Found::Tail,
         Err(CodecFault::BadBytes) => Found::Bad,
-        Err(CodecFault::NoMemory) => return None,
+        Err(CodecFault::NoMemory) => return false,
     };
-    if seen_in(bytes, &header) == found {
-        Some(found)
-    } else {
-        None
-    }
-}
-
-// ---- a frame that is torn, or one of whose bytes was changed
-
-/// The byte at this index of the frame of the first segment of a format, or the one behind it,
-/// becomes this, and so many bytes are left.
-type Change = (u16, usize, u8, usize, Found);
-
-/// Whether this stands at the front then.
-fn change_goes(alloc: Global, row: &Change) -> Option<bool> {
-    let first = if row.0 == 1 { OLD_FIRST } else { FIRST };
-    let segment = changed(alloc, first, row.1.checked_add(24)?, row.2)?;
-    let frame = segment.as_slice().get(24..)?.get(..row.3)?;
-    Some(found_in(alloc, row.0, 4, frame)? == row.4)
+    [found, seen_in(bytes, &header)] == [told, told]
 }
 
 /// How many bytes are left of a frame and the byte behind it.
@@ -70,7 +51,7 @@ enum Left {
     /// The frame but its last byte.
     Less,
     /// So many.
-    Of(usize),
+    Count(usize),
 }
 
 /// What stands at the front then.
@@ -82,130 +63,171 @@ enum Kind {
     Bad,
 }
 
-/// The same of either format.
-type InBoth = (usize, u8, Left, Kind);
+/// Bytes, and what stands at their front.
+enum Front {
+    /// The byte at this index of the frame of the first segment of either format, or the one behind it,
+    /// becomes this, and so many bytes are left.
+    Both(usize, u8, Left, Kind),
+    /// The frame of this format, of which so many bytes are left.
+    Of(u16, usize, u8, usize, Found),
+    /// Digits of a format.
+    Digits(u16, &'static str, Found),
+}
 
-/// The same of one, whose frame has so many bytes.
-fn change_of(version: u16, length: usize, row: &InBoth) -> Option<Change> {
-    let (at, to, left, kind) = *row;
-    let left = match left {
-        Left::More => length.checked_add(1)?,
+use Front::{Both, Digits, Of};
+
+/// The frame of this format in the first segment has so many bytes.
+fn length_of(version: u16) -> usize {
+    if version == 1 { 52 } else { 53 }
+}
+
+fn left_of(length: usize, left: Left) -> usize {
+    match left {
+        Left::More => length.saturating_add(1),
         Left::All => length,
-        Left::Less => length.checked_sub(1)?,
-        Left::Of(count) => count,
-    };
-    let found = match kind {
+        Left::Less => length.saturating_sub(1),
+        Left::Count(count) => count,
+    }
+}
+
+fn found_of(length: usize, kind: Kind) -> Found {
+    match kind {
         Kind::Whole => Found::Whole(length),
         Kind::Tail => Found::Tail,
         Kind::Bad => Found::Bad,
-    };
-    Some((version, at, to, left, found))
+    }
 }
 
-/// Whether this stands at the front of both then.
-fn in_both_goes(alloc: Global, row: &InBoth) -> Option<bool> {
-    let old = change_of(1, 52, row)?;
-    let new = change_of(2, 53, row)?;
-    Some(change_goes(alloc, &old)? && change_goes(alloc, &new)?)
+/// Whether this stands at the front of so many bytes behind a segment's header.
+fn is_behind(alloc: Global, version: u16, segment: &[u8], left: usize, told: Found) -> bool {
+    match segment.get(24..left.saturating_add(24)) {
+        Some(frame) => is_found(alloc, version, 4, frame, told),
+        None => false,
+    }
 }
 
-const IN_BOTH: &[InBoth] = &[
-    (0, 0x46, Left::All, Kind::Whole),
-    (0, 0x46, Left::More, Kind::Whole),
-    (0, 0x46, Left::Less, Kind::Tail),
-    (0, 0x46, Left::Of(20), Kind::Tail),
-    (0, 0x46, Left::Of(19), Kind::Tail),
-    (0, 0x46, Left::Of(4), Kind::Tail),
-    (0, 0x46, Left::Of(0), Kind::Tail),
-    (45, 0x00, Left::All, Kind::Bad),
-    (0, 0x47, Left::All, Kind::Bad),
-    (0, 0x47, Left::Of(1), Kind::Bad),
+/// Whether this stands at the front of the frame of this format then.
+fn is_changed(
+    alloc: Global,
+    version: u16,
+    (at, to): (usize, u8),
+    left: usize,
+    told: Found,
+) -> bool {
+    let first = if version == 1 { OLD_FIRST } else { FIRST };
+    match changed(alloc, first, at.saturating_add(24), to) {
+        Some(segment) => is_behind(alloc, version, &segment, left, told),
+        None => false,
+    }
+}
+
+/// Whether a change of the first frame's bytes is found so, in this format.
+fn is_so_in(alloc: Global, version: u16, change: (usize, u8), left: Left, kind: Kind) -> bool {
+    let length = length_of(version);
+    is_changed(
+        alloc,
+        version,
+        change,
+        left_of(length, left),
+        found_of(length, kind),
+    )
+}
+
+impl Row for Front {
+    fn goes(&self, alloc: Global) -> Option<bool> {
+        let is_so = match self {
+            Both(at, to, left, kind) => {
+                is_so_in(alloc, 1, (*at, *to), *left, *kind)
+                    && is_so_in(alloc, 2, (*at, *to), *left, *kind)
+            }
+            Of(version, at, to, left, found) => {
+                is_changed(alloc, *version, (*at, *to), *left, *found)
+            }
+            Digits(version, hex, found) => {
+                is_found(alloc, *version, 4, &bytes_of(alloc, hex)?, *found)
+            }
+        };
+        Some(is_so)
+    }
+}
+
+/// A frame that is torn, or one of whose bytes was changed. That of format 1 has 52 bytes, and that of
+/// format 2 has 53.
+const FRAMES: &[Front] = &[
+    Both(0, 0x46, Left::All, Kind::Whole),
+    Both(0, 0x46, Left::More, Kind::Whole),
+    Both(0, 0x46, Left::Less, Kind::Tail),
+    Both(0, 0x46, Left::Count(20), Kind::Tail),
+    Both(0, 0x46, Left::Count(19), Kind::Tail),
+    Both(0, 0x46, Left::Count(4), Kind::Tail),
+    Both(0, 0x46, Left::Count(0), Kind::Tail),
+    Both(45, 0x00, Left::All, Kind::Bad),
+    Both(0, 0x47, Left::All, Kind::Bad),
+    Both(0, 0x47, Left::Count(1), Kind::Bad),
     // Frame 0, a body of 7 bytes, no block.
-    (4, 0x00, Left::All, Kind::Bad),
-    (12, 0x07, Left::All, Kind::Bad),
-    (16, 0x00, Left::All, Kind::Bad),
-];
-
-/// The frame of format 1 has 52 bytes, and that of format 2 has 53.
-const CHANGED: &[Change] = &[
+    Both(4, 0x00, Left::All, Kind::Bad),
+    Both(12, 0x07, Left::All, Kind::Bad),
+    Both(16, 0x00, Left::All, Kind::Bad),
     // The byte behind the frame.
-    (1, 52, 0x46, 53, Found::Whole(52)),
-    (1, 52, 0xff, 53, Found::Whole(52)),
+    Of(1, 52, 0x46, 53, Found::Whole(52)),
+    Of(1, 52, 0xff, 53, Found::Whole(52)),
     // A body of one byte more, and of one less; the word of the other format; a body beyond the limit.
-    (1, 12, 0x21, 52, Found::Tail),
-    (1, 12, 0x1f, 52, Found::Bad),
-    (1, 3, 0x32, 52, Found::Bad),
-    (1, 13, 0x40, 52, Found::Bad),
+    Of(1, 12, 0x21, 52, Found::Tail),
+    Of(1, 12, 0x1f, 52, Found::Bad),
+    Of(1, 3, 0x32, 52, Found::Bad),
+    Of(1, 13, 0x40, 52, Found::Bad),
     // The same.
-    (2, 53, 0xff, 54, Found::Whole(53)),
-    (2, 12, 0x22, 53, Found::Tail),
-    (2, 12, 0x20, 53, Found::Bad),
-    (2, 3, 0x31, 53, Found::Bad),
-    (2, 3, 0x31, 4, Found::Bad),
-    (2, 3, 0x31, 3, Found::Tail),
-    (2, 14, 0x01, 53, Found::Bad),
+    Of(2, 53, 0xff, 54, Found::Whole(53)),
+    Of(2, 12, 0x22, 53, Found::Tail),
+    Of(2, 12, 0x20, 53, Found::Bad),
+    Of(2, 3, 0x31, 53, Found::Bad),
+    Of(2, 3, 0x31, 4, Found::Bad),
+    Of(2, 3, 0x31, 3, Found::Tail),
+    Of(2, 14, 0x01, 53, Found::Bad),
     // The length of the value: none, more than there is, by its first byte or its second.
-    (2, 50, 0x00, 53, Found::Bad),
-    (2, 50, 0x02, 53, Found::Bad),
-    (2, 51, 0x01, 53, Found::Bad),
+    Of(2, 50, 0x00, 53, Found::Bad),
+    Of(2, 50, 0x02, 53, Found::Bad),
+    Of(2, 51, 0x01, 53, Found::Bad),
 ];
-
-#[test]
-fn a_frame_cut_short_is_a_tail_and_a_changed_one_is_bad(rt: HostRuntime) {
-    let in_both = wrong_row(IN_BOTH, |row| in_both_goes(rt.alloc(), row));
-    let changed = wrong_row(CHANGED, |row| change_goes(rt.alloc(), row));
-    assert_eq!(rt; (in_both, changed), (None, None));
-}
-
-// ---- heads
-
-/// Digits of a format, and what stands at their front.
-type Digits = (u16, &'static str, Found);
-
-/// Whether the row is answered as told.
-fn digits_goes(alloc: Global, row: &Digits) -> Option<bool> {
-    let bytes = bytes_of(alloc, row.1)?;
-    Some(found_in(alloc, row.0, 4, bytes.as_slice())? == row.2)
-}
 
 /// Heads of a body of 2^32 - 1 bytes, of one beyond the limit, and of the limit's.
-const HEADS: &[Digits] = &[
-    (
+const HEADS: &[Front] = &[
+    Digits(
         1,
         "46524d31 0100000000000000 ffffffff 01000000 02 01000000 00 0000",
         Found::Bad,
     ),
-    (
+    Digits(
         1,
         "46524d31 0100000000000000 ffffffff ffffffff 02 01000000 00 0000",
         Found::Bad,
     ),
-    (
+    Digits(
         1,
         "46524d31 0100000000000000 ed3f0000 01000000 02 01000000 00 0000",
         Found::Bad,
     ),
-    (
+    Digits(
         1,
         "46524d31 0100000000000000 ec3f0000 ffffffff 02 01000000 00 0000",
         Found::Tail,
     ),
-    (
+    Digits(
         2,
         "46524d32 0100000000000000 ffffffff 01000000 02 01000000 00 0000",
         Found::Bad,
     ),
-    (
+    Digits(
         2,
         "46524d32 0100000000000000 ffffffff ffffffff 02 01000000 00 0000",
         Found::Bad,
     ),
-    (
+    Digits(
         2,
         "46524d32 0100000000000000 edff0000 01000000 02 01000000 00 0000",
         Found::Bad,
     ),
-    (
+    Digits(
         2,
         "46524d32 0100000000000000 ecff0000 ffffffff 02 01000000 00 0000",
         Found::Tail,
@@ -213,6 +235,11 @@ const HEADS: &[Digits] = &[
 ];
 
 #[test]
-fn a_body_of_the_greatest_length_is_bad(rt: HostRuntime) {
-    assert_eq!(rt; wrong_row(HEADS, |row| digits_goes(rt.alloc(), row)), None);
+fn a_frame_cut_short_is_a_tail_and_a_changed_one_is_bad(rt: HostRuntime) -> Result<(), WrongRow> {
+    rows_go(rt.alloc(), FRAMES)
+}
+
+#[test]
+fn a_body_of_the_greatest_length_is_bad(rt: HostRuntime) -> Result<(), WrongRow> {
+    rows_go(rt.alloc(), HEADS)
 }

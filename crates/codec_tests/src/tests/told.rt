@@ -1,194 +1,205 @@
 // What the worked bytes tell, block by block.
 
 use bw_codec::{
-    Block, Frame, FrameRead, Header, HeaderRead, Outline, Packed, Pair, Place, read_frame,
-    read_header,
+    Block, Frame, FrameRead, FrameSeen, Header, HeaderRead, Outline, Packed, Place, check_frame,
+    read_frame, read_header,
 };
 use std::alloc::Global;
-use test_tables::wrong_row;
+use std::slice;
+use test_tables::{Row, WrongRow, rows_go};
 use test_vectors::digits::bytes_of;
 use test_vectors::{
     FIRST, OLD_FIRST, OLD_SECOND, OLD_THIRD_NEWER, OLD_THIRD_OLDER, SECOND, THIRD_NEWER,
-    THIRD_OLDER,
+    THIRD_OLDER, are_shown, shows,
 };
 
-/// The kinds of blocks; a Delta here has one put.
-#[derive(Clone, Copy, PartialEq, Eq)]
-pub(crate) enum Kind {
-    Base,
-    Put,
-    Split,
+/// What a block of page 1 tells: the frame and the index of its back place, and its page or its
+/// record as a text.
+pub(super) enum Told {
+    Base(&'static str),
+    /// A Delta of one put.
+    Put(u64, u32, &'static str),
+    /// The new page is 2.
+    Split(u64, u32, &'static str),
 }
 
-/// Whether bytes are this one alone.
-pub(crate) fn is_one(bytes: &[u8], one: u8) -> bool {
-    match bytes {
-        [byte] => *byte == one,
-        _ => false,
-    }
+fn place(frame: u64, index: u32) -> Place {
+    Place { frame, index }
 }
 
-/// Whether pairs have these keys and values, of one byte each.
-pub(crate) fn are_pairs(pairs: &[Pair], keys: &[u8], values: &[u8]) -> bool {
-    pairs.len() == keys.len()
-        && pairs.len() == values.len()
-        && pairs
-            .iter()
-            .zip(keys)
-            .all(|(pair, key)| is_one(pair.key(), *key))
-        && pairs
-            .iter()
-            .zip(values)
-            .all(|(pair, value)| is_one(pair.value(), *value))
-}
-
-/// Whether records are one put of this key and value, of one byte each.
-fn are_put(ops: &[Packed], keys: &[u8], values: &[u8]) -> bool {
-    match (ops, keys, values) {
-        ([op], [k], [v]) => match op.pair() {
-            Ok(pair) => is_one(pair.key(), *k) && is_one(pair.value(), *v),
+/// Whether records are one put, which is shown so.
+fn are_put(ops: &[Packed], text: &str) -> bool {
+    match ops {
+        [op] => match op.pair() {
+            Ok(pair) => are_shown(slice::from_ref(&pair), text),
             Err(_) => false,
         },
         _ => false,
     }
 }
 
-/// Whether a block of page 1 is of this kind, with this back place, these keys and these values.
-/// The new page of a Split is 2.
-pub(crate) fn says(block: &Block, kind: Kind, told: Place, keys: &[u8], values: &[u8]) -> bool {
-    match block {
-        Block::Base(leaf) => {
-            kind == Kind::Base
-                && leaf.page == 1
-                && leaf.low.as_slice().is_empty()
-                && are_pairs(leaf.pairs.as_slice(), keys, values)
+/// Whether a block is told so.
+pub(super) fn is_told(block: &Block, told: &Told) -> bool {
+    match (block, told) {
+        (Block::Base(leaf), Told::Base(text)) => leaf.page == 1 && shows(leaf, text.as_bytes()),
+        (Block::Delta { page, back, ops }, Told::Put(frame, index, text)) => {
+            *page == 1 && *back == place(*frame, *index) && are_put(ops.as_slice(), text)
         }
-        Block::Delta { page, back, ops } => {
-            kind == Kind::Put
-                && *page == 1
-                && *back == told
-                && are_put(ops.as_slice(), keys, values)
+        (Block::Split { page, back, upper }, Told::Split(frame, index, text)) => {
+            [*page, upper.page] == [1, 2]
+                && *back == place(*frame, *index)
+                && shows(upper, text.as_bytes())
         }
-        Block::Split { page, back, upper } => {
-            kind == Kind::Split
-                && *page == 1
-                && *back == told
-                && upper.page == 2
-                && Some(upper.low.as_slice()) == keys.get(..1)
-                && are_pairs(upper.pairs.as_slice(), keys, values)
-        }
+        _ => false,
     }
 }
 
-/// Whether a block tells by its calls what its kind does to pages 1, 2 and 3.
-fn does(block: &Block, kind: Kind, back: Place) -> bool {
-    let link = if kind == Kind::Base { None } else { Some(back) };
-    block.touches(1)
-        && block.touches(2) == (kind == Kind::Split)
-        && !block.touches(3)
-        && block.sets(1) == (kind == Kind::Base)
-        && block.sets(2) == (kind == Kind::Split)
-        && !block.sets(3)
-        && block.back(1) == link
-        && block.back(2).is_none()
+/// Which of the pages 1, 2 and 3 a block touches, which it sets, and its back place.
+fn done_by(told: &Told) -> ([bool; 3], [bool; 3], Option<Place>) {
+    match told {
+        Told::Base(_) => ([true, false, false], [true, false, false], None),
+        Told::Put(frame, index, _) => (
+            [true, false, false],
+            [false; 3],
+            Some(place(*frame, *index)),
+        ),
+        Told::Split(frame, index, _) => (
+            [true, true, false],
+            [false, true, false],
+            Some(place(*frame, *index)),
+        ),
+    }
 }
 
-/// Whether the outline of the block of this index in a body of this format tells what its kind does
-/// to pages 1, 2 and 3, where the blocks before it are stepped over.
-fn is_outlined(version: u16, body: &[u8], index: usize, kind: Kind) -> Option<bool> {
+/// Whether a block tells by its calls what it does to pages 1, 2 and 3.
+fn does(block: &Block, told: &Told) -> bool {
+    let (touched, set, back) = done_by(told);
+    [block.touches(1), block.touches(2), block.touches(3)] == touched
+        && [block.sets(1), block.sets(2), block.sets(3)] == set
+        && [block.back(1), block.back(2)] == [back, None]
+}
+
+/// Whether an outline tells what its block does to pages 1, 2 and 3.
+fn outlines(outline: &Outline, told: &Told) -> bool {
+    let touched = done_by(told).0;
+    let made = if touched[1] { Some(2) } else { None };
+    outline.page == 1
+        && outline.made == made
+        && [outline.touches(1), outline.touches(2), outline.touches(3)] == touched
+}
+
+/// What is left of a body of this format behind so many blocks, which are stepped over.
+fn behind_blocks(version: u16, body: &[u8], count: usize) -> Option<&[u8]> {
     let mut rest = body;
-    for _ in 0..index {
+    for _ in 0..count {
         rest = rest.get(Outline::read(version, rest)?.len..)?;
     }
-    let outline = Outline::read(version, rest)?;
-    let made = if kind == Kind::Split { Some(2) } else { None };
-    Some(
-        outline.page == 1
-            && outline.made == made
-            && outline.touches(1)
-            && outline.touches(2) == (kind == Kind::Split)
-            && !outline.touches(3),
-    )
+    Some(rest)
 }
 
-/// A block: its segment, place, kind, back place, keys and values.
-type Row = (
-    &'static str,
-    (u64, usize),
-    Kind,
-    (u64, u32),
-    &'static str,
-    &'static str,
-);
-
-const BLOCKS: &[Row] = &[
-    (OLD_FIRST, (1, 0), Kind::Base, (0, 0), "", ""),
-    (OLD_FIRST, (1, 1), Kind::Put, (1, 0), "k", "v"),
-    (OLD_SECOND, (1, 0), Kind::Base, (0, 0), "", ""),
-    (OLD_SECOND, (1, 1), Kind::Put, (1, 0), "a", "1"),
-    (OLD_SECOND, (2, 0), Kind::Put, (1, 1), "b", "2"),
-    (OLD_SECOND, (3, 0), Kind::Put, (2, 0), "c", "3"),
-    (OLD_SECOND, (4, 0), Kind::Put, (3, 0), "d", "4"),
-    (OLD_SECOND, (5, 0), Kind::Put, (4, 0), "e", "5"),
-    (OLD_SECOND, (5, 1), Kind::Split, (5, 0), "cde", "345"),
-    (OLD_THIRD_OLDER, (2, 0), Kind::Put, (1, 1), "j", "2"),
-    (OLD_THIRD_NEWER, (3, 0), Kind::Put, (2, 0), "k", "3"),
-    (OLD_THIRD_NEWER, (4, 0), Kind::Base, (0, 0), "jk", "23"),
-    (FIRST, (1, 0), Kind::Base, (0, 0), "", ""),
-    (FIRST, (1, 1), Kind::Put, (1, 0), "k", "v"),
-    (SECOND, (1, 0), Kind::Base, (0, 0), "", ""),
-    (SECOND, (1, 1), Kind::Put, (1, 0), "a", "1"),
-    (SECOND, (2, 0), Kind::Put, (1, 1), "b", "2"),
-    (SECOND, (3, 0), Kind::Put, (2, 0), "c", "3"),
-    (SECOND, (4, 0), Kind::Put, (3, 0), "d", "4"),
-    (SECOND, (5, 0), Kind::Put, (4, 0), "e", "5"),
-    (SECOND, (5, 1), Kind::Split, (5, 0), "cde", "345"),
-    (THIRD_OLDER, (2, 0), Kind::Put, (1, 1), "j", "2"),
-    (THIRD_NEWER, (3, 0), Kind::Put, (2, 0), "k", "3"),
-    (THIRD_NEWER, (4, 0), Kind::Base, (0, 0), "jk", "23"),
-];
-
-/// Whether the block of a row says what the row tells, in a frame of this format with this body, if
-/// that is there.
-fn tells(version: u16, frame: &Frame, body: Option<&[u8]>, row: &Row) -> Option<bool> {
-    let (_, (_, at), kind, (frame_back, index), keys, values) = *row;
-    let back = Place {
-        frame: frame_back,
-        index,
-    };
-    let block = frame.blocks.as_slice().get(at)?;
-    Some(
-        is_outlined(version, body?, at, kind)?
-            && does(block, kind, back)
-            && says(block, kind, back, keys.as_bytes(), values.as_bytes()),
-    )
+/// Whether the outline of the block of this index in a body of this format tells so.
+fn is_outlined(version: u16, body: &[u8], index: usize, told: &Told) -> bool {
+    match behind_blocks(version, body, index) {
+        Some(rest) => match Outline::read(version, rest) {
+            Some(outline) => outlines(&outline, told),
+            None => false,
+        },
+        None => false,
+    }
 }
 
-/// The same in the one of these frames that the row names.
-fn is_told(alloc: Global, frames: &[u8], header: &Header, row: &Row) -> Option<bool> {
+/// Whether the block of this index says so in a frame.
+fn tells(frame: &Frame, index: usize, told: &Told) -> bool {
+    match frame.blocks.as_slice().get(index) {
+        Some(block) => does(block, told) && is_told(block, told),
+        None => false,
+    }
+}
+
+/// A block: its segment, its frame and its index there, and what it tells.
+struct Worked(&'static str, u64, usize, Told);
+
+/// The bytes of the frame of this number among five.
+fn frame_bytes<'a>(frames: &'a [u8], header: &Header, number: u64) -> Option<&'a [u8]> {
     let mut rest = frames;
     for _ in 0..5 {
-        let FrameRead::Whole(frame, used) = read_frame(alloc, rest, header).ok()? else {
+        let Ok(FrameSeen::Whole(seen, used)) = check_frame(rest, header) else {
             return None;
         };
-        if frame.number == row.1.0 {
-            return tells(header.version, &frame, rest.get(20..used), row);
+        if seen == number {
+            return rest.get(..used);
         }
         rest = rest.get(used..)?;
     }
     None
 }
 
-/// The same in the segment that the row names.
-fn row_goes(alloc: Global, row: &Row) -> Option<bool> {
-    let bytes = bytes_of(alloc, row.0)?;
-    match read_header(&bytes) {
-        HeaderRead::Whole(header) => is_told(alloc, bytes.get(24..)?, &header, row),
-        _ => None,
+/// Whether it tells so in its frame, which has these bytes.
+fn is_in(alloc: Global, bytes: &[u8], header: &Header, worked: &Worked) -> bool {
+    let Worked(_, number, index, told) = worked;
+    let outlined = match bytes.get(20..) {
+        Some(body) => is_outlined(header.version, body, *index, told),
+        None => false,
+    };
+    match read_frame(alloc, bytes, header) {
+        Ok(FrameRead::Whole(frame, used)) => {
+            outlined
+                && used == bytes.len()
+                && frame.number == *number
+                && tells(&frame, *index, told)
+        }
+        _ => false,
     }
 }
 
+/// Whether it tells so in its segment, which has these bytes.
+fn is_in_segment(alloc: Global, bytes: &[u8], worked: &Worked) -> bool {
+    match (read_header(bytes), bytes.get(24..)) {
+        (HeaderRead::Whole(header), Some(frames)) => match frame_bytes(frames, &header, worked.1) {
+            Some(bytes) => is_in(alloc, bytes, &header, worked),
+            None => false,
+        },
+        _ => false,
+    }
+}
+
+impl Row for Worked {
+    fn goes(&self, alloc: Global) -> Option<bool> {
+        match bytes_of(alloc, self.0) {
+            Some(bytes) => Some(is_in_segment(alloc, &bytes, self)),
+            None => None,
+        }
+    }
+}
+
+const BLOCKS: &[Worked] = &[
+    Worked(OLD_FIRST, 1, 0, Told::Base(":")),
+    Worked(OLD_FIRST, 1, 1, Told::Put(1, 0, " k=v")),
+    Worked(OLD_SECOND, 1, 0, Told::Base(":")),
+    Worked(OLD_SECOND, 1, 1, Told::Put(1, 0, " a=1")),
+    Worked(OLD_SECOND, 2, 0, Told::Put(1, 1, " b=2")),
+    Worked(OLD_SECOND, 3, 0, Told::Put(2, 0, " c=3")),
+    Worked(OLD_SECOND, 4, 0, Told::Put(3, 0, " d=4")),
+    Worked(OLD_SECOND, 5, 0, Told::Put(4, 0, " e=5")),
+    Worked(OLD_SECOND, 5, 1, Told::Split(5, 0, "c: c=3 d=4 e=5")),
+    Worked(OLD_THIRD_OLDER, 2, 0, Told::Put(1, 1, " j=2")),
+    Worked(OLD_THIRD_NEWER, 3, 0, Told::Put(2, 0, " k=3")),
+    Worked(OLD_THIRD_NEWER, 4, 0, Told::Base(": j=2 k=3")),
+    Worked(FIRST, 1, 0, Told::Base(":")),
+    Worked(FIRST, 1, 1, Told::Put(1, 0, " k=v")),
+    Worked(SECOND, 1, 0, Told::Base(":")),
+    Worked(SECOND, 1, 1, Told::Put(1, 0, " a=1")),
+    Worked(SECOND, 2, 0, Told::Put(1, 1, " b=2")),
+    Worked(SECOND, 3, 0, Told::Put(2, 0, " c=3")),
+    Worked(SECOND, 4, 0, Told::Put(3, 0, " d=4")),
+    Worked(SECOND, 5, 0, Told::Put(4, 0, " e=5")),
+    Worked(SECOND, 5, 1, Told::Split(5, 0, "c: c=3 d=4 e=5")),
+    Worked(THIRD_OLDER, 2, 0, Told::Put(1, 1, " j=2")),
+    Worked(THIRD_NEWER, 3, 0, Told::Put(2, 0, " k=3")),
+    Worked(THIRD_NEWER, 4, 0, Told::Base(": j=2 k=3")),
+];
+
 #[test]
-fn the_worked_bytes_hold_what_they_tell(rt: HostRuntime) {
-    assert_eq!(rt; wrong_row(BLOCKS, |row| row_goes(rt.alloc(), row)), None);
+fn the_worked_bytes_hold_what_they_tell(rt: HostRuntime) -> Result<(), WrongRow> {
+    rows_go(rt.alloc(), BLOCKS)
 }

@@ -10,7 +10,7 @@ use bw_codec::{
 };
 use bw_page::empty_page;
 use std::alloc::Global;
-use test_tables::wrong_row;
+use test_tables::{Row, WrongRow, rows_go};
 use test_vectors::digits::bytes_of;
 use test_vectors::{
     FIRST, GREATEST, OLD_FIRST, OLD_GREATEST, OLD_SECOND, OLD_THIRD_NEWER, OLD_THIRD_OLDER, SECOND,
@@ -77,60 +77,87 @@ fn rewrite(alloc: Global, bytes: &[u8], out: &mut Vec<u8>) -> Option<()> {
     Some(())
 }
 
-/// A segment, and what it is in format 2.
-type Written = (&'static str, &'static str);
-
-/// Whether a segment of these digits is written so.
-fn written_goes(alloc: Global, row: &Written) -> Option<bool> {
-    let bytes = bytes_of(alloc, row.0)?;
-    let told = bytes_of(alloc, row.1)?;
-    let mut again = Vec::new(alloc);
-    rewrite(alloc, &bytes, &mut again)?;
-    Some(again.as_slice() == told.as_slice())
+/// What is written.
+enum Written {
+    /// A segment, and what it is in format 2.
+    Again(&'static str, &'static str),
+    /// The parts of the first segment, by the calls that take no memory.
+    Parts,
 }
 
-/// What is read of either format is written in format 2.
-const SEGMENTS: &[Written] = &[
-    (FIRST, FIRST),
-    (SECOND, SECOND),
-    (THIRD_OLDER, THIRD_OLDER),
-    (THIRD_NEWER, THIRD_NEWER),
-    (GREATEST, GREATEST),
-    (OLD_FIRST, FIRST),
-    (OLD_SECOND, SECOND),
-    (OLD_THIRD_OLDER, THIRD_OLDER),
-    (OLD_THIRD_NEWER, THIRD_NEWER),
-    (OLD_GREATEST, GREATEST),
-];
+use Written::{Again, Parts};
 
-#[test]
-fn the_worked_bytes_are_read_and_written_again(rt: HostRuntime) {
-    let wrong = wrong_row(SEGMENTS, |row| written_goes(rt.alloc(), row));
-    assert_eq!(rt; wrong, None);
+/// Whether a segment of these bytes is written as the others.
+fn is_again(alloc: Global, bytes: &[u8], told: &[u8]) -> bool {
+    let mut again = Vec::new(alloc);
+    rewrite(alloc, bytes, &mut again).is_some() && again.as_slice() == told
+}
+
+/// Whether a segment of these digits is written so.
+fn is_spelled(alloc: Global, hex: &str, told: &str) -> bool {
+    match (bytes_of(alloc, hex), bytes_of(alloc, told)) {
+        (Some(bytes), Some(told)) => is_again(alloc, &bytes, &told),
+        _ => false,
+    }
 }
 
 /// Whether these bytes are an empty page 1, written without memory.
-fn is_written(alloc: Global, bytes: &[u8]) -> Option<bool> {
+fn is_written(alloc: Global, bytes: &[u8]) -> bool {
     let base = Block::Base(empty_page(alloc));
-    let mut out = Vec::with_capacity(alloc, block_length(&base)).ok()?;
-    write_block(&base, &mut out);
-    Some(bytes == out.as_slice())
+    match Vec::with_capacity(alloc, block_length(&base)) {
+        Ok(mut out) => {
+            write_block(&base, &mut out);
+            out.as_slice() == bytes
+        }
+        Err(_) => false,
+    }
 }
 
 /// Whether the first segment's head, its frame's, and its first block are written as they stand there
 /// by the calls that take no memory.
-fn are_written(alloc: Global, bytes: &[u8]) -> Option<bool> {
+fn are_written(alloc: Global, bytes: &[u8]) -> bool {
     let rest = behind(Some(bytes), header_cells(1, 4, 65_536).as_slice());
-    let rest = behind(rest, frame_cells(1, 33, 2).as_slice());
-    is_written(alloc, rest?.get(..8)?)
+    match behind(rest, frame_cells(1, 33, 2).as_slice()) {
+        Some(rest) => match rest.get(..8) {
+            Some(base) => is_written(alloc, base),
+            None => false,
+        },
+        None => false,
+    }
 }
 
-fn parts_are_written(alloc: Global) -> Option<bool> {
-    let bytes = bytes_of(alloc, FIRST)?;
-    are_written(alloc, &bytes)
+fn parts_are_written(alloc: Global) -> bool {
+    match bytes_of(alloc, FIRST) {
+        Some(bytes) => are_written(alloc, &bytes),
+        None => false,
+    }
 }
+
+impl Row for Written {
+    fn goes(&self, alloc: Global) -> Option<bool> {
+        match self {
+            Again(hex, told) => Some(is_spelled(alloc, hex, told)),
+            Parts => Some(parts_are_written(alloc)),
+        }
+    }
+}
+
+/// What is read of either format is written in format 2.
+const SEGMENTS: &[Written] = &[
+    Again(FIRST, FIRST),
+    Again(SECOND, SECOND),
+    Again(THIRD_OLDER, THIRD_OLDER),
+    Again(THIRD_NEWER, THIRD_NEWER),
+    Again(GREATEST, GREATEST),
+    Again(OLD_FIRST, FIRST),
+    Again(OLD_SECOND, SECOND),
+    Again(OLD_THIRD_OLDER, THIRD_OLDER),
+    Again(OLD_THIRD_NEWER, THIRD_NEWER),
+    Again(OLD_GREATEST, GREATEST),
+    Parts,
+];
 
 #[test]
-fn parts_are_written_without_memory(rt: HostRuntime) {
-    assert!(rt; parts_are_written(rt.alloc()) == Some(true));
+fn the_worked_bytes_are_read_and_written_again(rt: HostRuntime) -> Result<(), WrongRow> {
+    rows_go(rt.alloc(), SEGMENTS)
 }

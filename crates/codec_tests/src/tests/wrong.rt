@@ -1,13 +1,12 @@
 // Each place where a block can be wrong, beside bytes that are lawful there.
 
-use super::reading::{Found, found_in};
+use super::reading::{Found, is_found};
 use std::alloc::Global;
-use test_tables::{wrong_row, wrong_table};
+use test_tables::{Row, Table, WrongRow, WrongStep, rows_go, tables_go};
 use test_vectors::digits::{body_of, framed_in, spelled_body};
 
 /// A frame. In format 2, where it is whole, it has a byte more for each value.
-#[derive(Drop)]
-enum Row {
+enum Frame {
     /// One of a block, its body in digits, which is bad.
     Bad(&'static str),
     /// The same, which is whole: how many bytes it has.
@@ -16,9 +15,9 @@ enum Row {
     Of(u32, &'static str, Found),
 }
 
-use Row::{Bad, Of, Whole};
+use Frame::{Bad, Of, Whole};
 
-const BASES: &[Row] = &[
+const BASES: &[Frame] = &[
     Whole("02 01000000 00 0000", 28),
     // The page: torn, and zero.
     Of(2, "02 01000000 00 0000 02 010000", Found::Bad),
@@ -39,14 +38,14 @@ const BASES: &[Row] = &[
     Bad("02 01000000 00 0200 01 6a v01 32 01 6a v01 33"),
 ];
 
-const PAIRS: &[Row] = &[
+const PAIRS: &[Frame] = &[
     // A key of no byte.
     Bad("02 01000000 00 0100 00 v00"),
     // No value.
     Bad("02 01000000 00 0100 01 61"),
 ];
 
-const DELTAS: &[Row] = &[
+const DELTAS: &[Frame] = &[
     Whole(
         "01 01000000 0100000000000000 00000000 0100 01 01 61 v00",
         43,
@@ -71,7 +70,7 @@ const DELTAS: &[Row] = &[
     Bad("01 01000000 0100000000000000 00000000 0100 02 00"),
 ];
 
-const SPLITS: &[Row] = &[
+const SPLITS: &[Frame] = &[
     Whole(
         "03 01000000 0100000000000000 00000000 01 61 02000000 0100 01 61 v00",
         48,
@@ -89,7 +88,7 @@ const SPLITS: &[Row] = &[
     Bad("03 01000000 0100000000000000 00000000 00 02000000 0000"),
 ];
 
-const BODIES: &[Row] = &[
+const BODIES: &[Frame] = &[
     Of(
         2,
         "02 01000000 00 0000 02 02000000 00 0000",
@@ -114,15 +113,15 @@ enum Part {
 /// Frames of one block with a key or a value of the greatest length, and of one byte more, which is
 /// bad: digits in front of its length, what it is, digits behind it, and how many bytes the first of
 /// them has in format 1 and in format 2.
-type Longest = (&'static str, Part, &'static str, usize, usize);
+struct Longest(&'static str, Part, &'static str, usize, usize);
 
 const LONGEST: &[Longest] = &[
-    ("02 01000000", Part::Key, "0000", 92, 156),
-    ("02 01000000 00 0100", Part::Key, "v00", 94, 159),
-    ("02 01000000 00 0100 01 61", Part::Value, "", 159, 544),
-    (DELETE, Part::Key, "", 105, 169),
-    (PUT, Part::Key, "v00", 106, 171),
-    (PUT_61, Part::Value, "", 171, 556),
+    Longest("02 01000000", Part::Key, "0000", 92, 156),
+    Longest("02 01000000 00 0100", Part::Key, "v00", 94, 159),
+    Longest("02 01000000 00 0100 01 61", Part::Value, "", 159, 544),
+    Longest(DELETE, Part::Key, "", 105, 169),
+    Longest(PUT, Part::Key, "v00", 106, 171),
+    Longest(PUT_61, Part::Value, "", 171, 556),
 ];
 
 /// A Delta of one delete, and of one put, up to the key, and up to the value.
@@ -133,32 +132,74 @@ const PUT: &str = "01 01000000 0100000000000000 00000000 0100 01";
 const PUT_61: &str = "01 01000000 0100000000000000 00000000 0100 01 01 61";
 
 /// Counts of so many that room for them all would not be had.
-const COUNTS: &[Row] = &[
+const COUNTS: &[Frame] = &[
     Of(u32::MAX, "02 01000000 00 0000", Found::Bad),
     Bad("01 01000000 0100000000000000 00000000 ffff 02 01 61"),
     Bad("02 01000000 00 ffff 01 61 v00"),
     Bad("03 01000000 0100000000000000 00000000 01 61 02000000 ffff 01 61 v00"),
 ];
 
-/// What stands at the front of a frame of this format with so many blocks and this body.
-fn found_at(alloc: Global, version: u16, m: u16, count: u32, body: &[u8]) -> Option<Found> {
-    let frame = framed_in(alloc, version, count, body)?;
-    found_in(alloc, version, m, frame.as_slice())
+/// Whether this stands at the front of a frame of this format with so many blocks and this body.
+fn is_framed(alloc: Global, version: u16, m: u16, count: u32, body: &[u8], told: Found) -> bool {
+    match framed_in(alloc, version, count, body) {
+        Some(frame) => is_found(alloc, version, m, &frame, told),
+        None => false,
+    }
+}
+
+/// What is found where this is told, in a frame of this format with so many values.
+fn found_with(told: Found, version: u16, values: usize) -> Found {
+    match told {
+        Found::Whole(used) if version == 2 => Found::Whole(used.saturating_add(values)),
+        told => told,
+    }
 }
 
 /// Whether a row is found as told, written in this format.
-fn is_found(alloc: Global, version: u16, m: u16, row: &Row) -> Option<bool> {
+fn is_so(alloc: Global, version: u16, m: u16, row: &Frame) -> bool {
     let (count, hex, told) = match row {
         Bad(hex) => (1, *hex, Found::Bad),
         Whole(hex, used) => (1, *hex, Found::Whole(*used)),
         Of(count, hex, told) => (*count, *hex, *told),
     };
-    let (body, values) = spelled_body(alloc, version, hex)?;
-    let told = match told {
-        Found::Whole(used) if version == 2 => Found::Whole(used.checked_add(values)?),
-        told => told,
-    };
-    Some(found_at(alloc, version, m, count, &body)? == told)
+    match spelled_body(alloc, version, hex) {
+        Some((body, values)) => {
+            let told = found_with(told, version, values);
+            is_framed(alloc, version, m, count, &body, told)
+        }
+        None => false,
+    }
+}
+
+/// Frames where a page has at most so many pairs, in either format.
+struct OfPairs(u16, &'static [Frame]);
+
+impl Table for OfPairs {
+    fn wrong_step(&self, alloc: Global) -> Option<usize> {
+        for (i, row) in self.1.iter().enumerate() {
+            if !is_so(alloc, 1, self.0, row) || !is_so(alloc, 2, self.0, row) {
+                return Some(i);
+            }
+        }
+        None
+    }
+}
+
+const TABLES: &[OfPairs] = &[
+    OfPairs(4, BASES),
+    OfPairs(4, PAIRS),
+    OfPairs(4, DELTAS),
+    OfPairs(4, SPLITS),
+    OfPairs(4, BODIES),
+    // A count is no reason to take memory.
+    OfPairs(4, COUNTS),
+    OfPairs(32, COUNTS),
+    OfPairs(u16::MAX, COUNTS),
+];
+
+#[test]
+fn each_part_of_a_block_is_looked_at(rt: HostRuntime) -> Result<(), WrongStep> {
+    tables_go(rt.alloc(), TABLES)
 }
 
 /// The greatest length of a part in this format.
@@ -170,70 +211,30 @@ fn greatest(version: u16, part: Part) -> u16 {
     }
 }
 
-/// Whether the longest is found whole, and one byte more bad, in this format.
-fn is_longest(alloc: Global, version: u16, row: &Longest, used: usize) -> Option<bool> {
-    let (front, part, behind, _, _) = *row;
-    let many = greatest(version, part);
-    let is_wide = version == 2 && part == Part::Value;
-    let whole = body_of(alloc, version, (front, behind), is_wide, many)?;
-    let more = body_of(
-        alloc,
-        version,
-        (front, behind),
-        is_wide,
-        many.checked_add(1)?,
-    )?;
-    let is_whole = found_at(alloc, version, 4, 1, &whole)? == Found::Whole(used);
-    Some(is_whole && found_at(alloc, version, 4, 1, &more)? == Found::Bad)
-}
-
-/// The same in either format.
-fn longest_goes(alloc: Global, row: &Longest) -> Option<bool> {
-    Some(is_longest(alloc, 1, row, row.3)? && is_longest(alloc, 2, row, row.4)?)
-}
-
-/// The first row that does not answer as told, in this format.
-fn wrong_in(alloc: Global, version: u16, m: u16, rows: &[Row]) -> Option<usize> {
-    for (i, row) in rows.iter().enumerate() {
-        if is_found(alloc, version, m, row) != Some(true) {
-            return Some(i);
-        }
+/// Whether a part of so many bytes is found so in this format.
+fn is_part(alloc: Global, version: u16, row: &Longest, many: u16, told: Found) -> bool {
+    let Longest(front, part, behind, _, _) = row;
+    let is_wide = version == 2 && *part == Part::Value;
+    match body_of(alloc, version, (front, behind), is_wide, many) {
+        Some(body) => is_framed(alloc, version, 4, 1, &body, told),
+        None => false,
     }
-    None
 }
 
-/// The same in either format.
-fn wrong_in_either(alloc: Global, m: u16, rows: &[Row]) -> Option<usize> {
-    wrong_in(alloc, 1, m, rows).or(wrong_in(alloc, 2, m, rows))
+/// Whether the longest is found whole, and one byte more bad, in this format.
+fn is_longest(alloc: Global, version: u16, row: &Longest, used: usize) -> bool {
+    let many = greatest(version, row.1);
+    is_part(alloc, version, row, many, Found::Whole(used))
+        && is_part(alloc, version, row, many.saturating_add(1), Found::Bad)
 }
 
-/// Rows where a page has at most so many pairs.
-type OfPairs = (u16, &'static [Row]);
-
-/// The first step that does not go as told.
-fn wrong_of_pairs(alloc: Global, table: &OfPairs) -> Option<usize> {
-    wrong_in_either(alloc, table.0, table.1)
-}
-
-const TABLES: &[OfPairs] = &[
-    (4, BASES),
-    (4, PAIRS),
-    (4, DELTAS),
-    (4, SPLITS),
-    (4, BODIES),
-];
-
-const COUNTED: &[OfPairs] = &[(4, COUNTS), (32, COUNTS), (u16::MAX, COUNTS)];
-
-#[test]
-fn each_part_of_a_block_is_looked_at(rt: HostRuntime) {
-    let parts = wrong_table(TABLES, |table| wrong_of_pairs(rt.alloc(), table));
-    let longest = wrong_row(LONGEST, |row| longest_goes(rt.alloc(), row));
-    assert_eq!(rt; (parts, longest), (None, None));
+impl Row for Longest {
+    fn goes(&self, alloc: Global) -> Option<bool> {
+        Some(is_longest(alloc, 1, self, self.3) && is_longest(alloc, 2, self, self.4))
+    }
 }
 
 #[test]
-fn a_count_is_no_reason_to_take_memory(rt: HostRuntime) {
-    let wrong = wrong_table(COUNTED, |table| wrong_of_pairs(rt.alloc(), table));
-    assert_eq!(rt; wrong, None);
+fn one_byte_more_than_the_greatest_length_is_bad(rt: HostRuntime) -> Result<(), WrongRow> {
+    rows_go(rt.alloc(), LONGEST)
 }

@@ -72,9 +72,9 @@ const TRIALS: &[Trial] = &[
             Row(Write("segment-0000.bw", "abc"), Done, ""),
         ],
         Empty(0),
-        8,
+        9,
         &[
-            Row(Empty(0), Done, "nnolocca"),
+            Row(Empty(0), Done, "nnolocaca"),
             Row(Act::File("segment-0000.bw", ""), Done, ""),
         ],
     ),

@@ -37,7 +37,7 @@ const KEPT: &[Row] = &[
     Row(Segment(0, 64), InUse, "nnol"),
     Row(Spare(0, 64), InUse, "nnol"),
     Row(Stop(0), Done, ""),
-    Row(Empty(0), Done, "nnolocca"),
+    Row(Empty(0), Done, "nnolocaca"),
     Row(File("segment-0000.bw", ""), Done, ""),
     Row(Segment(0, 64), Done, "nnoloammaa"),
 ];
@@ -95,7 +95,7 @@ const READ: &[Row] = &[
     Row(Copy(0, 1, "abc"), Done, "nomrno"),
     Row(Copy(0, 0, "abc"), BadConfig, ""),
     Row(Copy(0, MAX_CAPACITY + 1, "abc"), BadConfig, ""),
-    Row(Copy(1, 64, ""), System, "no"),
+    Row(Copy(1, 64, ""), Done, "nono"),
     Row(NoFile("segment-0001.bw"), Done, ""),
     Row(NoFile("lock"), Done, ""),
     Row(Lengthen, Done, ""),

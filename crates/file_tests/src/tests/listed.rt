@@ -1,11 +1,11 @@
-//! Which leases have a file: by the names of the files alone.
+//! Which leases have a file, or sums alone: by the names of the files only.
 
 use super::steps::Act::{Listed, Write};
 use super::steps::Told::Done;
 use super::steps::{Row, Table, wrong_table};
 use bw_file::{Folder, FolderReader};
 
-/// Names of three leases, of none of a desk's, and of other files.
+/// Names of four leases, one of which has only sums, of none of a desk's, and of other files.
 const LISTED: &[Row] = &[
     Row(Listed(&[]), Done, ""),
     Row(Write("segment-0007.bw", ""), Done, ""),
@@ -20,7 +20,9 @@ const LISTED: &[Row] = &[
     Row(Write("segment-0005", ""), Done, ""),
     Row(Write("notes", ""), Done, ""),
     Row(Write("segment-0009.sum", ""), Done, ""),
-    Row(Listed(&[0, 7, 4095]), Done, ""),
+    Row(Write("segment-09.sum", ""), Done, ""),
+    Row(Write("segment-0010.sums", ""), Done, ""),
+    Row(Listed(&[0, 7, 9, 4095]), Done, ""),
 ];
 
 const TABLES: &[Table] = &[("listed", LISTED)];

@@ -37,9 +37,9 @@ pub(super) enum Act {
     Verify(u32, u64, u64, u64),
     Empty(u32),
     /// A file is written anew, whole.
-    Whole(u32, &'static str),
+    Whole(u32, &'static str, &'static [u64]),
     /// The same with its first byte at the end.
-    HeldBack(u32, &'static str),
+    HeldBack(u32, &'static str, &'static [u64]),
     /// After so many calls one fails, a write with so many bytes kept.
     Fail(u64, u64),
     /// Writes go to a device that is full, or no longer.
@@ -81,6 +81,8 @@ pub(super) enum Told {
     NotPlain,
     /// At this offset of the file of this lease.
     Damaged(u32, u64),
+    /// From this offset of the file of this lease to that one.
+    Missing(u32, u64, u64),
     InUse,
     System,
 }
@@ -128,6 +130,7 @@ fn fault(cause: FolderFault) -> Told {
         FolderFault::TooLong => Told::TooLong,
         FolderFault::NotPlain => Told::NotPlain,
         FolderFault::Damaged { lease, at } => Told::Damaged(lease, at),
+        FolderFault::Missing { lease, from, to } => Told::Missing(lease, from, to),
         FolderFault::InUse => Told::InUse,
         FolderFault::System(_) => Told::System,
     }
@@ -261,21 +264,21 @@ fn copy(stand: &Stand, number: u32, capacity: u64, held: &str) -> Told {
     }
 }
 
-fn whole(stand: &Stand, lease: u32, text: &str) -> Told {
+fn whole(stand: &Stand, lease: u32, text: &str, ends: &[u64]) -> Told {
     let Some(folder) = &stand.folder else {
         return Told::No;
     };
-    match folder.write(&stand.rt, lease, text.as_bytes()) {
+    match folder.write(&stand.rt, lease, text.as_bytes(), ends) {
         Ok(()) => Told::Done,
         Err(cause) => fault(cause),
     }
 }
 
-fn held_back(stand: &Stand, lease: u32, text: &str) -> Told {
+fn held_back(stand: &Stand, lease: u32, text: &str, ends: &[u64]) -> Told {
     let Some(folder) = &stand.folder else {
         return Told::No;
     };
-    let begun = match folder.write_held_back(&stand.rt, lease, text.as_bytes()) {
+    let begun = match folder.write_held_back(&stand.rt, lease, text.as_bytes(), ends) {
         Ok(begun) => begun,
         Err(cause) => return fault(cause),
     };
@@ -414,8 +417,8 @@ pub(super) fn goes(stand: &mut Stand, act: &Act) -> Told {
             verify(stand, *lease, sound)
         }
         Act::Empty(lease) => empty(stand, *lease),
-        Act::Whole(lease, text) => whole(stand, *lease, text),
-        Act::HeldBack(lease, text) => held_back(stand, *lease, text),
+        Act::Whole(lease, text, ends) => whole(stand, *lease, text, *ends),
+        Act::HeldBack(lease, text, ends) => held_back(stand, *lease, text, *ends),
         _ => done_if(goes_outside(&stand.rt, act)),
     }
 }

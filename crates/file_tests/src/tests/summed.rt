@@ -3,10 +3,10 @@
 
 use super::cleared;
 use super::steps::Act::{
-    Append, Bytes, Copy, Fail, File, Has, HeldBack, Holds, Leave, Link, Look, LookEvicted, Make,
-    NoFile, Open, Opens, Segment, Spare, Stop, Verify, Whole, Write,
+    Append, Bytes, Copy, Fail, File, Has, HeldBack, Holds, Leave, Link, Listed, Look, LookEvicted,
+    Make, NoFile, Open, Opens, Segment, Spare, Stop, Verify, Whole, Write,
 };
-use super::steps::Told::{Damaged, Done, NotPlain, System};
+use super::steps::Told::{Damaged, Done, Missing, NotPlain, System};
 use super::steps::{Act, Row, Stand, Table, at, is_told, wrong_table};
 use std::fs;
 
@@ -53,22 +53,62 @@ const SUMMED: &[Row] = &[
     Row(Has(SUMS, ABCDE, 24), Done, ""),
 ];
 
-/// A file that is written whole has one sum, behind its bytes.
+/// A file that is written whole has a sum for each piece, written at once after its bytes. Ends that
+/// do not ascend, or that are past the bytes, end no piece.
 const WHOLE: &[Row] = &[
     Row(Open, Done, "doanool"),
-    Row(Whole(0, "abcde"), Done, "nnoloacacwaw"),
+    Row(Whole(0, "abcde", &[]), Done, "nnoloacacwaw"),
     Row(File(FILE, "abcde"), Done, ""),
     Row(Has(SUMS, ABCDE, 24), Done, ""),
-    Row(Whole(0, ""), Done, "nnoloacaca"),
+    Row(Whole(0, "abcde", &[0, 3, 2, 3, 6]), Done, "nnoloacacwaw"),
+    Row(Has(SUMS, ABC_DE, 48), Done, ""),
+    Row(Whole(0, "", &[3]), Done, "nnoloacaca"),
     Row(File(SUMS, ""), Done, ""),
-    Row(HeldBack(0, "abcde"), Done, "nnoloacacwwawaw"),
+    Row(HeldBack(0, "abcde", &[3, 5]), Done, "nnoloacacwwawaw"),
     Row(File(FILE, "abcde"), Done, ""),
-    Row(Has(SUMS, ABCDE, 24), Done, ""),
+    Row(Has(SUMS, ABC_DE, 48), Done, ""),
     Row(Fail(12, 0), Done, ""),
-    Row(HeldBack(0, "abcde"), System, "nnoloacacwwaw"),
+    Row(HeldBack(0, "abcde", &[]), System, "nnoloacacwwaw"),
     Row(File(SUMS, ""), Done, ""),
     Row(Opens(0, 64), Done, ""),
     Row(Holds(0, "\0bcde", 0), Done, ""),
+];
+
+/// Bytes that the sums speak of, and that are not there, are told, and nothing is written.
+const LOST: &[Row] = &[
+    Row(Open, Done, "doanool"),
+    Row(Segment(0, 64), Done, "nnoloammaa"),
+    Row(Append(0, "abc"), Done, "wsw"),
+    Row(Append(0, "de"), Done, "wsw"),
+    Row(Stop(0), Done, ""),
+    Row(Write(FILE, "abcd"), Done, ""),
+    Row(Segment(0, 64), Missing(0, 4, 5), "nnoloamrmr"),
+    Row(Write(FILE, "abX"), Done, ""),
+    Row(Segment(0, 64), Damaged(0, 0), "nnoloamrmr"),
+    Row(Write(FILE, "ab"), Done, ""),
+    Row(Segment(0, 64), Missing(0, 2, 5), "nnoloamrmr"),
+    Row(Write(FILE, ""), Done, ""),
+    Row(Segment(0, 64), Missing(0, 0, 5), "nnoloammr"),
+    Row(File(FILE, ""), Done, ""),
+    Row(Has(SUMS, ABC_DE, 48), Done, ""),
+    Row(Leave, Done, ""),
+    Row(Look, Done, "pnok"),
+    Row(Copy(0, 64, ""), Missing(0, 0, 5), "nomnomr"),
+    Row(Verify(0, 0, 0, 0), Missing(0, 0, 5), "nomnomr"),
+];
+
+/// The sums of a file that is gone say so, and its lease is listed.
+const GONE: &[Row] = &[
+    Row(Make, Done, ""),
+    Row(Bytes(SUMS, ABC_DE, 48), Done, ""),
+    Row(Listed(&[0]), Done, ""),
+    Row(Look, Done, "pnok"),
+    Row(Copy(0, 64, ""), Missing(0, 0, 5), "nonomr"),
+    Row(NoFile(FILE), Done, ""),
+    Row(LookEvicted, Done, ""),
+    Row(Open, Done, "dnool"),
+    Row(Segment(0, 64), Missing(0, 0, 5), "nnoloammr"),
+    Row(Has(SUMS, ABC_DE, 48), Done, ""),
 ];
 
 /// What was changed is told by where its piece begins, and nothing is written.
@@ -99,13 +139,13 @@ const CHANGED: &[Row] = &[
     Row(Holds(0, "abcdefgh", 0), Done, ""),
 ];
 
-/// The sums of an earlier segment do not count beside no bytes, and are gone before any follow.
+/// The sums of an earlier segment are gone before any bytes follow.
 const EMPTIED: &[Row] = &[
     Row(Make, Done, ""),
-    Row(Write(FILE, ""), Done, ""),
+    Row(Write(FILE, "abcde"), Done, ""),
     Row(Bytes(SUMS, ABC_DE, 48), Done, ""),
     Row(Open, Done, "dnool"),
-    Row(Segment(0, 64), Done, "nnoloammraca"),
+    Row(Spare(0, 64), Done, "nnoloacaca"),
     Row(File(SUMS, ""), Done, ""),
     Row(Append(0, "xyz"), Done, "wsw"),
     Row(Append(0, "de"), Done, "wsw"),
@@ -145,6 +185,8 @@ const PLAIN: &[Row] = &[
 const TABLES: &[Table] = &[
     ("summed", SUMMED),
     ("whole", WHOLE),
+    ("lost", LOST),
+    ("gone", GONE),
     ("changed", CHANGED),
     ("emptied", EMPTIED),
     ("behind", BEHIND),
@@ -156,7 +198,7 @@ fn each_piece_has_a_sum_and_damage_is_told(rt: HostRuntime) {
     assert_eq!(rt; wrong_table(rt, TABLES), None);
 }
 
-/// So many bytes a crash may have left of the file, with what they are then, and of the sums.
+/// So many bytes are left of the file, with what they are then, and of the sums.
 const HELD: [&str; 6] = ["", "a", "ab", "abc", "abcd", "abcde"];
 
 const LEFT: [usize; 8] = [0, 1, 23, 24, 25, 32, 47, 48];
@@ -167,21 +209,52 @@ fn goes(stand: &mut Stand, act: Act, letters: &'static str) -> bool {
 }
 
 // Whether the file is opened as it was left, and each of its bytes has a sum then.
-fn is_opened(stand: &mut Stand, held: &'static str, sums: usize) -> bool {
+fn is_opened(stand: &mut Stand, held: &'static str) -> bool {
     let again = if held.is_empty() {
         "nnoloammaa"
     } else {
         "nnoloamrmrwaa"
     };
-    goes(stand, Make, "")
-        && goes(stand, Write(FILE, held), "")
-        && goes(stand, Bytes(SUMS, ABC_DE, sums), "")
-        && goes(stand, Open, "dnool")
-        && goes(stand, Opens(0, 64), "")
+    goes(stand, Opens(0, 64), "")
         && goes(stand, Holds(0, held, 0), "")
         && goes(stand, Stop(0), "")
         && goes(stand, Segment(0, 64), again)
         && goes(stand, Holds(0, held, 0), "")
+}
+
+// Where the last piece ends of which so many bytes of the sums say something.
+fn told_end(sums: usize) -> u64 {
+    match sums / 24 {
+        0 => 0,
+        1 => 3,
+        _ => 5,
+    }
+}
+
+// Whether what is missing of the file is told, and the file stays as it is.
+fn is_missed(stand: &mut Stand, held: &'static str, told: u64) -> bool {
+    let calls = if held.is_empty() {
+        "nnoloammr"
+    } else {
+        "nnoloamrmr"
+    };
+    let missing = Missing(0, held.len() as u64, told);
+    is_told(stand, &Row(Segment(0, 64), missing, calls)) && goes(stand, File(FILE, held), "")
+}
+
+// Whether a file with so many bytes of the sums is opened, or what is missing of it is told. A crash
+// leaves no sum without its piece.
+fn is_right(stand: &mut Stand, held: &'static str, sums: usize) -> bool {
+    let told = told_end(sums);
+    goes(stand, Make, "")
+        && goes(stand, Write(FILE, held), "")
+        && goes(stand, Bytes(SUMS, ABC_DE, sums), "")
+        && goes(stand, Open, "dnool")
+        && if told > held.len() as u64 {
+            is_missed(stand, held, told)
+        } else {
+            is_opened(stand, held)
+        }
 }
 
 // The first that is not, by the bytes of both.
@@ -189,7 +262,7 @@ fn wrong_left(rt: HostRuntime) -> Option<(&'static str, usize)> {
     for held in &HELD {
         for sums in &LEFT {
             let went = match at(rt, "left") {
-                Some(mut stand) => is_opened(&mut stand, *held, *sums),
+                Some(mut stand) => is_right(&mut stand, *held, *sums),
                 None => false,
             };
             if !went {
@@ -201,7 +274,7 @@ fn wrong_left(rt: HostRuntime) -> Option<(&'static str, usize)> {
 }
 
 #[test]
-fn what_a_crash_left_is_no_damage(rt: HostRuntime) {
+fn what_a_crash_left_is_no_damage_and_what_was_lost_is_told(rt: HostRuntime) {
     assert_eq!(rt; cleared(rt, "left", wrong_left(rt)), None);
 }
 

@@ -6,10 +6,9 @@ use bw_device::{
 };
 use std::alloc::Global;
 use test_boxes::NEVER;
-use test_tables::wrong_table;
+use test_tables::{Table, WrongStep, tables_go};
 
 /// One case over a desk, with what it has to answer.
-#[derive(Drop)]
 enum Row {
     /// After how many calls a fuse fails and how many bytes it then keeps, which of two appends and
     /// two reads pass, and the bytes that it holds behind them.
@@ -58,16 +57,35 @@ fn has(one: &dyn Segment, lease: u32, len: usize, failures: u64) -> bool {
         && one.failures() == failures
 }
 
+// Whether two appends and two reads of a segment go so, and leave these bytes.
+fn passes_so(one: &mut dyn Segment, passes: &[bool; 4], held: &[u8]) -> bool {
+    appends(one, b"abcd", passes[0])
+        && appends(one, b"efgh", passes[1])
+        && reads(one, held, passes[2])
+        && reads(one, held, passes[3])
+        && has(one, 0, held.len(), 1)
+}
+
+// A segment of 8 bytes with the lease 0 of a desk of its own.
+fn one_segment(alloc: Global) -> Option<MemSegment> {
+    match Desk::new(alloc, 1) {
+        Ok(mut desk) => match desk.take() {
+            Ok(lease) => MemSegment::new(alloc, lease, 8).ok(),
+            Err(_) => None,
+        },
+        Err(_) => None,
+    }
+}
+
 // Whether two appends and two reads of a segment that fails so go as told, and leave these bytes.
-fn burns(alloc: Global, fuse: (u64, u64), passes: &[bool; 4], held: &[u8]) -> Option<bool> {
-    let lease = Desk::new(alloc, 1).ok()?.take().ok()?;
-    let mut one = FuseSegment::new(MemSegment::new(alloc, lease, 8).ok()?, fuse.0, fuse.1);
-    let goes = appends(&mut one, b"abcd", passes[0])
-        && appends(&mut one, b"efgh", passes[1])
-        && reads(&mut one, held, passes[2])
-        && reads(&mut one, held, passes[3])
-        && has(&one, 0, held.len(), 1);
-    Some(goes)
+fn burns(alloc: Global, fuse: (u64, u64), passes: &[bool; 4], held: &[u8]) -> bool {
+    match one_segment(alloc) {
+        Some(segment) => {
+            let mut one = FuseSegment::new(segment, fuse.0, fuse.1);
+            passes_so(&mut one, passes, held)
+        }
+        None => false,
+    }
 }
 
 // Whether each call of the box of 8 bytes with this lease, with three bytes in it, succeeds, where
@@ -82,28 +100,43 @@ fn succeeds(boxes: &mut [Box<dyn Segment>], lease: u32) -> bool {
     }
 }
 
+// Whether each call of both boxes succeeds, and no lease comes back before they are dropped.
+fn stay_out(yard: &mut Yard) -> bool {
+    let boxes = yard.boxes.as_mut_slice();
+    succeeds(boxes, 0) && succeeds(boxes, 1) && yard.desk.collect() == 0
+}
+
 // Whether each call of a box of either kind succeeds, and the leases come back only when the boxes
 // are dropped.
-fn both_succeed(alloc: Global) -> Option<bool> {
-    let mut full = empty_yard(alloc, 2)?;
-    add_box(&mut full, b"abc", 8, NEVER)?;
-    add_box(&mut full, b"abc", 8, (9, 0))?;
-    let Yard {
-        mut desk,
-        mut boxes,
-        ..
-    } = full;
-    let succeed = succeeds(boxes.as_mut_slice(), 0) && succeeds(boxes.as_mut_slice(), 1);
-    let stay = desk.collect() == 0;
-    drop(boxes);
-    Some(succeed && stay && desk.collect() == 2)
+fn both_succeed(alloc: Global) -> bool {
+    let Some(mut full) = empty_yard(alloc, 2) else {
+        return false;
+    };
+    if !add_box(&mut full, b"abc", 8, NEVER) || !add_box(&mut full, b"abc", 8, (9, 0)) {
+        return false;
+    }
+    let stay = stay_out(&mut full);
+    full.boxes = Vec::new(alloc);
+    stay && full.desk.collect() == 2
 }
 
 // Whether no segment is made, for the capacity, and the first lease comes back.
-fn is_refused(alloc: Global, desk: &mut Desk, capacity: u64) -> Option<bool> {
-    match MemSegment::with_bytes(alloc, desk.take().ok()?, capacity, b"abc") {
-        Ok(_) => Some(false),
-        Err(refused) => Some(refused.cause == NotMade::BadConfig && refused.lease.number() == 0),
+fn is_refused(alloc: Global, desk: &mut Desk, capacity: u64) -> bool {
+    let Ok(lease) = desk.take() else {
+        return false;
+    };
+    let is_so = match MemSegment::with_bytes(alloc, lease, capacity, b"abc") {
+        Ok(_) => false,
+        Err(refused) => refused.cause == NotMade::BadConfig && refused.lease.number() == 0,
+    };
+    is_so && desk.collect() == 1
+}
+
+// Whether the next lease of a desk has this number, and comes in behind the others.
+fn is_taken(desk: &mut Desk, leases: &mut Vec<Option<Lease>>, number: u32) -> bool {
+    match desk.take() {
+        Ok(lease) => lease.number() == number && leases.push(Some(lease)).is_ok(),
+        Err(_) => false,
     }
 }
 
@@ -111,27 +144,25 @@ fn is_refused(alloc: Global, desk: &mut Desk, capacity: u64) -> Option<bool> {
 fn leases_of(alloc: Global, desk: &mut Desk, many: u32) -> Option<Vec<Option<Lease>>> {
     let mut leases = Vec::new(alloc);
     for number in 0..many {
-        let lease = desk.take().ok()?;
-        if lease.number() != number {
+        if !is_taken(desk, &mut leases, number) {
             return None;
         }
-        leases.push(Some(lease)).ok()?;
     }
-    if desk.take().err() != Some(NotTaken::NoLease) {
-        return None;
+    if desk.take().err() == Some(NotTaken::NoLease) {
+        Some(leases)
+    } else {
+        None
     }
-    Some(leases)
 }
 
-// What is collected where three leases, which are all, are dropped in this order and collected
+// What is collected where these leases, which are all, are dropped in this order and collected
 // where told, as long as each is out until then.
-fn collected(
-    alloc: Global,
+fn collected_of(
     desk: &mut Desk,
+    leases: &mut [Option<Lease>],
     order: &[u32; 3],
     collects: &[bool; 3],
 ) -> Option<[u32; 3]> {
-    let mut leases = leases_of(alloc, desk, 3)?;
     let mut told = [0; 3];
     for i in 0..3 {
         if let Some(lease) = leases.get_mut(order[i] as usize) {
@@ -145,6 +176,19 @@ fn collected(
         }
     }
     Some(told)
+}
+
+// What three leases of a desk give, which come back in this order.
+fn collected(
+    alloc: Global,
+    desk: &mut Desk,
+    order: &[u32; 3],
+    collects: &[bool; 3],
+) -> Option<[u32; 3]> {
+    match leases_of(alloc, desk, 3) {
+        Some(mut leases) => collected_of(desk, leases.as_mut_slice(), order, collects),
+        None => None,
+    }
 }
 
 // Where three dropped leases are collected, and how many each time.
@@ -166,51 +210,62 @@ fn come_back(alloc: Global, desk: &mut Desk, order: &[u32; 3]) -> bool {
 }
 
 // Whether leases 0 and 2 are taken, where lease 1 came back and is not collected yet.
-fn least_is_taken(alloc: Global, desk: &mut Desk) -> Option<bool> {
-    let answers = collected(alloc, desk, &[2, 0, 1], &[false, true, false])?;
-    let first = desk.take().ok()?;
-    let second = desk.take().ok()?;
-    Some(answers == [0, 2, 0] && first.number() == 0 && second.number() == 2)
+fn least_is_taken(alloc: Global, desk: &mut Desk) -> bool {
+    if collected(alloc, desk, &[2, 0, 1], &[false, true, false]) != Some([0, 2, 0]) {
+        return false;
+    }
+    match (desk.take(), desk.take()) {
+        (Ok(first), Ok(second)) => first.number() == 0 && second.number() == 2,
+        _ => false,
+    }
 }
 
 // Whether all leases are given out in order, come back when they are dropped, and are free from
 // then on, the last one too.
-fn all_come_back(alloc: Global, desk: &mut Desk) -> Option<bool> {
-    let leases = leases_of(alloc, desk, MAX_LEASES)?;
+fn all_come_back(alloc: Global, desk: &mut Desk) -> bool {
+    let Some(leases) = leases_of(alloc, desk, MAX_LEASES) else {
+        return false;
+    };
     let held = desk.is_out(MAX_LEASES - 1) && desk.collect() == 0;
     drop(leases);
-    Some(held && desk.collect() == MAX_LEASES && !desk.is_out(MAX_LEASES - 1))
+    held && desk.collect() == MAX_LEASES && !desk.is_out(MAX_LEASES - 1)
 }
 
 // Whether the row goes as told.
-fn goes(alloc: Global, desk: &mut Desk, row: &Row) -> Option<bool> {
+fn goes(alloc: Global, desk: &mut Desk, row: &Row) -> bool {
     match row {
         Fuse(calls, keep, passes, held) => {
             burns(alloc, (*calls, *keep), passes, held.as_bytes())
         }
         Boxes => both_succeed(alloc),
-        Row::NotMade(capacity) => Some(is_refused(alloc, desk, *capacity)? && desk.collect() == 1),
-        Row::Desk(many, told) => Some(Desk::new(alloc, *many).err() == *told),
-        Order(order) => Some(come_back(alloc, desk, order)),
+        Row::NotMade(capacity) => is_refused(alloc, desk, *capacity),
+        Row::Desk(many, told) => Desk::new(alloc, *many).err() == *told,
+        Order(order) => come_back(alloc, desk, order),
         Least => least_is_taken(alloc, desk),
         All => all_come_back(alloc, desk),
     }
 }
 
 // Rows over a desk of so many leases.
-type OfLeases = (u32, &'static [Row]);
+struct OfLeases(u32, &'static [Row]);
 
-/// The first row or step that does not go as told.
-fn wrong_of_leases(alloc: Global, table: &OfLeases) -> Option<usize> {
-    let Ok(mut desk) = Desk::new(alloc, table.0) else {
-        return Some(0);
-    };
-    for (i, row) in table.1.iter().enumerate() {
-        if goes(alloc, &mut desk, row) != Some(true) {
+// The first row that does not go as told.
+fn wrong_row(alloc: Global, desk: &mut Desk, rows: &[Row]) -> Option<usize> {
+    for (i, row) in rows.iter().enumerate() {
+        if !goes(alloc, desk, row) {
             return Some(i);
         }
     }
     None
+}
+
+impl Table for OfLeases {
+    fn wrong_step(&self, alloc: Global) -> Option<usize> {
+        match Desk::new(alloc, self.0) {
+            Ok(mut desk) => wrong_row(alloc, &mut desk, self.1),
+            Err(_) => Some(0),
+        }
+    }
 }
 
 const FUSES: &[Row] = &[
@@ -249,19 +304,16 @@ const ORDERS: &[Row] = &[
 ];
 
 const TABLES: &[OfLeases] = &[
-    (1, FUSES),
-    (1, &[Boxes]),
-    (1, NOT_MADE),
-    (1, DESKS),
-    (3, ORDERS),
-    (3, &[Least]),
-    (MAX_LEASES, &[All]),
+    OfLeases(1, FUSES),
+    OfLeases(1, &[Boxes]),
+    OfLeases(1, NOT_MADE),
+    OfLeases(1, DESKS),
+    OfLeases(3, ORDERS),
+    OfLeases(3, &[Least]),
+    OfLeases(MAX_LEASES, &[All]),
 ];
 
 #[test]
-fn segments_fuses_and_desks_go_as_told(rt: HostRuntime) {
-    assert_eq!(rt;
-        wrong_table(TABLES, |table| wrong_of_leases(rt.alloc(), table)),
-        None
-    );
+fn segments_fuses_and_desks_go_as_told(rt: HostRuntime) -> Result<(), WrongStep> {
+    tables_go(rt.alloc(), TABLES)
 }

@@ -10,10 +10,9 @@ use bw_device::Segment;
 use bw_log::{Log, LogFault};
 use std::alloc::Global;
 use test_boxes::is_page;
-use test_tables::wrong_table;
+use test_tables::{Table, WrongStep, tables_go};
 
 // An append that fails: in which call of its box, over how many bytes, and of how many.
-#[derive(Drop)]
 struct Row {
     calls: u64,
     before: u32,
@@ -135,17 +134,19 @@ fn goes(alloc: Global, row: &Row, keep: u64) -> Option<bool> {
     Some(fails && tells(&mut log, row) && has_len(log, len))
 }
 
-/// The bytes that the box kept where it does not go as told.
-fn wrong_keep(alloc: Global, row: &Row) -> Option<usize> {
-    for keep in 0..=u64::from(row.piece) + 1 {
-        if goes(alloc, row, keep) != Some(true) {
-            return Some(keep as usize);
+impl Table for Row {
+    // The bytes that the box kept where it does not go as told.
+    fn wrong_step(&self, alloc: Global) -> Option<usize> {
+        for keep in 0..=u64::from(self.piece) + 1 {
+            if goes(alloc, self, keep) != Some(true) {
+                return Some(keep as usize);
+            }
         }
+        None
     }
-    None
 }
 
 #[test]
-fn what_stands_behind_a_failed_append_is_as_told(rt: HostRuntime) {
-    assert_eq!(rt; wrong_table(ROWS, |row| wrong_keep(rt.alloc(), row)), None);
+fn what_stands_behind_a_failed_append_is_as_told(rt: HostRuntime) -> Result<(), WrongStep> {
+    tables_go(rt.alloc(), ROWS)
 }

@@ -88,22 +88,30 @@ fn is_given_up(alloc: Global, log: &mut Log, leaf: &Leaf) -> bool
 }
 
 // Two puts, each in a segment of its own, and the page written again in a third; the first is then given up.
+fn all_go(alloc: Global, log: &mut Log, leaf: &mut Leaf) -> Result<bool, bool>
+    requires { HoldsOne (seen log.old holding) leaf.old }
+{
+    let first = is_appended(alloc, log, leaf, Some(b'a'))?;
+    rolls(log, leaf);
+    let second = is_appended(alloc, log, leaf, Some(b'b'))?;
+    rolls(log, leaf);
+    let third = is_appended(alloc, log, leaf, None)?;
+    if is_given_up(alloc, log, leaf) {
+        Ok(first | second | third)
+    } else {
+        Err(false)
+    }
+}
+
+// Whether memory was refused to appends and a cleaning after a first frame; an error if one of them
+// went otherwise.
 fn goes(alloc: Global) -> Result<bool, bool> {
     let Some((mut log, _yard)) = log_over(alloc, 4, NEVER) else {
         return Err(false);
     };
-    let Some(mut leaf) = begun(alloc, &mut log, false) else {
-        return Err(false);
-    };
-    let first = is_appended(alloc, &mut log, &mut leaf, Some(b'a'))?;
-    rolls(&mut log, &leaf);
-    let second = is_appended(alloc, &mut log, &mut leaf, Some(b'b'))?;
-    rolls(&mut log, &leaf);
-    let third = is_appended(alloc, &mut log, &mut leaf, None)?;
-    if is_given_up(alloc, &mut log, &leaf) {
-        Ok(first | second | third)
-    } else {
-        Err(false)
+    match begun(alloc, &mut log, false) {
+        Some(mut leaf) => all_go(alloc, &mut log, &mut leaf),
+        None => Err(false),
     }
 }
 

@@ -57,7 +57,9 @@ fn is_refused(log: &mut Log, more: &mut Yard) -> bool
 // one that is not, and hands them all out again.
 fn spares_come_and_go(alloc: Global) -> Option<bool> {
     let (mut log, mut more) = log_over(alloc, 1, NEVER)?;
-    add_box(&mut more, &[], 65_559, NEVER)?;
+    if !add_box(&mut more, &[], 65_559, NEVER) {
+        return None;
+    }
     let come = is_refused(&mut log, &mut more) & is_added(&mut log, &mut more.boxes);
     log.roll();
     let told = is_empty(&log) & reads_nothing(alloc, &mut log);

@@ -14,11 +14,10 @@ use bw_device::Segment;
 use bw_log::{Log, LogFault};
 use std::alloc::Global;
 use test_boxes::{Fuse, NEVER, is_shown, is_spelled};
-use test_tables::wrong_table;
+use test_tables::{Table, WrongStep, tables_go};
 use test_vectors::{FIRST, THIRD_NEWER, THIRD_OLDER};
 
 /// One step, with what it has to answer.
-#[derive(Drop)]
 enum Step {
     /// A key and a value, and what refuses the append.
     Put(u8, u8, Option<LogFault>),
@@ -234,18 +233,18 @@ pub(crate) fn begun(alloc: Global, log: &mut Log, fills: bool) -> Option<Leaf>
 // Over what steps walk: the fuse of the first box, how many more there are, all of the least
 // capacity with leases from 0 on, and whether the first frame fills its segment. One more box
 // stands in the yard.
-#[derive(Drop)]
 struct Walk(Fuse, u32, bool, &'static [Step]);
 
-/// The first row or step that does not go as told.
-fn wrong_in_walk(alloc: Global, walk: &Walk) -> Option<usize> {
-    let Some((mut log, mut yard)) = log_over(alloc, walk.1, walk.0) else {
-        return Some(0);
-    };
-    let Some(mut leaf) = begun(alloc, &mut log, walk.2) else {
-        return Some(0);
-    };
-    wrong_step(&mut log, &mut yard, &mut leaf, walk.3)
+impl Table for Walk {
+    fn wrong_step(&self, alloc: Global) -> Option<usize> {
+        let Some((mut log, mut yard)) = log_over(alloc, self.1, self.0) else {
+            return Some(0);
+        };
+        match begun(alloc, &mut log, self.2) {
+            Some(mut leaf) => wrong_step(&mut log, &mut yard, &mut leaf, self.3),
+            None => Some(0),
+        }
+    }
 }
 
 // Of two boxes, a new segment wants one more.
@@ -348,9 +347,6 @@ const TABLES: &[Walk] = &[
 ];
 
 #[test]
-fn logs_of_one_page_go_as_told(rt: HostRuntime) {
-    assert_eq!(rt;
-        wrong_table(TABLES, |walk| wrong_in_walk(rt.alloc(), walk)),
-        None
-    );
+fn logs_of_one_page_go_as_told(rt: HostRuntime) -> Result<(), WrongStep> {
+    tables_go(rt.alloc(), TABLES)
 }

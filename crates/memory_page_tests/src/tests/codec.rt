@@ -14,7 +14,7 @@ use std::alloc::Global;
 use std::sync::Wait;
 use std::thread::Threads;
 use test_marks::{begin, end};
-use test_refusals::{Ask, Row, Try, asked_again, then, tried, wrong_row};
+use test_refusals::{Ask, Row, Try, asked_again, refused_then, tried, was_refused, wrong_row};
 use test_vectors::{is, shows};
 
 /// The header of the first segment with pages of four pairs and frames of 65,536 bytes.
@@ -78,13 +78,20 @@ fn writes(alloc: Global, out: &mut Vec<u8>, head: bool) -> Option<Try> {
     tried(went, refused, is_left(out.as_slice(), went, bytes))
 }
 
-fn is_written(alloc: Global, head: bool) -> Option<Try> {
-    let mut out = Vec::from_slice(alloc, b"x").ok()?;
-    let first = writes(alloc, &mut out, head)?;
-    if first == Try::Refused {
-        return then(first, writes(alloc, &mut out, head));
+/// Writes what is no block, and once more if it was refused.
+fn writes_again(alloc: Global, out: &mut Vec<u8>, head: bool) -> Option<Try> {
+    let first = writes(alloc, out, head);
+    if was_refused(first) {
+        return refused_then(writes(alloc, out, head));
     }
-    Some(first)
+    first
+}
+
+fn is_written(alloc: Global, head: bool) -> Option<Try> {
+    match Vec::from_slice(alloc, b"x") {
+        Ok(mut out) => writes_again(alloc, &mut out, head),
+        Err(_) => None,
+    }
 }
 
 /// The lawful block of these bytes.
@@ -104,14 +111,32 @@ fn encodes(alloc: Global, out: &mut Vec<u8>, block: &Block, bytes: &[u8]) -> Opt
     tried(went, refused, is_left(out.as_slice(), went, bytes))
 }
 
-fn is_encoded(alloc: Global, bytes: &[u8]) -> Option<Try> {
-    let block = block_of(alloc, bytes)?;
-    let mut out = Vec::from_slice(alloc, b"x").ok()?;
-    let first = encodes(alloc, &mut out, &block, bytes)?;
-    if first == Try::Refused {
-        return then(first, encodes(alloc, &mut out, &block, bytes));
+/// Writes a block, and once more if it was refused.
+fn encodes_again(alloc: Global, out: &mut Vec<u8>, block: &Block, bytes: &[u8]) -> Option<Try>
+    requires { IsBlock 32 block.now }
+{
+    let first = encodes(alloc, out, block, bytes);
+    if was_refused(first) {
+        return refused_then(encodes(alloc, out, block, bytes));
     }
-    Some(first)
+    first
+}
+
+/// Writes a block after an x, and once more if it was refused.
+fn encodes_block(alloc: Global, block: &Block, bytes: &[u8]) -> Option<Try>
+    requires { IsBlock 32 block.now }
+{
+    match Vec::from_slice(alloc, b"x") {
+        Ok(mut out) => encodes_again(alloc, &mut out, block, bytes),
+        Err(_) => None,
+    }
+}
+
+fn is_encoded(alloc: Global, bytes: &[u8]) -> Option<Try> {
+    match block_of(alloc, bytes) {
+        Some(block) => encodes_block(alloc, &block, bytes),
+        None => None,
+    }
 }
 
 /// Whether the block is that of these bytes: it is written as they are.
@@ -135,17 +160,19 @@ fn reads_block(alloc: Global, bytes: &[u8]) -> Option<Try> {
 
 /// The first frame as bytes.
 fn frame_bytes(alloc: Global) -> Option<Vec<u8>> {
-    let mut bytes = Vec::from_slice(alloc, HEAD).ok()?;
-    bytes.extend_from_slice(BASE).ok()?;
-    bytes.extend_from_slice(DELTA).ok()?;
+    let mut bytes = Vec::new(alloc);
+    for part in [HEAD, BASE, DELTA] {
+        if bytes.extend_from_slice(part).is_err() {
+            return None;
+        }
+    }
     Some(bytes)
 }
 
 /// One try of a frame that is read.
-fn reads_frame(alloc: Global) -> Option<Try> {
-    let bytes = frame_bytes(alloc)?;
+fn reads_frame_of(alloc: Global, bytes: &[u8]) -> Option<Try> {
     begin(alloc);
-    let answer = read_frame(alloc, bytes.as_slice(), &HEADING);
+    let answer = read_frame(alloc, bytes, &HEADING);
     let refused = end(alloc);
     match answer {
         Ok(FrameRead::Whole(frame, used)) => {
@@ -160,20 +187,41 @@ fn reads_frame(alloc: Global) -> Option<Try> {
     }
 }
 
-fn pair(alloc: Global, key: &[u8], value: &[u8]) -> Option<Pair> {
-    Pair::of(alloc, &Key::new(key).ok()?, &Value::new(value).ok()?).ok()
+fn reads_frame(alloc: Global) -> Option<Try> {
+    match frame_bytes(alloc) {
+        Some(bytes) => reads_frame_of(alloc, bytes.as_slice()),
+        None => None,
+    }
 }
 
-/// Page 7 from `a` on, with a=1 and c=3.
+fn pair(alloc: Global, key: &[u8], value: &[u8]) -> Option<Pair> {
+    match (Key::new(key), Value::new(value)) {
+        (Ok(key), Ok(value)) => Pair::of(alloc, &key, &value).ok(),
+        _ => None,
+    }
+}
+
+/// The pairs a=1 and c=3.
+fn pairs(alloc: Global) -> Option<Vec<Pair>> {
+    match (pair(alloc, b"a", b"1"), pair(alloc, b"c", b"3")) {
+        (Some(first), Some(second)) => Vec::from_array(alloc, [first, second]).ok(),
+        _ => None,
+    }
+}
+
+/// Page 7 from `a` on, with these pairs.
 fn leaf(alloc: Global) -> Option<Leaf> {
-    let mut pairs = Vec::new(alloc);
-    pairs.push(pair(alloc, b"a", b"1")?).ok()?;
-    pairs.push(pair(alloc, b"c", b"3")?).ok()?;
-    Some(Leaf {
-        page: 7,
-        low: Low::of(Vec::from_slice(alloc, b"a").ok()?),
-        pairs: Pairs::of(pairs),
-    })
+    let Some(pairs) = pairs(alloc) else {
+        return None;
+    };
+    match Vec::from_slice(alloc, b"a") {
+        Ok(low) => Some(Leaf {
+            page: 7,
+            low: Low::of(low),
+            pairs: Pairs::of(pairs),
+        }),
+        Err(_) => None,
+    }
 }
 
 /// Whether pairs are a=1 and c=3.
@@ -189,8 +237,7 @@ fn are_pairs(pairs: &Pairs) -> bool {
     }
 }
 
-fn copies_low(alloc: Global) -> Option<Try> {
-    let (low, _pairs) = leaf(alloc)?.into_parts();
+fn copies_low(alloc: Global, low: &Low) -> Option<Try> {
     begin(alloc);
     let copy = low.copy();
     let refused = end(alloc);
@@ -200,8 +247,7 @@ fn copies_low(alloc: Global) -> Option<Try> {
     }
 }
 
-fn copies_pairs(alloc: Global, of: bool) -> Option<Try> {
-    let (_low, pairs) = leaf(alloc)?.into_parts();
+fn copies_pairs(alloc: Global, pairs: &Pairs, of: bool) -> Option<Try> {
     begin(alloc);
     let copy = if of {
         Pairs::copy_of(alloc, pairs.as_slice())
@@ -211,42 +257,75 @@ fn copies_pairs(alloc: Global, of: bool) -> Option<Try> {
     let refused = end(alloc);
     match copy {
         Ok(copy) => tried(true, refused, are_pairs(&copy)),
-        Err(_) => tried(false, refused, are_pairs(&pairs)),
+        Err(_) => tried(false, refused, are_pairs(pairs)),
     }
 }
 
-fn copies_leaf(alloc: Global) -> Option<Try> {
-    let leaf = leaf(alloc)?;
+fn copies_leaf(alloc: Global, leaf: &Leaf) -> Option<Try> {
     begin(alloc);
     let copy = leaf.copy();
     let refused = end(alloc);
     match copy {
         Ok(copy) => tried(true, refused, copy.page == 7 && shows(&copy, b"a: a=1 c=3")),
-        Err(_) => tried(false, refused, shows(&leaf, b"a: a=1 c=3")),
+        Err(_) => tried(false, refused, shows(leaf, b"a: a=1 c=3")),
     }
 }
 
-/// One try of b=2 between the pairs: where it is refused, they are what they were.
-fn inserts(alloc: Global, leaf: &mut Leaf) -> Option<Try> {
-    let (key, value) = (Key::new(b"b").ok()?, Value::new(b"2").ok()?);
-    if leaf.pairs.as_slice().len() < 1 {
-        return None;
+/// One try of a copy of a leaf, or of a part of it by itself.
+fn copies(alloc: Global, leaf: Leaf, call: &Call) -> Option<Try> {
+    if matches!(call, Call::CopyLeaf) {
+        return copies_leaf(alloc, &leaf);
     }
-    begin(alloc);
-    let went = match Pair::of(alloc, &key, &value) {
+    let (low, pairs) = leaf.into_parts();
+    match call {
+        Call::CopyLow => copies_low(alloc, &low),
+        Call::CopyPairs => copies_pairs(alloc, &pairs, false),
+        _ => copies_pairs(alloc, &pairs, true),
+    }
+}
+
+fn is_copied(alloc: Global, call: &Call) -> Option<Try> {
+    match leaf(alloc) {
+        Some(leaf) => copies(alloc, leaf, call),
+        None => None,
+    }
+}
+
+/// Whether b=2 comes in between the pairs.
+fn goes_in(alloc: Global, leaf: &mut Leaf, key: &Key, value: &Value) -> bool {
+    if leaf.pairs.as_slice().len() < 1 {
+        return false;
+    }
+    match Pair::of(alloc, key, value) {
         Ok(pair) => leaf.pairs.insert(1, pair).is_ok(),
         Err(_) => false,
+    }
+}
+
+/// One try of that: where it is refused, they are what they were.
+fn inserts(alloc: Global, leaf: &mut Leaf) -> Option<Try> {
+    let (Ok(key), Ok(value)) = (Key::new(b"b"), Value::new(b"2")) else {
+        return None;
     };
+    begin(alloc);
+    let went = goes_in(alloc, leaf, &key, &value);
     changed(leaf, went, end(alloc), b"a: a=1 b=2 c=3", b"a: a=1 c=3")
 }
 
-fn is_inserted(alloc: Global) -> Option<Try> {
-    let mut leaf = leaf(alloc)?;
-    let first = inserts(alloc, &mut leaf)?;
-    if first == Try::Refused {
-        return then(first, inserts(alloc, &mut leaf));
+/// Inserts a pair into a leaf, and once more if it was refused.
+fn inserts_again(alloc: Global, leaf: &mut Leaf) -> Option<Try> {
+    let first = inserts(alloc, leaf);
+    if was_refused(first) {
+        return refused_then(inserts(alloc, leaf));
     }
-    Some(first)
+    first
+}
+
+fn is_inserted(alloc: Global) -> Option<Try> {
+    match leaf(alloc) {
+        Some(mut leaf) => inserts_again(alloc, &mut leaf),
+        None => None,
+    }
 }
 
 fn makes_buffer(alloc: Global) -> Option<Try> {
@@ -270,11 +349,8 @@ impl Ask for Call {
         match self {
             Call::ReadBlock(bytes) => reads_block(alloc, *bytes),
             Call::ReadFrame => reads_frame(alloc),
-            Call::CopyLow => copies_low(alloc),
-            Call::CopyPairs => copies_pairs(alloc, false),
-            Call::CopyPairsOf => copies_pairs(alloc, true),
-            Call::CopyLeaf => copies_leaf(alloc),
-            _ => makes_buffer(alloc),
+            Call::NewBuffer => makes_buffer(alloc),
+            _ => is_copied(alloc, self),
         }
     }
 }

@@ -14,14 +14,24 @@ use std::alloc::{AllocError, Global};
 use std::sync::Wait;
 use std::thread::Threads;
 use test_marks::{begin, end};
-use test_refusals::{Ask, Row, Try, asked_again, then, tried, wrong_row};
+use test_refusals::{Ask, Row, Try, asked_again, refused_then, tried, was_refused, wrong_row};
 use test_vectors::{leaf_of, packed_put, put, shows};
+
+/// Whether a record comes in behind the others.
+fn is_added(records: &mut Vec<Packed>, record: Option<Packed>) -> bool {
+    match record {
+        Some(record) => records.push(record).is_ok(),
+        None => false,
+    }
+}
 
 /// One letter a put, without values.
 fn lettered(alloc: Global, letters: &[u8]) -> Option<Vec<Packed>> {
     let mut records = Vec::new(alloc);
     for letter in letters {
-        records.push(packed_put(alloc, &[*letter], b"")?).ok()?;
+        if !is_added(&mut records, packed_put(alloc, &[*letter], b"")) {
+            return None;
+        }
     }
     Some(records)
 }
@@ -68,7 +78,7 @@ enum Way {
 }
 
 /// How blocks are read.
-#[derive(Clone, Copy, PartialEq, Drop)]
+#[derive(Clone, Copy, Drop)]
 enum Reading {
     /// All at once.
     Blocks,
@@ -128,60 +138,85 @@ fn makes_leaves(alloc: Global, is_empty: bool) -> Option<Try> {
         two_pages(alloc, true)
     };
     let refused = end(alloc);
+    let (first, second): (&[u8], &[u8]) = if is_empty {
+        (b":", b"")
+    } else {
+        (b": a=1", b"c: d=4")
+    };
     match made {
-        Ok(leaves) if is_empty => tried(true, refused, are_pages(&leaves, b":", b"")),
-        Ok(leaves) => tried(true, refused, are_pages(&leaves, b": a=1", b"c: d=4")),
+        Ok(leaves) => tried(true, refused, are_pages(&leaves, first, second)),
         Err(_) => tried(false, refused, true),
     }
 }
 
-fn copies_leaves(alloc: Global) -> Option<Try> {
-    let leaves = two_pages(alloc, false).ok()?;
-    begin(alloc);
-    let copy = leaves.copy();
-    let refused = end(alloc);
-    match copy {
-        Ok(copy) => tried(true, refused, are_pages(&copy, b": a=1", b"c: d=4")),
-        Err(_) => tried(false, refused, are_pages(&leaves, b": a=1", b"c: d=4")),
-    }
-}
-
-/// The same pages by way of a start.
+/// These pages by way of a start.
 fn started(leaves: &Leaves) -> Result<Leaves, AllocError>
     requires { leaves.now.evicted ≡ [] }
 {
     Start::copy_of(leaves)?.leaves()
 }
 
-fn copies_start(alloc: Global) -> Option<Try> {
-    let leaves = two_pages(alloc, false).ok()?;
+/// One try of a copy of pages, or of these pages by way of a start. The first ones stay as they were.
+fn copies(alloc: Global, leaves: &Leaves, starts: bool) -> Option<Try>
+    requires { leaves.now.evicted ≡ [] }
+{
     begin(alloc);
-    let copy = started(&leaves);
+    let copy = if starts {
+        started(leaves)
+    } else {
+        leaves.copy()
+    };
     let refused = end(alloc);
     match copy {
         Ok(copy) => tried(true, refused, are_pages(&copy, b": a=1", b"c: d=4")),
-        Err(_) => tried(false, refused, are_pages(&leaves, b": a=1", b"c: d=4")),
+        Err(_) => tried(false, refused, are_pages(leaves, b": a=1", b"c: d=4")),
     }
 }
 
-/// One letter a put, without values, as pages apply them.
-fn packed_letters(alloc: Global, letters: &[u8]) -> Option<Vec<Packed>> {
-    let mut records = Vec::new(alloc);
-    for letter in letters {
-        records.push(packed_put(alloc, &[*letter], b"")?).ok()?;
+fn copies_two(alloc: Global, starts: bool) -> Option<Try> {
+    match two_pages(alloc, false) {
+        Ok(leaves) => copies(alloc, &leaves, starts),
+        Err(_) => None,
     }
-    Some(records)
 }
 
 /// A full page.
 fn full(alloc: Global) -> Option<Leaves>
     ensures { IfSome result (λ l. l.evicted ≡ []) }
 {
-    let mut leaves = Leaves::one_empty(alloc, 4).ok()?;
-    let records = packed_letters(alloc, b"abcd")?;
+    let Ok(mut leaves) = Leaves::one_empty(alloc, 4) else {
+        return None;
+    };
+    let Some(records) = lettered(alloc, b"abcd") else {
+        return None;
+    };
     match leaves.apply_all(records.as_slice()) {
         Ok(()) => Some(leaves),
         Err(_) => None,
+    }
+}
+
+/// What is put beside a to d: e and behind it f and g, as records and as entries; where a stretch is
+/// read, the first is b.
+#[derive(Drop)]
+struct Given {
+    first: Packed,
+    records: Vec<Packed>,
+    entries: Vec<PackedEntry>,
+}
+
+fn beside(alloc: Global, way: Way) -> Option<Given> {
+    let key: &[u8] = if way == Way::Scan { b"b" } else { b"e" };
+    let Some(first) = packed_put(alloc, key, b"") else {
+        return None;
+    };
+    match (lettered(alloc, b"efg"), entries(alloc, b"efg")) {
+        (Some(records), Some(entries)) => Some(Given {
+            first,
+            records,
+            entries,
+        }),
+        _ => None,
     }
 }
 
@@ -199,52 +234,60 @@ fn applies(leaves: &mut Leaves, change: &Packed, way: Way) -> Result<bool, Apply
     };
     let page = leaves.find(&key);
     let done = match way {
-        Way::On => leaves.apply_on(page, change)?,
-        Way::Hinted => leaves.apply_hinted(page, change)?,
-        _ => leaves.apply(change)?,
+        Way::On => leaves.apply_on(page, change),
+        Way::Hinted => leaves.apply_hinted(page, change),
+        _ => leaves.apply(change),
     };
-    Ok(done == told)
+    Ok(done? == told)
 }
 
-/// What a call tells that leaves the pages as they are: a record splits the page, and the stretch
-/// from b on has two pairs.
-fn looked(
-    alloc: Global,
-    leaves: &mut Leaves,
-    first: &Packed,
-    entries: &[PackedEntry],
-    way: Way,
-) -> Result<bool, ApplyError>
+/// Whether a stretch from the key of a record on has two pairs.
+fn scanned(alloc: Global, leaves: &Leaves, first: &Packed) -> Result<bool, ApplyError>
+    requires { leaves.now.evicted ≡ [] }
+{
+    let Ok(key) = Key::new(first.key()) else {
+        return Ok(false);
+    };
+    let mut found = Vec::new(alloc);
+    match leaves.scan(&key, 2, &mut found) {
+        Ok(()) => Ok(found.as_slice().len() == 2),
+        Err(_) => Err(ApplyError::NoMemory),
+    }
+}
+
+/// Whether three entries would do something each.
+fn foretold(leaves: &mut Leaves, entries: &[PackedEntry]) -> Result<bool, ApplyError>
     requires { leaves.old.evicted ≡ [] }
     ensures { leaves.new.evicted ≡ [] }
 {
-    if way == Way::Step {
-        return Ok(leaves.step(first)?.upper.is_some());
+    match leaves.steps(entries) {
+        Ok(steps) => Ok(steps.as_slice().len() == 3),
+        Err(fault) => Err(fault),
     }
-    if way == Way::Scan {
-        let Ok(key) = Key::new(first.key()) else {
-            return Ok(false);
-        };
-        let mut found = Vec::new(alloc);
-        leaves.scan(&key, 2, &mut found)?;
-        return Ok(found.as_slice().len() == 2);
-    }
-    let steps = leaves.steps(entries)?;
-    Ok(steps.as_slice().len() == 3)
 }
 
-/// One try: what e would do beside a to d, or f and g behind it.
-fn looks_at(alloc: Global, leaves: &mut Leaves, way: Way) -> Option<Try>
+/// Whether a record would split the page.
+fn would_split(leaves: &mut Leaves, first: &Packed) -> Result<bool, ApplyError>
     requires { leaves.old.evicted ≡ [] }
     ensures { leaves.new.evicted ≡ [] }
 {
-    let entries = entries(alloc, b"efg")?;
-    let first = match way {
-        Way::Scan => packed_put(alloc, b"b", b"")?,
-        _ => packed_put(alloc, b"e", b"")?,
-    };
+    match leaves.step(first) {
+        Ok(step) => Ok(step.upper.is_some()),
+        Err(fault) => Err(fault),
+    }
+}
+
+/// One try of a call that leaves the pages as they are.
+fn looks_at(alloc: Global, leaves: &mut Leaves, given: &Given, way: Way) -> Option<Try>
+    requires { leaves.old.evicted ≡ [] }
+    ensures { leaves.new.evicted ≡ [] }
+{
     begin(alloc);
-    let answer = looked(alloc, leaves, &first, entries.as_slice(), way);
+    let answer = match way {
+        Way::Step => would_split(leaves, &given.first),
+        Way::Scan => scanned(alloc, leaves, &given.first),
+        _ => foretold(leaves, given.entries.as_slice()),
+    };
     let refused = end(alloc);
     let is_left = are_pages(leaves, b": a= b= c= d=", b"");
     match answer {
@@ -253,31 +296,36 @@ fn looks_at(alloc: Global, leaves: &mut Leaves, way: Way) -> Option<Try>
     }
 }
 
+/// Whether a batch went.
+fn went(done: Result<(), ApplyError>) -> Result<bool, ApplyError> {
+    match done {
+        Ok(()) => Ok(true),
+        Err(fault) => Err(fault),
+    }
+}
+
+/// Whether the pages are those behind e alone, or behind f and g as well.
+fn are_split(leaves: &Leaves, way: Way) -> bool {
+    match way {
+        Way::One | Way::On | Way::Hinted => are_pages(leaves, b": a= b=", b"c: c= d= e="),
+        _ => leaves.count() == 3,
+    }
+}
+
 /// One try: e is put beside a to d, or f and g behind it.
-fn applied(alloc: Global, leaves: &mut Leaves, way: Way) -> Option<Try>
+fn applied(alloc: Global, leaves: &mut Leaves, given: &Given, way: Way) -> Option<Try>
     requires { leaves.old.evicted ≡ [] }
     ensures { leaves.new.evicted ≡ [] }
 {
-    let records = packed_letters(alloc, b"efg")?;
-    let entries = entries(alloc, b"efg")?;
-    let first = packed_put(alloc, b"e", b"")?;
     begin(alloc);
     let answer = match way {
-        Way::One | Way::On | Way::Hinted => applies(leaves, &first, way),
-        Way::All => leaves.apply_all(records.as_slice()).map(|_| true),
-        _ => leaves.apply_all_of(entries.as_slice()).map(|_| true),
+        Way::One | Way::On | Way::Hinted => applies(leaves, &given.first, way),
+        Way::All => went(leaves.apply_all(given.records.as_slice())),
+        _ => went(leaves.apply_all_of(given.entries.as_slice())),
     };
     let refused = end(alloc);
-    let is_one = matches!(way, Way::One | Way::On | Way::Hinted);
     match answer {
-        Ok(is_so) if is_one => {
-            tried(
-                true,
-                refused,
-                is_so && are_pages(leaves, b": a= b=", b"c: c= d= e="),
-            )
-        }
-        Ok(_) => tried(true, refused, leaves.count() == 3),
+        Ok(is_so) => tried(true, refused, is_so && are_split(leaves, way)),
         Err(fault) => {
             let is_left = are_pages(leaves, b": a= b= c= d=", b"");
             tried(false, refused, is_left && fault == ApplyError::NoMemory)
@@ -286,23 +334,35 @@ fn applied(alloc: Global, leaves: &mut Leaves, way: Way) -> Option<Try>
 }
 
 /// One try of what a fifth pair does, or would do.
-fn tries(alloc: Global, leaves: &mut Leaves, way: Way) -> Option<Try>
+fn tries(alloc: Global, leaves: &mut Leaves, given: &Given, way: Way) -> Option<Try>
     requires { leaves.old.evicted ≡ [] }
     ensures { leaves.new.evicted ≡ [] }
 {
     match way {
-        Way::Steps | Way::Step | Way::Scan => looks_at(alloc, leaves, way),
-        _ => applied(alloc, leaves, way),
+        Way::Steps | Way::Step | Way::Scan => looks_at(alloc, leaves, given, way),
+        _ => applied(alloc, leaves, given, way),
     }
 }
 
-fn is_tried(alloc: Global, way: Way) -> Option<Try> {
-    let mut leaves = full(alloc)?;
-    let first = tries(alloc, &mut leaves, way)?;
-    if first == Try::Refused {
-        return then(first, tries(alloc, &mut leaves, way));
+/// What a fifth pair does, or would do, and once more if it was refused.
+fn tries_again(alloc: Global, leaves: &mut Leaves, given: &Given, way: Way) -> Option<Try>
+    requires { leaves.old.evicted ≡ [] }
+{
+    let first = tries(alloc, leaves, given, way);
+    if was_refused(first) {
+        return refused_then(tries(alloc, leaves, given, way));
     }
-    Some(first)
+    first
+}
+
+fn is_tried(alloc: Global, way: Way) -> Option<Try> {
+    let Some(given) = beside(alloc, way) else {
+        return None;
+    };
+    match full(alloc) {
+        Some(mut leaves) => tries_again(alloc, &mut leaves, &given, way),
+        None => None,
+    }
 }
 
 /// One try of a pair that is put into a leaf.
@@ -314,19 +374,23 @@ fn changes(alloc: Global, leaf: &mut Leaf) -> Option<Try> {
 }
 
 fn is_changed(alloc: Global) -> Option<Try> {
-    let mut leaf = leaf_of(alloc, 1, b"", b"a", b"1").ok()?;
-    let first = changes(alloc, &mut leaf)?;
-    if first == Try::Refused {
-        return then(first, changes(alloc, &mut leaf));
+    let Ok(mut leaf) = leaf_of(alloc, 1, b"", b"a", b"1") else {
+        return None;
+    };
+    let first = changes(alloc, &mut leaf);
+    if was_refused(first) {
+        return refused_then(changes(alloc, &mut leaf));
     }
-    Some(first)
+    first
 }
 
 /// So many keys of one byte.
 fn numbered(alloc: Global, count: u8) -> Option<Vec<Packed>> {
     let mut records = Vec::new(alloc);
     for at in 0..count {
-        records.push(packed_put(alloc, &[at], b"")?).ok()?;
+        if !is_added(&mut records, packed_put(alloc, &[at], b"")) {
+            return None;
+        }
     }
     Some(records)
 }
@@ -348,10 +412,8 @@ fn all_change(alloc: Global, count: u8) -> Option<Try> {
     has_all(alloc, made, count as usize)
 }
 
-/// A leaf of five pairs is split in two.
-fn splits(alloc: Global) -> Option<Try> {
-    let records = lettered(alloc, b"abcde")?;
-    let leaf = change_all(empty_page(alloc), records.as_slice()).ok()?;
+/// A leaf is split where it has more than four pairs.
+fn splits(alloc: Global, leaf: Leaf) -> Option<Try> {
     if leaf.pairs.as_slice().len() <= 4 {
         return None;
     }
@@ -367,25 +429,33 @@ fn splits(alloc: Global) -> Option<Try> {
     }
 }
 
-/// Page 1 empty, so many puts, and page 2 from the last of them on.
-fn blocks(alloc: Global, count: u8) -> Option<Vec<Block>> {
-    let last = count.saturating_sub(1);
-    let mut blocks = Vec::new(alloc);
-    blocks.push(Block::Base(empty_page(alloc))).ok()?;
-    let ops = Ops::of(numbered(alloc, count)?);
+/// A leaf of five pairs is split in two.
+fn splits_five(alloc: Global) -> Option<Try> {
+    let Some(records) = lettered(alloc, b"abcde") else {
+        return None;
+    };
+    match change_all(empty_page(alloc), records.as_slice()) {
+        Ok(leaf) => splits(alloc, leaf),
+        Err(_) => None,
+    }
+}
+
+/// Page 1 empty, these puts, and page 2 from the last of them on.
+fn blocks(alloc: Global, records: Vec<Packed>, last: u8) -> Option<Vec<Block>> {
+    let Ok(upper) = leaf_of(alloc, 2, &[last], &[last], b"") else {
+        return None;
+    };
     let delta = Block::Delta {
         page: 1,
         back: BACK,
-        ops,
+        ops: Ops::of(records),
     };
-    blocks.push(delta).ok()?;
     let split = Block::Split {
         page: 1,
         back: BACK,
-        upper: leaf_of(alloc, 2, &[last], &[last], b"").ok()?,
+        upper,
     };
-    blocks.push(split).ok()?;
-    Some(blocks)
+    Vec::from_array(alloc, [Block::Base(empty_page(alloc)), delta, split]).ok()
 }
 
 /// The page behind blocks that are read one after the other.
@@ -419,45 +489,84 @@ fn drafted(leaf: Leaf, records: &[Packed], end: &[u8]) -> Result<Option<Leaf>, A
     Ok(Some(draft.keep_below(end).into_leaf()?))
 }
 
-fn reads(alloc: Global, how: Reading, count: u8) -> Option<Try> {
-    let blocks = blocks(alloc, count)?;
-    let records = numbered(alloc, count)?;
-    let leaf = empty_page(alloc);
-    let last = [count.saturating_sub(1)];
-    begin(alloc);
-    let answer = match how {
+/// A page in the middle after all of these blocks at once, as a leaf.
+fn draft_all(blocks: Vec<Block>) -> Result<Option<Leaf>, AllocError> {
+    match Draft::after_all(1, None, blocks) {
+        Ok(draft) => drawn(draft),
+        Err(fault) => Err(fault),
+    }
+}
+
+/// The page behind blocks, or behind records alone.
+fn read_over(
+    how: Reading,
+    leaf: Leaf,
+    blocks: Vec<Block>,
+    records: &[Packed],
+    last: u8,
+) -> Result<Option<Leaf>, AllocError> {
+    match how {
         Reading::Blocks => read_blocks(1, None, blocks),
         Reading::Block => read_each(blocks),
-        Reading::DraftAll => match Draft::after_all(1, None, blocks) {
-            Ok(draft) => drawn(draft),
-            Err(fault) => Err(fault),
-        },
+        Reading::DraftAll => draft_all(blocks),
         Reading::Draft => draft_each(blocks),
-        Reading::Records => drafted(leaf, records.as_slice(), &last),
-    };
-    let refused = end(alloc);
-    match answer {
-        Ok(Some(leaf)) => {
-            let pairs = leaf.pairs.as_slice().len();
-            tried(true, refused, pairs + 1 == count as usize)
-        }
+        Reading::Records => drafted(leaf, records, &[last]),
+    }
+}
+
+/// How a page went that has so many pairs then.
+fn is_read(read: Result<Option<Leaf>, AllocError>, refused: bool, pairs: usize) -> Option<Try> {
+    match read {
+        Ok(Some(leaf)) => tried(true, refused, leaf.pairs.as_slice().len() == pairs),
         Ok(None) => None,
         Err(_) => tried(false, refused, true),
+    }
+}
+
+/// One try over these blocks and records.
+fn reads_over(
+    alloc: Global,
+    how: Reading,
+    blocks: Vec<Block>,
+    records: &[Packed],
+    last: u8,
+) -> Option<Try> {
+    let leaf = empty_page(alloc);
+    begin(alloc);
+    let answer = read_over(how, leaf, blocks, records, last);
+    is_read(answer, end(alloc), usize::from(last))
+}
+
+fn reads(alloc: Global, how: Reading, count: u8) -> Option<Try> {
+    let last = count.saturating_sub(1);
+    let (Some(records), Some(ops)) = (numbered(alloc, count), numbered(alloc, count)) else {
+        return None;
+    };
+    match blocks(alloc, ops, last) {
+        Some(blocks) => reads_over(alloc, how, blocks, records.as_slice(), last),
+        None => None,
+    }
+}
+
+/// Whether a=1 is put on a chain.
+fn is_prepended(alloc: Global, chain: &mut Chain) -> bool {
+    match packed_put(alloc, b"a", b"1") {
+        Some(record) => chain.prepend(record).is_ok(),
+        None => false,
     }
 }
 
 /// A chain with a=1, which stands in the log where that is asked.
 fn chain(alloc: Global, marked: bool) -> Option<Chain> {
     let mut chain = Chain::whole(alloc, empty_page(alloc));
-    chain.prepend(packed_put(alloc, b"a", b"1")?).ok()?;
-    if marked {
-        chain.mark_flushed(BACK).ok()?;
-        return Some(chain);
-    }
-    // What stands in the chain itself is used up.
-    chain.prepend(packed_put(alloc, b"a", b"1")?).ok()?;
-    chain.prepend(packed_put(alloc, b"a", b"1")?).ok()?;
-    Some(chain)
+    let is_so = is_prepended(alloc, &mut chain)
+        && if marked {
+            chain.mark_flushed(BACK).is_ok()
+        } else {
+            // What stands in the chain itself is used up.
+            is_prepended(alloc, &mut chain) && is_prepended(alloc, &mut chain)
+        };
+    if is_so { Some(chain) } else { None }
 }
 
 /// Whether the content of a chain is shown so.
@@ -468,53 +577,63 @@ fn has(alloc: Global, chain: &Chain, text: &[u8]) -> bool {
     }
 }
 
+/// Whether a chain went so.
+fn went_so(done: Result<(), AllocError>) -> Result<bool, AllocError> {
+    match done {
+        Ok(()) => Ok(true),
+        Err(fault) => Err(fault),
+    }
+}
+
+/// Whether the content of a chain over a page is a=1.
+fn content(chain: &Chain, below: &Leaf) -> Result<bool, AllocError> {
+    match chain.content(below) {
+        Ok(leaf) => Ok(shows(&leaf, b": a=1")),
+        Err(fault) => Err(fault),
+    }
+}
+
+/// What a call on a chain answers.
+fn linked(chain: &mut Chain, below: &Leaf, record: Packed, link: Link) -> Result<bool, AllocError> {
+    match link {
+        Link::Reserve => went_so(chain.reserve(100)),
+        Link::Prepend => went_so(chain.prepend(record)),
+        Link::Mark => went_so(chain.mark_flushed(BACK)),
+        Link::Content => content(chain, below),
+        Link::Consolidate => chain.consolidate(below),
+    }
+}
+
 /// One try of a call on a chain.
 fn links(alloc: Global, chain: &mut Chain, link: Link) -> Option<Try> {
-    let record = packed_put(alloc, b"b", b"2")?;
+    let Some(record) = packed_put(alloc, b"b", b"2") else {
+        return None;
+    };
     let below = empty_page(alloc);
     begin(alloc);
-    let answer = match link {
-        Link::Reserve => chain.reserve(100),
-        Link::Prepend => chain.prepend(record),
-        Link::Mark => chain.mark_flushed(BACK),
-        Link::Content => match chain.content(&below) {
-            Ok(leaf) => {
-                if shows(&leaf, b": a=1") {
-                    Ok(())
-                } else {
-                    return None;
-                }
-            }
-            Err(fault) => Err(fault),
-        },
-        Link::Consolidate => match chain.consolidate(&below) {
-            Ok(acts) => {
-                if acts {
-                    Ok(())
-                } else {
-                    return None;
-                }
-            }
-            Err(fault) => Err(fault),
-        },
-    };
+    let answer = linked(chain, &below, record, link);
     let refused = end(alloc);
-    let went = answer.is_ok();
-    let text: &[u8] = if went && link == Link::Prepend {
+    let text: &[u8] = if answer.is_ok() && link == Link::Prepend {
         b": a=1 b=2"
     } else {
         b": a=1"
     };
-    tried(went, refused, has(alloc, chain, text))
+    let is_left = has(alloc, chain, text);
+    match answer {
+        Ok(is_so) => tried(true, refused, is_so && is_left),
+        Err(_) => tried(false, refused, is_left),
+    }
 }
 
 fn is_linked(alloc: Global, link: Link) -> Option<Try> {
-    let mut chain = chain(alloc, link == Link::Consolidate)?;
-    let first = links(alloc, &mut chain, link)?;
-    if first == Try::Refused {
-        return then(first, links(alloc, &mut chain, link));
+    let Some(mut chain) = chain(alloc, link == Link::Consolidate) else {
+        return None;
+    };
+    let first = links(alloc, &mut chain, link);
+    if was_refused(first) {
+        return refused_then(links(alloc, &mut chain, link));
     }
-    Some(first)
+    first
 }
 
 impl Ask for Call {
@@ -523,11 +642,11 @@ impl Ask for Call {
         match self {
             Call::OneEmpty => makes_leaves(alloc, true),
             Call::Of => makes_leaves(alloc, false),
-            Call::CopyLeaves => copies_leaves(alloc),
-            Call::CopyStart => copies_start(alloc),
+            Call::CopyLeaves => copies_two(alloc, false),
+            Call::CopyStart => copies_two(alloc, true),
             Call::ChangeAll(count) => all_change(alloc, *count),
             Call::Read(how, count) => reads(alloc, *how, *count),
-            _ => splits(alloc),
+            _ => splits_five(alloc),
         }
     }
 }

@@ -12,7 +12,7 @@ use std::alloc::{AllocError, Global};
 use std::sync::Wait;
 use std::thread::Threads;
 use test_marks::{begin, begin_without, end};
-use test_refusals::{Ask, Row, Try, asked_again, then, tried, wrong_row};
+use test_refusals::{Ask, Row, Try, asked_again, refused_then, tried, was_refused, wrong_row};
 use test_vectors::{are_shown, put, shows};
 
 /// One call that may be refused.
@@ -46,13 +46,24 @@ fn start(alloc: Global) -> Result<Leaves, AllocError>
     Leaves::one_empty(alloc, 4)
 }
 
-/// One writer's puts of these letters, without values.
+/// One writer's put of this letter, without a value.
+fn entry(alloc: Global, letter: u8) -> Option<PackedEntry> {
+    match put(&[letter], b"") {
+        Some(item) => PackedEntry::of(alloc, 0, false, &item).ok(),
+        None => None,
+    }
+}
+
+/// One writer's put of each of these letters, without a value.
 pub(super) fn entries(alloc: Global, letters: &[u8]) -> Option<Vec<PackedEntry>> {
     let mut entries = Vec::new(alloc);
     for letter in letters {
-        let item = put(&[*letter], b"")?;
-        let entry = PackedEntry::of(alloc, 0, false, &item).ok()?;
-        entries.push(entry).ok()?;
+        let Some(entry) = entry(alloc, *letter) else {
+            return None;
+        };
+        if entries.push(entry).is_err() {
+            return None;
+        }
     }
     Some(entries)
 }
@@ -80,10 +91,11 @@ fn packs(alloc: Global) -> Option<Try> {
     }
 }
 
-fn makes_board(alloc: Global) -> Option<Try> {
-    let start = start(alloc).ok()?;
+fn makes_board(alloc: Global, start: &Leaves) -> Option<Try>
+    requires { start.now.evicted ≡ [] }
+{
     begin(alloc);
-    let made = Board::new(alloc, &start);
+    let made = Board::new(alloc, start);
     let refused = end(alloc);
     match made {
         Ok(board) => tried(true, refused, has_page(&board, b":", 1)),
@@ -91,10 +103,9 @@ fn makes_board(alloc: Global) -> Option<Try> {
     }
 }
 
-fn publishes_on(alloc: Global, board: &mut Board) -> Option<Try> {
-    let entries = entries(alloc, b"abcde")?;
+fn publishes_on(alloc: Global, board: &mut Board, entries: &[PackedEntry]) -> Option<Try> {
     begin(alloc);
-    let went = board.publish(entries.as_slice()).is_ok();
+    let went = board.publish(entries).is_ok();
     let refused = end(alloc);
     let is_left = if went {
         has_page(board, b": a= b=", 2)
@@ -104,23 +115,47 @@ fn publishes_on(alloc: Global, board: &mut Board) -> Option<Try> {
     tried(went, refused, is_left)
 }
 
-fn is_on_board(alloc: Global) -> Option<Try> {
-    let start = start(alloc).ok()?;
-    let mut board = Board::new(alloc, &start).ok()?;
-    let first = publishes_on(alloc, &mut board)?;
-    if first == Try::Refused {
-        return then(first, publishes_on(alloc, &mut board));
+/// Five entries, and once more where they were refused.
+fn publishes_again(alloc: Global, board: &mut Board) -> Option<Try> {
+    let Some(entries) = entries(alloc, b"abcde") else {
+        return None;
+    };
+    let first = publishes_on(alloc, board, entries.as_slice());
+    if was_refused(first) {
+        return refused_then(publishes_on(alloc, board, entries.as_slice()));
     }
-    Some(first)
+    first
+}
+
+/// Publishes five entries on a new board, and once more if they were refused.
+fn is_on_board(alloc: Global, start: &Leaves) -> Option<Try>
+    requires { start.now.evicted ≡ [] }
+{
+    match Board::new(alloc, start) {
+        Ok(mut board) => publishes_again(alloc, &mut board),
+        Err(_) => None,
+    }
+}
+
+/// A board that is made, or five entries on one.
+fn board_goes(alloc: Global, is_new: bool) -> Option<Try> {
+    match start(alloc) {
+        Ok(start) if is_new => makes_board(alloc, &start),
+        Ok(start) => is_on_board(alloc, &start),
+        Err(_) => None,
+    }
 }
 
 /// Whether a reader sees a key, by itself and as the first from it on.
 fn sees(reader: &mut Reader, key: &[u8]) -> Option<bool>
     ensures { reader.new.book ≡ reader.old.book }
 {
-    let key = Key::new(key).ok()?;
-    let found = reader.get(&key).ok()?;
-    let first = reader.next_at(&key).ok()?;
+    let Ok(key) = Key::new(key) else {
+        return None;
+    };
+    let (Ok(found), Ok(first)) = (reader.get(&key), reader.next_at(&key)) else {
+        return None;
+    };
     let is_first = match first {
         Some((at, _)) => at.as_slice() == key.as_slice(),
         None => false,
@@ -134,11 +169,20 @@ fn sees(reader: &mut Reader, key: &[u8]) -> Option<bool>
 
 /// Three puts as a batch, behind page 1.
 fn batch(alloc: Global) -> Option<Batch> {
-    let entries = entries(alloc, b"abc")?;
-    let start = start(alloc).ok()?;
+    let (Some(entries), Ok(start)) = (entries(alloc, b"abc"), start(alloc)) else {
+        return None;
+    };
     begin_without(alloc);
     let batch = Batch::new(Some(start), entries);
     if end(alloc) { None } else { Some(batch) }
+}
+
+/// What was entered is published.
+fn caught_up<R: Wait>(rt: &R, publisher: &mut Publisher) -> Result<(), Unpublished> {
+    match publisher.catch_up(rt) {
+        Ok(()) => Ok(()),
+        Err(_) => Err(Unpublished::Entered),
+    }
 }
 
 /// One try of a batch, or of what was entered: where it is refused, the reader sees nothing yet.
@@ -153,44 +197,48 @@ fn publishes<R: Wait>(
     begin(alloc);
     let answer = match batch {
         Some(batch) => publisher.publish(rt, batch),
-        None => match publisher.catch_up(rt) {
-            Ok(()) => Ok(()),
-            Err(_) => Err(Unpublished::Entered),
-        },
+        None => caught_up(rt, publisher),
     };
     let refused = end(alloc);
+    let seen = sees(reader, b"c");
     match answer {
-        Ok(()) => (tried(true, refused, sees(reader, b"c") == Some(true)), None),
-        Err(Unpublished::Entered) => (
-            tried(false, refused, sees(reader, b"c") == Some(false)),
-            None,
-        ),
+        Ok(()) => (tried(true, refused, seen == Some(true)), None),
+        Err(Unpublished::Entered) => (tried(false, refused, seen == Some(false)), None),
         Err(Unpublished::Back(batch)) => {
-            (
-                tried(false, refused, sees(reader, b"c") == Some(false)),
-                Some(batch),
-            )
+            (tried(false, refused, seen == Some(false)), Some(batch))
         }
     }
 }
 
 /// The batch is published; where it was refused, by the next call, with the batch where it came
 /// back.
-fn is_published<R: Wait>(rt: &R, alloc: Global, publisher: &mut Publisher) -> Option<Try> {
-    let mut reader = publisher.reader().ok()?;
-    let given = batch(alloc)?;
-    let (first, back) = publishes(rt, alloc, publisher, &mut reader, Some(given));
-    let first = first?;
-    if first == Try::Refused {
-        let (second, _) = publishes(rt, alloc, publisher, &mut reader, back);
-        return then(first, second);
+fn publishes_batch<R: Wait>(
+    rt: &R,
+    alloc: Global,
+    publisher: &mut Publisher,
+    reader: &mut Reader,
+    given: Batch,
+) -> Option<Try> {
+    let (first, back) = publishes(rt, alloc, publisher, reader, Some(given));
+    if was_refused(first) {
+        return refused_then(publishes(rt, alloc, publisher, reader, back).0);
     }
     // What is level is not published again.
-    let idle = publishes(rt, alloc, publisher, &mut reader, None).0;
-    if first == Try::Went {
+    let idle = publishes(rt, alloc, publisher, reader, None).0;
+    if first == Some(Try::Went) {
         idle
     } else {
-        Some(first)
+        first
+    }
+}
+
+fn is_published<R: Wait>(rt: &R, alloc: Global, publisher: &mut Publisher) -> Option<Try> {
+    let Ok(mut reader) = publisher.reader() else {
+        return None;
+    };
+    match batch(alloc) {
+        Some(given) => publishes_batch(rt, alloc, publisher, &mut reader, given),
+        None => None,
     }
 }
 
@@ -228,11 +276,11 @@ fn makes_reader<S: Source>(alloc: Global, source: &mut S) -> Option<Try> {
 
 /// A place is not used up by a reader that was refused: there is one alone.
 fn is_reader_made<S: Source>(alloc: Global, source: &mut S) -> Option<Try> {
-    let first = makes_reader(alloc, source)?;
-    if first == Try::Refused {
-        return then(first, makes_reader(alloc, source));
+    let first = makes_reader(alloc, source);
+    if was_refused(first) {
+        return refused_then(makes_reader(alloc, source));
     }
-    Some(first)
+    first
 }
 
 fn with_publisher<R: AllocGlobal + Wait>(rt: &R, call: &Call) -> Option<Try> {
@@ -248,29 +296,40 @@ fn with_publisher<R: AllocGlobal + Wait>(rt: &R, call: &Call) -> Option<Try> {
     if end(alloc) { None } else { went }
 }
 
-/// One try of a publisher that is made, or of versions.
-fn opens<R: AllocGlobal + Wait>(rt: &R, versions: bool) -> Option<Try> {
+/// One try of a publisher that is made.
+fn opens_publisher<R: AllocGlobal + Wait>(rt: &R) -> Option<Try> {
     let alloc = rt.alloc();
-    let start = start(alloc).ok()?;
     begin(alloc);
-    let went = if versions {
-        match Versions::open(rt, alloc, 2, start) {
-            Ok(versions) => {
-                versions.shut(rt);
-                true
-            }
-            Err(_) => false,
+    let went = match Publisher::open(rt, alloc, 2) {
+        Ok(publisher) => {
+            publisher.shut(rt);
+            true
         }
-    } else {
-        match Publisher::open(rt, alloc, 2) {
-            Ok(publisher) => {
-                publisher.shut(rt);
-                true
-            }
-            Err(_) => false,
-        }
+        Err(_) => false,
     };
     tried(went, end(alloc), true)
+}
+
+/// One try of versions of this page.
+fn opens_versions<R: Wait>(rt: &R, alloc: Global, start: Leaves) -> Option<Try>
+    requires { start.evicted ≡ [] }
+{
+    begin(alloc);
+    let went = match Versions::open(rt, alloc, 2, start) {
+        Ok(versions) => {
+            versions.shut(rt);
+            true
+        }
+        Err(_) => false,
+    };
+    tried(went, end(alloc), true)
+}
+
+fn opens<R: AllocGlobal + Wait>(rt: &R) -> Option<Try> {
+    match start(rt.alloc()) {
+        Ok(start) => opens_versions(rt, rt.alloc(), start),
+        Err(_) => None,
+    }
 }
 
 /// Versions of one empty page, and a history of which they publish a beginning.
@@ -341,11 +400,11 @@ fn answers(alloc: Global, reader: &mut Reader, call: &Call) -> Option<Try>
 fn is_read(alloc: Global, reader: &mut Reader, call: &Call) -> Option<Try>
     ensures { reader.new.book ≡ reader.old.book }
 {
-    let first = answers(alloc, reader, call)?;
-    if first == Try::Refused {
-        return then(first, answers(alloc, reader, call));
+    let first = answers(alloc, reader, call);
+    if was_refused(first) {
+        return refused_then(answers(alloc, reader, call));
     }
-    Some(first)
+    first
 }
 
 /// A reader learns the news of its versions without memory.
@@ -359,20 +418,33 @@ fn learns(alloc: Global, stand: &mut Stand, reader: &mut Reader) -> bool
 }
 
 /// The history is published in a window, and the page then read, in another where that is asked.
+fn goes_up_to<R: Wait>(
+    rt: &R,
+    alloc: Global,
+    stand: &mut Stand,
+    reader: &mut Reader,
+    call: &Call,
+) -> Option<Try>
+    requires { stand.old.versions.entered ≡ [] }
+{
+    let first = publishes_up_to(rt, alloc, stand, reader);
+    if was_refused(first) {
+        return refused_then(publishes_up_to(rt, alloc, stand, reader));
+    }
+    let read = is_read(alloc, reader, call);
+    if first == Some(Try::Went) {
+        read
+    } else {
+        first
+    }
+}
+
 fn is_up_to<R: Wait>(rt: &R, alloc: Global, stand: &mut Stand, call: &Call) -> Option<Try>
     requires { stand.old.versions.entered ≡ [] }
 {
-    let mut reader = stand.versions.reader().ok()?;
-    let first = publishes_up_to(rt, alloc, stand, &mut reader)?;
-    if first == Try::Refused {
-        let second = publishes_up_to(rt, alloc, stand, &mut reader);
-        return then(first, second);
-    }
-    let read = is_read(alloc, &mut reader, call);
-    if first == Try::Went {
-        read
-    } else {
-        Some(first)
+    match stand.versions.reader() {
+        Ok(mut reader) => goes_up_to(rt, alloc, stand, &mut reader, call),
+        Err(_) => None,
     }
 }
 
@@ -380,12 +452,13 @@ fn stand_of<R: AllocGlobal + Wait>(rt: &R) -> Option<Stand>
     ensures { IfSome result (λ stand. stand.versions.entered ≡ []) }
 {
     let alloc = rt.alloc();
-    let history = entries(alloc, b"abc")?;
-    let start = start(alloc).ok()?;
-    Some(Stand {
-        versions: Versions::open(rt, alloc, 1, start).ok()?,
-        history,
-    })
+    let (Some(history), Ok(start)) = (entries(alloc, b"abc"), start(alloc)) else {
+        return None;
+    };
+    match Versions::open(rt, alloc, 1, start) {
+        Ok(versions) => Some(Stand { versions, history }),
+        Err(_) => None,
+    }
 }
 
 fn with_versions<R: AllocGlobal + Wait>(rt: &R, call: &Call) -> Option<Try> {
@@ -408,9 +481,9 @@ impl Ask for Call {
     fn asks<R: AllocGlobal + Wait>(&self, rt: &R) -> Option<Try> {
         match self {
             Call::Pack => packs(rt.alloc()),
-            Call::NewBoard => makes_board(rt.alloc()),
-            Call::OpenPublisher => opens(rt, false),
-            _ => opens(rt, true),
+            Call::NewBoard => board_goes(rt.alloc(), true),
+            Call::OpenPublisher => opens_publisher(rt),
+            _ => opens(rt),
         }
     }
 }
@@ -418,7 +491,7 @@ impl Ask for Call {
 impl Row for Call {
     fn goes<R: AllocGlobal + Threads + Wait>(&self, rt: &R) -> Option<Try> {
         match self {
-            Call::OnBoard => is_on_board(rt.alloc()),
+            Call::OnBoard => board_goes(rt.alloc(), false),
             Call::Publish | Call::CatchUp | Call::ReaderOfPublisher => with_publisher(rt, self),
             Call::PublishUpTo | Call::Page | Call::Stretch | Call::ReaderOfVersions => {
                 with_versions(rt, self)

@@ -3,11 +3,10 @@
 use bw_codec::{Leaf, Place};
 use bw_page::{Chain, empty_page};
 use std::alloc::Global;
-use test_tables::wrong_table;
-use test_vectors::{is_shown, packed, put};
+use test_tables::{Table, WrongStep, tables_go};
+use test_vectors::{is_shown, packed_put};
 
 /// One call on a chain, with what it has to answer.
-#[derive(Drop)]
 enum Step {
     Put(&'static str, &'static str),
     /// The page as it is now stands in the log at this place.
@@ -29,9 +28,11 @@ const FIRST: Place = Place { frame: 1, index: 1 };
 
 const SECOND: Place = Place { frame: 2, index: 0 };
 
-fn prepended(alloc: Global, chain: &mut Chain, key: &str, value: &str) -> Option<()> {
-    let record = put(key.as_bytes(), value.as_bytes())?;
-    chain.prepend(packed(alloc, &record)?).ok()
+fn prepended(alloc: Global, chain: &mut Chain, key: &str, value: &str) -> bool {
+    match packed_put(alloc, key.as_bytes(), value.as_bytes()) {
+        Some(record) => chain.prepend(record).is_ok(),
+        None => false,
+    }
 }
 
 fn consolidates(chain: &mut Chain, below: &Leaf, told: bool) -> bool {
@@ -59,7 +60,7 @@ fn alone(alloc: Global, chain: &Chain, text: &str) -> bool {
 /// Whether the step went as told.
 fn goes(alloc: Global, chain: &mut Chain, below: &mut Leaf, step: &Step) -> bool {
     match step {
-        Step::Put(key, value) => prepended(alloc, chain, key, value).is_some(),
+        Step::Put(key, value) => prepended(alloc, chain, key, value),
         Step::Mark(place) => chain.mark_flushed(*place).is_ok(),
         Step::Rest(place) => {
             chain.rest_on(*place);
@@ -75,22 +76,28 @@ fn goes(alloc: Global, chain: &mut Chain, below: &mut Leaf, step: &Step) -> bool
     }
 }
 
-/// The first step that did not go as told.
-fn wrong_step(alloc: Global, from: Chain, steps: &[Step]) -> Option<usize> {
-    let mut chain = from;
+/// The first step that did not go as told over an empty page below.
+fn walked(alloc: Global, chain: &mut Chain, steps: &[Step]) -> Option<usize> {
     let mut below = empty_page(alloc);
     for (i, step) in steps.iter().enumerate() {
-        if !goes(alloc, &mut chain, &mut below, step) {
+        if !goes(alloc, chain, &mut below, step) {
             return Some(i);
         }
     }
     None
 }
 
-/// The same over an empty page.
-fn wrong_steps(alloc: Global, steps: &&'static [Step]) -> Option<usize> {
-    let whole = Chain::whole(alloc, empty_page(alloc));
-    wrong_step(alloc, whole, *steps)
+/// Steps over a chain of an empty page, or of one that stands in the log here.
+struct Walk(Option<Place>, &'static [Step]);
+
+impl Table for Walk {
+    fn wrong_step(&self, alloc: Global) -> Option<usize> {
+        let mut chain = match self.0 {
+            Some(place) => Chain::on_log(alloc, place),
+            None => Chain::whole(alloc, empty_page(alloc)),
+        };
+        walked(alloc, &mut chain, self.1)
+    }
 }
 
 /// What was not flushed stays above the log's page.
@@ -157,16 +164,15 @@ const RESTED: &[Step] = &[
     Step::Content(": a=1 b=2 c=3"),
 ];
 
-const TABLES: &[&[Step]] = &[EVICTION, CONSOLIDATION, RESERVED, RESTED];
+const TABLES: &[Walk] = &[
+    Walk(None, EVICTION),
+    Walk(None, CONSOLIDATION),
+    Walk(None, RESERVED),
+    Walk(None, RESTED),
+    Walk(Some(FIRST), ON_LOG),
+];
 
 #[test]
-fn chains_go_as_told(rt: HostRuntime) {
-    let wrong = wrong_table(TABLES, |steps| wrong_steps(rt.alloc(), steps));
-    assert_eq!(rt; wrong, None);
-}
-
-#[test]
-fn a_chain_on_the_log_goes_as_told(rt: HostRuntime) {
-    let chain = Chain::on_log(rt.alloc(), FIRST);
-    assert_eq!(rt; wrong_step(rt.alloc(), chain, ON_LOG), None);
+fn chains_go_as_told(rt: HostRuntime) -> Result<(), WrongStep> {
+    tables_go(rt.alloc(), TABLES)
 }

@@ -3,16 +3,15 @@
 ghost use Rattle.std.specs.Prelude.{IsTrue};
 ghost use Rattle.bw_record.specs.Keys.{ascends};
 
-use bw_codec::{Key, Leaf, Record};
+use bw_codec::{Key, Leaf, Packed, Record};
 use bw_page::{
     Halves, change, change_all, count_after, empty_page, keep_below, split_in_two, value_in,
 };
 use std::alloc::Global;
-use test_tables::wrong_row;
+use test_tables::{Row, Table, WrongRow, WrongStep, rows_go, tables_go};
 use test_vectors::{all_packed, del, is_shown, leaf_of, put};
 
 /// One call on a leaf, with what it has to answer.
-#[derive(Drop)]
 enum Step {
     /// Puts a value, after which there are so many pairs.
     Put(&'static str, &'static str, usize),
@@ -40,15 +39,19 @@ fn goes(leaf: &mut Leaf, step: &Step) -> bool {
     }
 }
 
-/// The first step that did not go as told over an empty page.
-fn wrong_step(alloc: Global, steps: &[Step]) -> Option<usize> {
-    let mut leaf = empty_page(alloc);
-    for (i, step) in steps.iter().enumerate() {
-        if !goes(&mut leaf, step) {
-            return Some(i);
+/// Steps over an empty page.
+struct Steps(&'static [Step]);
+
+impl Table for Steps {
+    fn wrong_step(&self, alloc: Global) -> Option<usize> {
+        let mut leaf = empty_page(alloc);
+        for (i, step) in self.0.iter().enumerate() {
+            if !goes(&mut leaf, step) {
+                return Some(i);
+            }
         }
+        None
     }
-    None
 }
 
 const ONE_LEAF: &[Step] = &[
@@ -67,74 +70,61 @@ const ONE_LEAF: &[Step] = &[
 ];
 
 #[test]
-fn a_leaf_is_changed_record_by_record(rt: HostRuntime) {
-    assert_eq!(rt; wrong_step(rt.alloc(), ONE_LEAF), None);
+fn a_leaf_is_changed_record_by_record(rt: HostRuntime) -> Result<(), WrongStep> {
+    tables_go(rt.alloc(), &[Steps(ONE_LEAF)])
 }
 
-/// A leaf of these keys of one letter each, without values.
+/// A leaf, and what is made of it or told of it.
+enum Made {
+    /// The most pairs, the keys, and the two parts of the leaf, which is split where it has more.
+    Split(u16, &'static str, &'static str, &'static str),
+    /// The keys, the first key that goes, and what is kept.
+    Kept(&'static str, &'static str, &'static str),
+    /// A key, and its value in a leaf of `d` alone; no text where it has none.
+    Value(&'static str, &'static str),
+    /// What an empty page is after `CHANGES`.
+    Changed(&'static str),
+}
+
+use Made::{Changed, Kept, Split, Value};
+
+/// A leaf of these keys of one letter each in their order, without values.
 fn lettered(alloc: Global, keys: &str) -> Option<Leaf> {
     let mut leaf = empty_page(alloc);
-    for key in keys.as_bytes() {
-        change(&mut leaf, &put(&[*key], b"")?).ok()?;
+    for (i, key) in keys.as_bytes().iter().enumerate() {
+        if !changed(&mut leaf, put(&[*key], b""), i + 1) {
+            return None;
+        }
     }
     Some(leaf)
 }
 
-/// The most pairs, the keys, and the two parts.
-type ToSplit = (u16, &'static str, &'static str, &'static str);
-
-/// Whether the leaf of these keys, split where it has more than so many pairs, gives these parts.
-fn to_split_goes(alloc: Global, row: &ToSplit) -> Option<bool> {
-    let (m, keys, lower, upper) = *row;
-    let leaf = lettered(alloc, keys)?;
-    if m == 0 || leaf.pairs.as_slice().len() <= usize::from(m) {
-        return None;
-    }
-    let halves = split_in_two(alloc, m, leaf, 7).ok()?;
-    Some(are_parts(&halves, lower, upper))
-}
-
 fn are_parts(halves: &Halves, lower: &str, upper: &str) -> bool {
-    let pages = halves.lower.page == 1 && halves.upper.page == 7;
-    pages && is_shown(Some(&halves.lower), lower) && is_shown(Some(&halves.upper), upper)
+    [halves.lower.page, halves.upper.page] == [1, 7]
+        && is_shown(Some(&halves.lower), lower)
+        && is_shown(Some(&halves.upper), upper)
 }
 
-const SPLITS: &[ToSplit] = &[
-    (4, "abcde", ": a= b=", "c: c= d= e="),
-    (4, "abcdef", ": a= b=", "c: c= d= e= f="),
-    (5, "abcdef", ": a= b= c=", "d: d= e= f="),
-    (1, "ab", ": a=", "b: b="),
-    (2, "xyz", ": x=", "y: y= z="),
-];
-
-#[test]
-fn a_leaf_is_split_in_two(rt: HostRuntime) {
-    assert_eq!(rt;
-        wrong_row(SPLITS, |row| to_split_goes(rt.alloc(), row)),
-        None
-    );
+/// Whether the leaf, split where it has more than so many pairs, gives these parts.
+fn is_split(alloc: Global, m: u16, leaf: Option<Leaf>, lower: &str, upper: &str) -> bool {
+    let Some(leaf) = leaf else {
+        return false;
+    };
+    if m == 0 || leaf.pairs.as_slice().len() <= usize::from(m) {
+        return false;
+    }
+    match split_in_two(alloc, m, leaf, 7) {
+        Ok(halves) => are_parts(&halves, lower, upper),
+        Err(_) => false,
+    }
 }
 
-/// The keys, the first key that goes, and what is kept.
-type ToKeep = (&'static str, &'static str, &'static str);
-
-/// Whether the row is answered as told.
-fn to_keep_goes(alloc: Global, row: &ToKeep) -> Option<bool> {
-    let leaf = keep_below(lettered(alloc, row.0)?, row.1.as_bytes());
-    Some(is_shown(Some(&leaf), row.2))
-}
-
-const KEPT: &[ToKeep] = &[
-    ("abc", "b", ": a="),
-    ("abc", "bb", ": a= b="),
-    ("abc", "a", ":"),
-    ("abc", "z", ": a= b= c="),
-    ("", "a", ":"),
-];
-
-#[test]
-fn pairs_from_a_key_on_are_dropped(rt: HostRuntime) {
-    assert_eq!(rt; wrong_row(KEPT, |row| to_keep_goes(rt.alloc(), row)), None);
+/// Whether this is kept of a leaf in front of a key.
+fn is_kept(leaf: Option<Leaf>, end: &str, text: &str) -> bool {
+    match leaf {
+        Some(leaf) => is_shown(Some(&keep_below(leaf, end.as_bytes())), text),
+        None => false,
+    }
 }
 
 /// Whether a key has this value in a leaf; no text where it has none.
@@ -150,25 +140,12 @@ fn tells(leaf: &Leaf, key: &str, text: &str) -> bool
     }
 }
 
-/// Keys, and their values in a leaf of `d` alone.
-const TOLD: &[(&str, &str)] = &[("d", "4"), ("c", ""), ("da", ""), ("e", "")];
-
-/// The first key whose value is told otherwise.
-fn wrong_value(alloc: Global) -> Option<usize> {
-    let Ok(leaf) = leaf_of(alloc, 1, b"", b"d", b"4") else {
-        return Some(0);
-    };
-    for (i, (key, text)) in TOLD.iter().enumerate() {
-        if !tells(&leaf, key, text) {
-            return Some(i);
-        }
+/// Whether a key has this value in a leaf that has only `d`; no text if it has none.
+fn has_value(alloc: Global, key: &str, text: &str) -> bool {
+    match leaf_of(alloc, 1, b"", b"d", b"4") {
+        Ok(leaf) => tells(&leaf, key, text),
+        Err(_) => false,
     }
-    None
-}
-
-#[test]
-fn a_leaf_tells_the_value_of_a_key(rt: HostRuntime) {
-    assert_eq!(rt; wrong_value(rt.alloc()), None);
 }
 
 const CHANGES: &[(&str, Option<&str>)] = &[
@@ -179,13 +156,49 @@ const CHANGES: &[(&str, Option<&str>)] = &[
 ];
 
 /// Whether an empty page is shown so after these changes.
-fn becomes(alloc: Global, text: &str) -> Option<bool> {
-    let records = all_packed(alloc, CHANGES)?;
-    let after = change_all(empty_page(alloc), records.as_slice()).ok()?;
-    Some(is_shown(Some(&after), text))
+fn becomes(alloc: Global, records: Option<Vec<Packed>>, text: &str) -> bool {
+    let Some(records) = records else {
+        return false;
+    };
+    match change_all(empty_page(alloc), records.as_slice()) {
+        Ok(after) => is_shown(Some(&after), text),
+        Err(_) => false,
+    }
 }
 
+impl Row for Made {
+    fn goes(&self, alloc: Global) -> Option<bool> {
+        let is_so = match self {
+            Split(m, keys, lower, upper) => {
+                is_split(alloc, *m, lettered(alloc, keys), lower, upper)
+            }
+            Kept(keys, end, text) => is_kept(lettered(alloc, keys), end, text),
+            Value(key, text) => has_value(alloc, key, text),
+            Changed(text) => becomes(alloc, all_packed(alloc, CHANGES), text),
+        };
+        Some(is_so)
+    }
+}
+
+const MADE: &[Made] = &[
+    Split(4, "abcde", ": a= b=", "c: c= d= e="),
+    Split(4, "abcdef", ": a= b=", "c: c= d= e= f="),
+    Split(5, "abcdef", ": a= b= c=", "d: d= e= f="),
+    Split(1, "ab", ": a=", "b: b="),
+    Split(2, "xyz", ": x=", "y: y= z="),
+    Kept("abc", "b", ": a="),
+    Kept("abc", "bb", ": a= b="),
+    Kept("abc", "a", ":"),
+    Kept("abc", "z", ": a= b= c="),
+    Kept("", "a", ":"),
+    Value("d", "4"),
+    Value("c", ""),
+    Value("da", ""),
+    Value("e", ""),
+    Changed(": a=3"),
+];
+
 #[test]
-fn records_are_applied_in_their_order(rt: HostRuntime) {
-    assert!(rt; becomes(rt.alloc(), ": a=3") == Some(true));
+fn leaves_are_made_as_told(rt: HostRuntime) -> Result<(), WrongRow> {
+    rows_go(rt.alloc(), MADE)
 }

@@ -4,23 +4,19 @@ ghost use Rattle.std.specs.Prelude.{◌≡◌, []};
 
 use super::evicted::two_pages;
 use super::leads;
-use bw_codec::{Key, Packed};
+use bw_codec::{Key, Packed, Record};
 use bw_history::PackedEntry;
 use bw_page::{Applied, Leaves};
 use std::alloc::Global;
-use test_tables::wrong_table;
-use test_vectors::{all_packed, del, is_shown, packed, put, records};
+use test_tables::{Table, WrongStep, tables_go};
+use test_vectors::{all_packed, del, is_shown, packed, packed_put, records};
 
 /// One call on leaves, with what it has to answer.
-#[derive(Drop)]
 pub(super) enum Step {
     /// Puts a value: the page at which it is directed, and the one that it makes, or 0.
     Put(&'static str, &'static str, u32, u32),
     /// The same, where this page is looked at first.
     Hinted(u32, &'static str, &'static str, u32, u32),
-    /// Puts the first records of `TEN` one by one: the pages at which they are directed, and for each
-    /// the one that it makes, or 0.
-    Singly(&'static [u32], &'static [u32]),
     /// Deletes a key: the page at which it is directed.
     Del(&'static str, u32),
     /// Puts so many keys of two digits.
@@ -39,15 +35,13 @@ pub(super) enum Step {
     Foretold(&'static [u32]),
     /// All keys of `TEN`, by one batch.
     Batch,
-    /// The same, where these pages are looked at first, and for the others none.
+    /// All keys of `TEN`, by one batch, for which these pages are looked at first; none if it is 0.
     GuessedBatch(&'static [u32]),
     /// Goes on with a copy.
     Copy,
 }
 
-use Step::{
-    Batch, Copy, Count, Del, Fill, Find, Foretold, Get, GuessedBatch, Hinted, Page, Put, Singly,
-};
+use Step::{Batch, Copy, Count, Del, Fill, Find, Foretold, Get, GuessedBatch, Hinted, Page, Put};
 
 fn applied(leaves: &mut Leaves, change: Option<Packed>, page: u32, made: u32) -> bool
     requires { leaves.old.evicted ≡ [] }
@@ -71,14 +65,20 @@ fn hinted(leaves: &mut Leaves, hint: u32, change: Option<Packed>, page: u32, mad
     leaves.apply_hinted(hint, &change) == Ok(Applied { page, made })
 }
 
-/// A put of this value, packed.
+/// A copy of a put of this value, packed.
 fn putting(alloc: Global, key: &[u8], value: &[u8]) -> Option<Packed> {
-    packed(alloc, &put(key, value)?)
+    match packed_put(alloc, key, value) {
+        Some(change) => change.copy().ok(),
+        None => None,
+    }
 }
 
 /// A delete of this key, packed.
 fn deleting(alloc: Global, key: &[u8]) -> Option<Packed> {
-    packed(alloc, &del(key)?)
+    match del(key) {
+        Some(record) => packed(alloc, &record),
+        None => None,
+    }
 }
 
 fn filled(alloc: Global, leaves: &mut Leaves, count: u16) -> bool
@@ -102,29 +102,26 @@ fn ten(alloc: Global) -> Option<Vec<Packed>> {
     all_packed(alloc, TEN)
 }
 
-/// The same as entries, each with the page at its index as a guess.
-fn ten_guessed(alloc: Global, pages: &[u32]) -> Option<Vec<PackedEntry>> {
+/// Records as entries, each with the page beside it as a guess.
+fn guessed(alloc: Global, records: &[Record], pages: &[u32]) -> Option<Vec<PackedEntry>> {
     let mut all = Vec::new(alloc);
-    for (i, record) in records(alloc, TEN)?.as_slice().iter().enumerate() {
-        let entry = PackedEntry::of(alloc, 0, false, record).ok()?;
-        let guess = pages.get(i).copied().unwrap_or(0);
-        all.push(entry.on(guess)).ok()?;
+    for (record, guess) in records.iter().zip(pages) {
+        let Ok(entry) = PackedEntry::of(alloc, 0, false, record) else {
+            return None;
+        };
+        if all.push(entry.on(*guess)).is_err() {
+            return None;
+        }
     }
     Some(all)
 }
 
-fn singly(alloc: Global, leaves: &mut Leaves, pages: &[u32], made: &[u32]) -> Option<bool>
-    requires { leaves.old.evicted ≡ [] }
-    ensures { leaves.new.evicted ≡ [] }
-{
-    let all = ten(alloc)?;
-    'records: for (i, page) in pages.iter().enumerate() {
-        let change = all.as_slice().get(i)?.copy().ok()?;
-        if !applied(leaves, Some(change), *page, *made.get(i)?) {
-            return Some(false);
-        }
+/// The records of `TEN` as entries, each with the page beside it as a guess.
+fn ten_guessed(alloc: Global, pages: &[u32]) -> Option<Vec<PackedEntry>> {
+    match records(alloc, TEN) {
+        Some(records) => guessed(alloc, records.as_slice(), pages),
+        None => None,
     }
-    Some(true)
 }
 
 fn batch(alloc: Global, leaves: &mut Leaves) -> bool
@@ -137,21 +134,29 @@ fn batch(alloc: Global, leaves: &mut Leaves) -> bool
     }
 }
 
-fn foretold(alloc: Global, leaves: &mut Leaves, pages: &[u32]) -> Option<bool>
+fn foretold(alloc: Global, leaves: &mut Leaves, pages: &[u32]) -> bool
     requires { leaves.old.evicted ≡ [] }
     ensures { leaves.new.evicted ≡ [] }
 {
-    let records = ten(alloc)?;
-    let steps = leaves.steps(records.as_slice()).ok()?;
-    Some(are_at(steps.as_slice(), pages))
+    let Some(records) = ten(alloc) else {
+        return false;
+    };
+    match leaves.steps(records.as_slice()) {
+        Ok(steps) => are_at(steps.as_slice(), pages),
+        Err(_) => false,
+    }
 }
 
 fn are_at(steps: &[bw_page::Step], pages: &[u32]) -> bool {
-    steps.len() == pages.len()
-        && steps
-            .iter()
-            .zip(pages)
-            .all(|(step, page)| step.page == *page)
+    if steps.len() != pages.len() {
+        return false;
+    }
+    for (step, page) in steps.iter().zip(pages) {
+        if step.page != *page {
+            return false;
+        }
+    }
+    true
 }
 
 fn guessed_batch(alloc: Global, leaves: &mut Leaves, pages: &[u32]) -> bool
@@ -208,7 +213,6 @@ fn goes(alloc: Global, leaves: &mut Leaves, step: &Step) -> bool
             let change = putting(alloc, key.as_bytes(), value.as_bytes());
             hinted(leaves, *hint, change, *page, *made)
         }
-        Step::Singly(pages, made) => singly(alloc, leaves, *pages, *made) == Some(true),
         Step::Del(key, page) => applied(leaves, deleting(alloc, key.as_bytes()), *page, 0),
         Step::Fill(count) => filled(alloc, leaves, *count),
         Step::Count(count) => leaves.count() == *count,
@@ -216,7 +220,7 @@ fn goes(alloc: Global, leaves: &mut Leaves, step: &Step) -> bool
         Step::Pairs(page, count) => pairs(leaves, *page) == *count,
         Step::Find(key, page) => leads(leaves, key, *page),
         Step::Get(key, text) => has(leaves, key, text),
-        Step::Foretold(pages) => foretold(alloc, leaves, pages) == Some(true),
+        Step::Foretold(pages) => foretold(alloc, leaves, pages),
         Step::Batch => batch(alloc, leaves),
         Step::GuessedBatch(pages) => guessed_batch(alloc, leaves, pages),
         Step::Copy => copied(leaves),
@@ -288,10 +292,16 @@ const FOUR: &[Step] = &[
 ];
 
 const SINGLE: &[Step] = &[
-    Singly(
-        &[1, 1, 1, 1, 1, 2, 2, 1, 1, 1],
-        &[0, 0, 0, 0, 2, 0, 3, 0, 0, 4],
-    ),
+    Put("a", "1", 1, 0),
+    Put("b", "1", 1, 0),
+    Put("c", "1", 1, 0),
+    Put("d", "1", 1, 0),
+    Put("e", "1", 1, 2),
+    Put("f", "1", 2, 0),
+    Put("g", "1", 2, 3),
+    Put("aa", "1", 1, 0),
+    Put("ab", "1", 1, 0),
+    Put("ac", "1", 1, 4),
     Count(4),
     Page(1, ": a=1 aa=1"),
     Page(2, "c: c=1 d=1"),
@@ -299,9 +309,9 @@ const SINGLE: &[Step] = &[
     Page(4, "ab: ab=1 ac=1 b=1"),
 ];
 
-// Pages that are right, those of other keys, of no page, and too few.
+// Pages that are right, those of other keys, of no page, and none.
 const HINTED: &[Step] = &[
-    GuessedBatch(&[0, 1, 1, 1, 1, 1, 9, 2]),
+    GuessedBatch(&[0, 1, 1, 1, 1, 1, 9, 2, 0, 0]),
     Count(4),
     Page(1, ": a=1 aa=1"),
     Page(2, "c: c=1 d=1"),
@@ -324,7 +334,12 @@ const HINTED: &[Step] = &[
 ];
 
 const FIVE: &[Step] = &[
-    Singly(&[1, 1, 1, 1, 1, 1], &[0, 0, 0, 0, 0, 2]),
+    Put("a", "1", 1, 0),
+    Put("b", "1", 1, 0),
+    Put("c", "1", 1, 0),
+    Put("d", "1", 1, 0),
+    Put("e", "1", 1, 0),
+    Put("f", "1", 1, 2),
     Count(2),
     Page(1, ": a=1 b=1 c=1"),
     Page(2, "d: d=1 e=1 f=1"),
@@ -340,57 +355,33 @@ const FIVE: &[Step] = &[
     Page(2, "d: d=2 zz=3"),
 ];
 
-/// Steps over new leaves of at most so many pairs.
-type OfLimit = (u16, &'static [Step]);
+/// A page is filled, and split where it has one pair too many.
+const FILLED_FOUR: &[Step] = &[
+    Fill(4),
+    Count(1),
+    Put("z", "", 1, 2),
+    Count(2),
+    Step::Pairs(1, 2),
+    Step::Pairs(2, 3),
+];
 
-/// The same; the first step where the leaves were not made.
-fn wrong_of(alloc: Global, m: u16, steps: &[Step]) -> Option<usize> {
-    if m < 4 || m > 32 {
-        return Some(0);
-    }
-    match Leaves::one_empty(alloc, m) {
-        Ok(leaves) if leaves.limit() == m => walked(alloc, leaves, steps),
-        _ => Some(0),
-    }
-}
+const FILLED_FIVE: &[Step] = &[
+    Fill(5),
+    Count(1),
+    Put("z", "", 1, 2),
+    Count(2),
+    Step::Pairs(1, 3),
+    Step::Pairs(2, 3),
+];
 
-/// The first step that does not go as told.
-fn wrong_of_limit(alloc: Global, table: &OfLimit) -> Option<usize> {
-    wrong_of(alloc, table.0, table.1)
-}
-
-const TABLES: &[OfLimit] = &[(4, FOUR), (4, SINGLE), (4, HINTED), (5, FIVE)];
-
-#[test]
-fn leaves_of_four_and_of_five_go_as_told(rt: HostRuntime) {
-    let wrong = wrong_table(TABLES, |table| wrong_of_limit(rt.alloc(), table));
-    assert_eq!(rt; wrong, None);
-}
-
-/// How many pairs a page has at most, and how many both parts have of a page with one more.
-type Filled = (u16, usize, usize);
-
-/// The first step that did not go as told where a page is filled, and cut.
-fn wrong_filled(alloc: Global, table: &Filled) -> Option<usize> {
-    let (m, lower, upper) = *table;
-    let steps = [
-        Fill(m),
-        Count(1),
-        Put("z", "", 1, 2),
-        Count(2),
-        Step::Pairs(1, lower),
-        Step::Pairs(2, upper),
-    ];
-    wrong_of(alloc, m, &steps)
-}
-
-const FILLS: &[Filled] = &[(4, 2, 3), (5, 3, 3), (32, 16, 17)];
-
-#[test]
-fn a_page_is_split_where_it_has_one_pair_too_many(rt: HostRuntime) {
-    let wrong = wrong_table(FILLS, |table| wrong_filled(rt.alloc(), table));
-    assert_eq!(rt; wrong, None);
-}
+const FILLED_MOST: &[Step] = &[
+    Fill(32),
+    Count(1),
+    Put("z", "", 1, 2),
+    Count(2),
+    Step::Pairs(1, 16),
+    Step::Pairs(2, 17),
+];
 
 const TAKEN: &[Step] = &[
     Find("b", 1),
@@ -404,15 +395,54 @@ const TAKEN: &[Step] = &[
     Page(3, ""),
 ];
 
-/// The first step that did not go as told over two pages that are taken.
-fn taken_wrong(alloc: Global) -> Option<usize> {
+/// What steps walk over.
+enum Walk {
+    /// New leaves of at most so many pairs.
+    OfLimit(u16, &'static [Step]),
+    /// Two pages that are taken as they come.
+    Taken(&'static [Step]),
+}
+
+/// The first step that does not go as told over new leaves, or the first where they were not made.
+fn wrong_of(alloc: Global, m: u16, steps: &[Step]) -> Option<usize> {
+    if m < 4 || m > 32 {
+        return Some(0);
+    }
+    match Leaves::one_empty(alloc, m) {
+        Ok(leaves) if leaves.limit() == m => walked(alloc, leaves, steps),
+        _ => Some(0),
+    }
+}
+
+/// The first step that does not go as told over two pages that are taken.
+fn wrong_taken(alloc: Global, steps: &[Step]) -> Option<usize> {
     match two_pages(alloc) {
-        Ok(leaves) => walked(alloc, leaves, TAKEN),
+        Ok(leaves) => walked(alloc, leaves, steps),
         Err(_) => Some(0),
     }
 }
 
+impl Table for Walk {
+    fn wrong_step(&self, alloc: Global) -> Option<usize> {
+        match self {
+            Walk::OfLimit(m, steps) => wrong_of(alloc, *m, *steps),
+            Walk::Taken(steps) => wrong_taken(alloc, *steps),
+        }
+    }
+}
+
+const TABLES: &[Walk] = &[
+    Walk::OfLimit(4, FOUR),
+    Walk::OfLimit(4, SINGLE),
+    Walk::OfLimit(4, HINTED),
+    Walk::OfLimit(5, FIVE),
+    Walk::OfLimit(4, FILLED_FOUR),
+    Walk::OfLimit(5, FILLED_FIVE),
+    Walk::OfLimit(32, FILLED_MOST),
+    Walk::Taken(TAKEN),
+];
+
 #[test]
-fn leaves_are_taken_as_they_come(rt: HostRuntime) {
-    assert_eq!(rt; taken_wrong(rt.alloc()), None);
+fn leaves_go_as_told(rt: HostRuntime) -> Result<(), WrongStep> {
+    tables_go(rt.alloc(), TABLES)
 }

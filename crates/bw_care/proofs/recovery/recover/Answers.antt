@@ -44,3 +44,6 @@ returns-in-Ok-prepare-clause-open g c = ap (λ (k : Contents). k.is_open) c.adop
 
 pub returns-in-Ok-prepare-clause-limit : goal.returns-in-Ok-prepare-clause-limit
 returns-in-Ok-prepare-clause-limit g c = ap (λ (k : Contents). k.f) c.adopt-log.ensures.made ∙ c.in-Ok-prepare.ensures.findings.frame_limit
+
+pub returns-in-Ok-prepare-clause-pairs : goal.returns-in-Ok-prepare-clause-pairs
+returns-in-Ok-prepare-clause-pairs g c = ap (λ (k : Contents). k.m) c.adopt-log.ensures.made ∙ c.in-Ok-prepare.ensures.findings.page_limit

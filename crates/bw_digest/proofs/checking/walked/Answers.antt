@@ -7,10 +7,10 @@ use Rattle.bw_digest.specs.Checked.{checked, IsAnswer}
 use Rattle.bw_digest.proofs.Walking.{at_the_end, at_a_misfit, over_a_piece}
 use Rattle.bw_digest.proofs.checking.walked.Goals as goal
 
-pub returns-then-not-is_next-clause-answer : goal.returns-then-not-is_next-clause-answer
-returns-then-not-is_next-clause-answer c =
+pub returns-then-not-is_followed_by-clause-answer : goal.returns-then-not-is_followed_by-clause-answer
+returns-then-not-is_followed_by-clause-answer c =
     let all = at_the_end c.args.bytes.now c.args.sums.now (length c.args.sums.now / 24 - c.loop-i.i) (c.loop-i.i * 24) (reach c.loop-i.row) c.read-sum.result _
-    c.read-sum.ensures (sym c.is_next.ensures ∙ c.if-not-is_next.true) c.loop-i.invariant.ahead in
+    c.read-sum.ensures (sym c.is_followed_by.ensures ∙ c.if-not-is_followed_by.true) c.loop-i.invariant.ahead in
     subst (λ answer. IsAnswer (Ok c.loop-i.row) answer) (sym all) refl
 
 -- one sum less is ahead
@@ -31,8 +31,8 @@ returns-then-digest_of-sum-clause-answer c =
     less c.loop-i.invariant.ahead in
     let piece = digested bytes c.loop-i.row.end c.end-at.result c.read-sum.result.end c.digest_of.result c.digest_of.ensures c.end-at.ensures in
     let all = at_a_misfit bytes c.args.sums.now (n - (c.loop-i.i + 1)) (c.loop-i.i * 24) row c.read-sum.result _
-    c.read-sum.ensures (sym c.is_next.ensures ∙ c.if-not-is_next.false) (λ same. c.if-digest_of-sum.true (piece ∙ same)) ahead in
-    subst (λ answer. IsAnswer (Err record { at = c.end-at.result }) answer) (sym all) c.end-at.ensures
+    c.read-sum.ensures (sym c.is_followed_by.ensures ∙ c.if-not-is_followed_by.false) (λ same. c.if-digest_of-sum.true (piece ∙ same)) ahead in
+    subst (λ answer. IsAnswer (Err c.end-at.result) answer) (sym all) c.end-at.ensures
 
 pub loop-i-preserved : goal.loop-i-preserved
 loop-i-preserved c =
@@ -44,7 +44,7 @@ loop-i-preserved c =
     less c.loop-i.invariant.ahead in
     let piece = digested bytes c.loop-i.row.end c.end-at.result c.read-sum.result.end c.digest_of.result c.digest_of.ensures c.end-at.ensures in
     let goes = over_a_piece bytes c.args.sums.now (n - (c.loop-i.i + 1)) (c.loop-i.i * 24) row (reach c.with-row.result) c.read-sum.result _
-    c.read-sum.ensures (sym c.is_next.ensures ∙ c.if-not-is_next.false) (sym piece ∙ c.if-digest_of-sum.false) c.with-row.ensures ahead in
+    c.read-sum.ensures (sym c.is_followed_by.ensures ∙ c.if-not-is_followed_by.false) (sym piece ∙ c.if-digest_of-sum.false) c.with-row.ensures ahead in
     let next : c.loop-i.i * 24 + 24 ≡ (c.loop-i.i + 1) * 24 = omega arith in
     let moved = drop-drop 24 (c.loop-i.i * 24) c.args.sums.now ∙ ap (λ k. drop k c.args.sums.now) next in
     record {

@@ -82,7 +82,7 @@ returns-clause-takes g c =
           _ c.enter_alone.ensures.grows c.reserve.ensures.history (ap filed_of c.in_ok-apply_entry.ensures.ok)
           _ c.file.ensures.newest c.reserve-2.ensures.items c.file.ensures.making
           _ _ c.enter_alone.ensures.rings (ap (λ v. map ring_of_lane v.items) c.reserve.ensures.lanes)))
-          (entered_sound (alone c.args.item.now) e not c.args.lane (lane_inside _ _ c.requires.comes.inside));
+          (entered_sound (alone c.args.item.now) e not (sym c.requires.comes.sound.sealed ∙ c.requires.frame.unsealed) c.args.lane (lane_inside _ _ c.requires.comes.inside));
       count = search rules;
       given = search rules;
       known = search rules;

@@ -81,7 +81,8 @@ returns-clause-takes g c =
           c.enter.ensures.rings (ap (λ v. map ring_of_lane v.items) c.reserve.ensures.lanes) c.enter.ensures.grows c.reserve.ensures.history
           (ap filed_of c.in_ok-apply_entries.ensures.ok ∙ ap (λ (ls : List Leaf). filed_with was.pages.leaves.m ls) leaves)
           c.file_all.ensures.newest c.reserve-2.ensures.items c.as_slice-rows.ensures.value c.file_all.ensures.making c.as_slice-3.ensures.value))
-          (all_sound s c.args.group c.args.draft.now c.requires.comes.sound c.requires.packed.lawful c.requires.draft c.args.lane c.requires.frame.next
+          (all_sound s c.args.group c.args.draft.now c.requires.comes.sound c.requires.packed.lawful c.requires.draft c.args.lane
+          (sym c.requires.comes.sound.sealed ∙ c.requires.frame.unsealed) c.requires.frame.next
           (lane_inside _ _ c.requires.comes.inside));
       count = search rules;
       given = search rules;

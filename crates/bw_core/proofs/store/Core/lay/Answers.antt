@@ -5,7 +5,7 @@ use Rattle.bw_core.proofs.store.Core.lay.Goals as goal
 
 pub records-init : goal.records-init
 records-init g c = record {
-  stands = record { sound = c.requires.sound; next = c.requires.next; fits = (let room = c.room.ensures in omega arith) };
+  stands = record { sound = c.requires.sound; next = c.requires.next; fits = (let room = c.room.ensures in omega arith); works = c.requires.works };
   ahead = ahead_none _ c.new-draft.result c.new-draft.ensures.blocks c.new-draft.ensures.rows c.new-draft.ensures.count;
 }
 

@@ -37,7 +37,7 @@ unreachable-requires g c =
     let few = c.len.ensures.few in
     let most = few.1 in
     draft_none flushed c.args.group _ c.in_ok-draft.field-0 c.as_slice.ensures.value c.in-None.is c.in_ok-draft.ensures.draft
-    (fresh_room flushed c.args.lane c.args.group c.flush_making.ensures.keeps.sound
+    (fresh_room flushed c.args.lane c.args.group c.flush_making.ensures.keeps.sound c.in_ok-draft.ensures.works
     (subst (λ (s : Kept). s.log.next ≡ Some s.making.frame) c.draft.ensures.same c.in_ok-draft.ensures.next) c.requires.packed.lawful
     (subst (λ (rs : List Record). HasPages flushed.filed.m flushed.filed.leaves rs) c.as_slice.ensures.value c.in_ok-draft.ensures.room)
     (lane_inside _ _ (subst (λ (i : Intake). c.args.lane < length i.lanes.items) (sym c.flush_making.ensures.keeps.intake) c.requires.comes.inside))

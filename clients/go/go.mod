@@ -1,0 +1,3 @@
+module hechdoram
+
+go 1.18

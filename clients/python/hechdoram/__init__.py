@@ -1,0 +1,85 @@
+"""A store of keys and values in a folder. Both are bytes: a key 1 to 128, a value up to 512.
+
+    import hechdoram
+
+    with hechdoram.open("folder") as store:      # to write, over a child process
+        store[b"key"] = b"value"
+        store.keep()                             # durable from here on
+        for key, value in store.scan(b"prefix", reverse=True):
+            ...
+
+    with hechdoram.read("folder") as reader:     # to read only, in this process
+        print(reader[b"key"])
+
+Both are mappings with the same names for what they share. `open` runs the program `bwlog`, and has
+the folder for itself; `read` loads the library libhechdoram_read, reads the folder whole, and lets
+go of it. Each error is an `Error`, and most are one of its kinds.
+"""
+
+from __future__ import annotations
+
+from ._errors import Damaged, Ended, Error, Failed, Full, InUse, NoStore, Refused, TooLong
+from ._reader import PathLike, Reader
+from ._store import Batch, Copied, Reopened, Store
+from ._words import MAX_KEY, MAX_VALUE, after
+
+__all__ = [
+    "MAX_KEY",
+    "MAX_VALUE",
+    "Batch",
+    "Copied",
+    "Damaged",
+    "Ended",
+    "Error",
+    "Failed",
+    "Full",
+    "InUse",
+    "NoStore",
+    "Reader",
+    "Refused",
+    "Reopened",
+    "Store",
+    "TooLong",
+    "after",
+    "open",
+    "read",
+]
+
+
+def open(  # noqa: A001
+    path: PathLike,
+    program: PathLike = "bwlog",
+    *,
+    capacity: int | None = None,
+    segments: int | None = None,
+    most_segments: int | None = None,
+    m: int | None = None,
+    frame: int | None = None,
+    places: int | None = None,
+) -> Store:
+    """Opens the store of a folder, which is made if it is missing. `program` is `bwlog`, by its
+    path or as it is found along PATH; the options are those of `bwlog serve`.
+
+    It raises InUse if another process has the folder, Damaged if its bytes are no whole
+    store, Ended with the program's words if it ended otherwise, and OSError if there is no
+    such program."""
+    return Store(
+        path,
+        program,
+        capacity=capacity,
+        segments=segments,
+        most_segments=most_segments,
+        m=m,
+        frame=frame,
+        places=places,
+    )
+
+
+def read(path: PathLike, library: PathLike | None = None) -> Reader:
+    """Reads the store of a folder into memory. `library` is the path of libhechdoram_read.so, which
+    `make lib` makes; without it, it is looked for at the place that HECHDORAM_READ names, beside
+    this package, in the repository, and where the system has its libraries.
+
+    It raises NoStore if there is nothing to read, InUse while the folder is open to be written,
+    Damaged if its bytes are no whole store, and OSError if the system refused a call."""
+    return Reader(path, library)

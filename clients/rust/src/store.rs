@@ -1,0 +1,439 @@
+//! A store in a folder, written and read over a child process.
+
+use crate::child::Child;
+use crate::span::lowest;
+use crate::words::{
+    check, is_key, line_of, number_in, pair_in, pairs_in, push_change, push_word, value_in,
+};
+use crate::{Error, Kind, Pair, Result, Scan, Span, MAX_KEY};
+use std::ffi::OsString;
+use std::os::unix::ffi::OsStrExt;
+use std::path::{Path, PathBuf};
+use std::process::Command;
+use std::sync::{Mutex, MutexGuard, PoisonError};
+
+/// The most records of one step, and the most bytes of a line.
+const MOST_RECORDS: usize = 4;
+const MOST_BYTES: usize = 4096;
+const LONG_GROUP: &str = "a group has one to four records, in a line of at most 4096 bytes";
+/// How many requests are sent in one burst.
+const BURST: usize = 1024;
+/// The greatest key.
+const GREATEST: [u8; MAX_KEY] = [0xff; MAX_KEY];
+
+/// How a store is opened: the options of `bwlog serve`, each with the program's default.
+#[derive(Debug, Clone, Default)]
+pub struct Options {
+    program: Option<PathBuf>,
+    numbers: Vec<(&'static str, u64)>,
+}
+
+impl Options {
+    pub fn new() -> Options {
+        Options::default()
+    }
+
+    /// The program, by its path or as it is found along PATH; `bwlog` if nothing is said.
+    pub fn program(mut self, program: impl AsRef<Path>) -> Options {
+        self.program = Some(program.as_ref().to_path_buf());
+        self
+    }
+
+    fn number(mut self, name: &'static str, number: u64) -> Options {
+        self.numbers.push((name, number));
+        self
+    }
+
+    /// How many bytes a segment has room for.
+    pub fn capacity(self, bytes: u64) -> Options {
+        self.number("capacity", bytes)
+    }
+
+    /// How many segments a new store begins with.
+    pub fn segments(self, count: u64) -> Options {
+        self.number("segments", count)
+    }
+
+    /// How many segments a store may have.
+    pub fn most_segments(self, count: u64) -> Options {
+        self.number("most-segments", count)
+    }
+
+    /// How many pairs a page of a new store has at most.
+    pub fn m(self, pairs: u64) -> Options {
+        self.number("m", pairs)
+    }
+
+    /// How many bytes a frame of a new store has at most.
+    pub fn frame(self, bytes: u64) -> Options {
+        self.number("frame", bytes)
+    }
+
+    /// How many groups wait at most.
+    pub fn places(self, groups: u64) -> Options {
+        self.number("places", groups)
+    }
+
+    /// Opens the store of a folder, which is made if it is missing.
+    pub fn open(&self, folder: impl AsRef<Path>) -> Result<Store> {
+        let program = self.program.as_deref().unwrap_or(Path::new("bwlog"));
+        let mut dir = OsString::from("--dir=");
+        dir.push(folder.as_ref());
+        let mut command = Command::new(program);
+        command.arg("serve").arg(dir);
+        command.args(self.numbers.iter().map(|(name, number)| format!("--{name}={number}")));
+        let child = Mutex::new(Child::begin(&mut command)?);
+        Ok(Store { child })
+    }
+}
+
+/// Changes in their order.
+#[derive(Debug, Clone, Default)]
+pub struct Batch {
+    changes: Vec<(Vec<u8>, Option<Vec<u8>>)>,
+}
+
+impl Batch {
+    pub fn new() -> Batch {
+        Batch::default()
+    }
+
+    /// Sets the value of a key.
+    pub fn put(&mut self, key: impl AsRef<[u8]>, value: impl AsRef<[u8]>) -> &mut Batch {
+        self.changes.push((key.as_ref().to_vec(), Some(value.as_ref().to_vec())));
+        self
+    }
+
+    /// Deletes a key, if it is there.
+    pub fn delete(&mut self, key: impl AsRef<[u8]>) -> &mut Batch {
+        self.changes.push((key.as_ref().to_vec(), None));
+        self
+    }
+
+    /// The lines of its changes, each with as many as one step takes.
+    fn groups(&self) -> Result<Vec<Vec<u8>>> {
+        let (mut lines, mut count) = (Vec::<Vec<u8>>::new(), MOST_RECORDS);
+        for (key, value) in &self.changes {
+            if let Some(value) = value {
+                check(key, value)?;
+            } else if !is_key(key) {
+                continue; // no pair has such a key
+            }
+            let mut op = vec![b' '];
+            push_change(&mut op, key, value.as_deref());
+            let line = lines.last_mut().filter(|line| line.len() + op.len() <= MOST_BYTES);
+            match line {
+                Some(line) if count < MOST_RECORDS => {
+                    line.extend_from_slice(&op);
+                    count += 1;
+                }
+                _ => {
+                    lines.push([b"group".as_slice(), &op].concat());
+                    count = 1;
+                }
+            }
+        }
+        Ok(lines)
+    }
+}
+
+/// What `reopen` found.
+#[derive(Debug, Clone, Copy, PartialEq, Eq)]
+pub struct Reopened {
+    /// The last frame of the folder; 0 of an empty store.
+    pub frame: u64,
+    /// How many changes that had been taken are gone, since no frame has them.
+    pub lost: u64,
+}
+
+/// What a backup holds.
+#[derive(Debug, Clone, Copy, PartialEq, Eq)]
+pub struct Copied {
+    pub frame: u64,
+    pub pages: u64,
+    pub pairs: u64,
+}
+
+/// The store's numbers.
+#[derive(Debug, Clone, Copy, PartialEq, Eq)]
+#[non_exhaustive]
+pub struct Stats {
+    /// How many changes this run took.
+    pub history: u64,
+    /// The last frame.
+    pub durable: u64,
+    pub segments: u64,
+    pub spares: u64,
+    pub pages: u64,
+    /// Whether a write failed: `reopen`.
+    pub failed: bool,
+}
+
+/// The store in a folder.
+///
+/// What was put is seen at once, and durable once `keep` or `close` has answered. A store that is
+/// dropped keeps nothing more. Threads may share it: a call waits for the one before it. A call
+/// that is left before its answer was read, as by a panic, ends the store: each later one is
+/// [`Kind::Ended`].
+pub struct Store {
+    child: Mutex<Child>,
+}
+
+impl Store {
+    /// Opens the store of a folder, which is made if it is missing, by the program `bwlog`.
+    pub fn open(folder: impl AsRef<Path>) -> Result<Store> {
+        Options::new().open(folder)
+    }
+
+    /// A call that was left is noted in the child itself.
+    fn child(&self) -> MutexGuard<'_, Child> {
+        self.child.lock().unwrap_or_else(PoisonError::into_inner)
+    }
+
+    /// Asks one request, and reads its answer by this.
+    fn ask<T>(&self, line: &[u8], read: impl Fn(&str) -> Option<T>) -> Result<T> {
+        let answers = self.burst(&mut self.child(), &[line.to_vec()], read)?;
+        answers.into_iter().next().ok_or_else(|| Error::ended("no answer"))
+    }
+
+    /// Asks many requests. All answers are read before the first refusal is returned.
+    fn burst<T>(
+        &self,
+        child: &mut Child,
+        lines: &[Vec<u8>],
+        read: impl Fn(&str) -> Option<T>,
+    ) -> Result<Vec<T>> {
+        let mut requests = lines.join(&b'\n');
+        requests.extend_from_slice(if lines.is_empty() { b"" } else { b"\n" });
+        let answers = child.ask(&requests, lines.len())?;
+        if let Some(error) = answers.iter().find_map(|answer| Error::refusal_in(answer)) {
+            return Err(error);
+        }
+        let mut found = Vec::with_capacity(answers.len());
+        for answer in &answers {
+            found.push(read(answer).ok_or_else(|| child.no_answer(answer))?);
+        }
+        Ok(found)
+    }
+
+    /// Sets the value of a key.
+    pub fn put(&self, key: impl AsRef<[u8]>, value: impl AsRef<[u8]>) -> Result<()> {
+        let (key, value) = (key.as_ref(), value.as_ref());
+        check(key, value)?;
+        let mut line = Vec::new();
+        push_change(&mut line, key, Some(value));
+        self.ask(&line, ok_in)
+    }
+
+    /// Deletes a key, if it is there.
+    pub fn delete(&self, key: impl AsRef<[u8]>) -> Result<()> {
+        if !is_key(key.as_ref()) {
+            return Ok(());
+        }
+        self.ask(&line_of("del", key.as_ref()), ok_in)
+    }
+
+    /// The value of a key, if it has one.
+    pub fn get(&self, key: impl AsRef<[u8]>) -> Result<Option<Vec<u8>>> {
+        Ok(self.get_many([key])?.pop().flatten())
+    }
+
+    /// The values of many keys, in their order, asked in bursts.
+    pub fn get_many<I>(&self, keys: I) -> Result<Vec<Option<Vec<u8>>>>
+    where
+        I: IntoIterator,
+        I::Item: AsRef<[u8]>,
+    {
+        let (mut values, mut lines, mut places) = (Vec::new(), Vec::new(), Vec::new());
+        for key in keys {
+            if is_key(key.as_ref()) {
+                places.push(values.len());
+                lines.push(line_of("get", key.as_ref()));
+            }
+            values.push(None);
+        }
+        for (lines, places) in lines.chunks(BURST).zip(places.chunks(BURST)) {
+            for (at, value) in places.iter().zip(self.burst(&mut self.child(), lines, value_in)?) {
+                values[*at] = value;
+            }
+        }
+        if lines.is_empty() {
+            self.burst(&mut self.child(), &[], ok_in)?; // a store that has ended says so
+        }
+        Ok(values)
+    }
+
+    /// Puts many pairs, in bursts of 1,024. It is no step: if a pair is refused, others of its
+    /// burst are put all the same, and the first refusal is returned. A length that no pair may
+    /// have is refused before its burst is sent.
+    pub fn put_many<I, K, V>(&self, pairs: I) -> Result<()>
+    where
+        I: IntoIterator<Item = (K, V)>,
+        K: AsRef<[u8]>,
+        V: AsRef<[u8]>,
+    {
+        let mut lines = Vec::new();
+        for (key, value) in pairs {
+            let (key, value) = (key.as_ref(), value.as_ref());
+            check(key, value)?;
+            let mut line = Vec::new();
+            push_change(&mut line, key, Some(value));
+            lines.push(line);
+            if lines.len() == BURST {
+                self.burst(&mut self.child(), &std::mem::take(&mut lines), ok_in)?;
+            }
+        }
+        self.burst(&mut self.child(), &lines, ok_in).map(|_| ())
+    }
+
+    /// Makes one to four changes in one step: whatever happens, all are there or none. More are
+    /// refused by [`Kind::TooLong`]; so are four of together more than a line holds, 4,096 bytes,
+    /// in which a byte that is not printable takes two.
+    pub fn group(&self, changes: &Batch) -> Result<()> {
+        let lines = changes.groups()?;
+        if lines.len() > 1 {
+            return Err(Error::new(Kind::TooLong, LONG_GROUP));
+        }
+        self.burst(&mut self.child(), &lines, ok_in).map(|_| ())
+    }
+
+    /// Makes many changes in groups, in their order. Up to four records are one step, as of
+    /// `group`; of more, whatever stops them, a beginning is there. The first refusal ends the
+    /// batch there.
+    pub fn batch(&self, changes: &Batch) -> Result<()> {
+        let mut child = self.child();
+        for line in changes.groups()? {
+            self.burst(&mut child, &[line], ok_in)?;
+        }
+        Ok(())
+    }
+
+    /// The pair with the least key at or above these bytes, if there is one.
+    pub fn at_or_above(&self, key: impl AsRef<[u8]>) -> Result<Option<Pair>> {
+        match lowest(key.as_ref()) {
+            Some(low) => self.ask(&line_of("next", &low), pair_in),
+            None => Ok(None),
+        }
+    }
+
+    /// The pair with the greatest key at or below these bytes, if there is one.
+    pub fn at_or_below(&self, key: impl AsRef<[u8]>) -> Result<Option<Pair>> {
+        let key = key.as_ref();
+        if key.is_empty() {
+            return Ok(None);
+        }
+        self.ask(&line_of("prev", &key[..key.len().min(MAX_KEY)]), pair_in)
+    }
+
+    /// The pair with the greatest key below these bytes, if there is one.
+    pub fn below(&self, key: impl AsRef<[u8]>) -> Result<Option<Pair>> {
+        self.last_below(Some(key.as_ref()))
+    }
+
+    /// The pair with the greatest key below this one, or of all.
+    pub(crate) fn last_below(&self, key: Option<&[u8]>) -> Result<Option<Pair>> {
+        match key {
+            Some(key) if is_key(key) => self.ask(&line_of("below", key), pair_in),
+            Some(key) => self.at_or_below(key),
+            None => self.at_or_below(GREATEST),
+        }
+    }
+
+    /// The first pairs at or above a key, so many of them.
+    pub(crate) fn first_pairs(&self, key: &[u8], most: usize) -> Result<Vec<Pair>> {
+        let mut line = line_of("scan", key);
+        line.extend_from_slice(format!(" {most}").as_bytes());
+        self.ask(&line, pairs_in)
+    }
+
+    /// A walk over pairs in the order of their keys; `.rev()` walks the other way.
+    pub fn scan(&self, span: Span) -> Scan<'_> {
+        Scan::new(self, &span)
+    }
+
+    /// How many pairs there are.
+    pub fn count(&self) -> Result<u64> {
+        self.ask(b"count", |answer| number_in(answer, "count"))
+    }
+
+    /// Makes durable what was put: the number of the last frame; `None` if nothing was new.
+    pub fn keep(&self) -> Result<Option<u64>> {
+        self.ask(b"flush", kept_in)
+    }
+
+    /// Opens the folder once more, in the same child. It is for a store that [`Kind::Failed`], and
+    /// goes on from all that is durable. What can still be kept is, before.
+    pub fn reopen(&self) -> Result<Reopened> {
+        self.ask(b"reopen", |answer| {
+            let (frame, lost) = (number_in(answer, "frame")?, number_in(answer, "lost")?);
+            Some(Reopened { frame, lost })
+        })
+    }
+
+    /// The store's numbers.
+    pub fn stats(&self) -> Result<Stats> {
+        self.ask(b"stats", |answer| {
+            Some(Stats {
+                history: number_in(answer, "history")?,
+                durable: number_in(answer, "durable")?,
+                segments: number_in(answer, "segments")?,
+                spares: number_in(answer, "spares")?,
+                pages: number_in(answer, "pages")?,
+                failed: answer.split(' ').any(|word| word == "failed"),
+            })
+        })
+    }
+
+    /// Gives up the oldest segment, whose room is free again: how many bytes that won.
+    pub fn clean(&self) -> Result<u64> {
+        self.ask(b"clean", |answer| number_in(answer, "won"))
+    }
+
+    /// Adds a segment: its number.
+    pub fn add(&self) -> Result<u64> {
+        self.ask(b"add", |answer| number_in(answer, "added"))
+    }
+
+    /// Keeps what was put, and copies the store into a new folder. A relative path begins where
+    /// this process was when it opened the store.
+    pub fn backup(&self, to: impl AsRef<Path>) -> Result<Copied> {
+        let mut line = b"backup".to_vec();
+        push_word(&mut line, to.as_ref().as_os_str().as_bytes());
+        self.ask(&line, |answer| {
+            Some(Copied {
+                frame: number_in(answer, "frame")?,
+                pages: number_in(answer, "pages")?,
+                pairs: number_in(answer, "pairs")?,
+            })
+        })
+    }
+
+    /// Keeps what was put, and ends the child. If that is refused the store stays open. A second
+    /// close does nothing.
+    pub fn close(&self) -> Result<()> {
+        let mut child = self.child();
+        if !child.is_closed() {
+            self.burst(&mut child, &[b"flush".to_vec()], kept_in)?;
+            self.burst(&mut child, &[b"quit".to_vec()], |answer| (answer == "bye").then_some(()))?;
+            child.abandon();
+        }
+        Ok(())
+    }
+
+    /// Ends the child, and keeps nothing more.
+    pub fn abandon(&self) {
+        self.child().abandon();
+    }
+}
+
+fn ok_in(answer: &str) -> Option<()> {
+    (answer == "ok").then_some(())
+}
+
+/// The frame of an answer to a flush, or none if nothing was new.
+fn kept_in(answer: &str) -> Option<Option<u64>> {
+    if answer == "no frame" {
+        return Some(None);
+    }
+    number_in(answer, "frame").map(Some)
+}

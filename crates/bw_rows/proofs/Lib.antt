@@ -1,0 +1,11 @@
+pub mod OneKey
+pub mod Values
+pub mod Records
+pub mod Groups
+pub mod TableLaws
+pub mod BatchLaws
+pub mod OrderLaws
+pub mod HeadLaws
+pub mod ChunkLaws
+pub mod NameLaws
+pub mod WorkedBytes

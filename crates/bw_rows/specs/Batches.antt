@@ -1,0 +1,63 @@
+-- A batch: rows that are written aside, the mark that makes them stand, and the groups that carry them out.
+
+use Rattle.std.specs.Prelude.{◌≡◌, ◌<◌, ℕ, [], true, cond, Option, Some, None, is_some}
+use Rattle.std.specs.Option.{option_map}
+use Rattle.bw_rows.specs.Spelling.{Bytes, same, name_key, stands_key, aside_key, row_place, no_row, chunks_in}
+use Rattle.bw_rows.specs.Meaning.{Plain, Tables, chunks_of, over, value_of, found, tables_of, table_in}
+use Rattle.bw_rows.specs.Law.{head_at, is_doomed, HasValues, HasNames}
+use Rattle.bw_rows.specs.Steps.{with, after, head_in, carry_of}
+use Rattle.bw_rows.specs.Laws.{IsTables}
+
+-- what the row aside at a place names
+abbrev pub head_aside : Plain → Bytes → Option (Bytes × ℕ)
+head_aside p place = head_in (p (aside_key place))
+
+pub record HasAsides (p : Plain) : Type 0 where
+  -- a long value aside has a chunk
+  pub long : (k n : Bytes) (len : ℕ) → head_aside p k ≡ Some (n, len) → 0 < chunks_in len
+  -- a long value aside has all its chunks
+  pub full : (k n : Bytes) (len i : ℕ) → head_aside p k ≡ Some (n, len) → i < chunks_in len → is_some (chunks_of p n i) ≡ true
+  -- a number has one row aside
+  pub once : (k q n : Bytes) (c d : ℕ) → head_aside p k ≡ Some (n, c) → head_aside p q ≡ Some (n, d) → k ≡ q
+  -- what a row aside names is doomed, up to the group that carries it out
+  pub doomed : (k n : Bytes) (c : ℕ) → head_aside p k ≡ Some (n, c) → is_doomed p n ≡ true
+
+-- a batch stands, and these are the tables
+pub record IsStanding (tables : Tables) (p : Plain) : Type 0 where
+  pub values : HasValues p
+  pub names : HasNames p
+  pub stands : is_some (p stands_key) ≡ true
+  pub asides : HasAsides p
+  pub its : tables_of p ≡ tables
+
+-- what a row aside says of the value at its place
+abbrev pub said : Plain → Option Bytes → Option Bytes → Option Bytes
+said p None value = value
+said p (Some aside) value = cond (same aside no_row) None (Some (value_of p aside))
+
+-- the tables, with all that stands aside
+abbrev pub batched : Plain → Tables
+batched p name = option_map (λ row key. said p (p (aside_key (row_place (table_in row) key))) (found p (row_place (table_in row) key))) (p (name_key name))
+
+-- a row is written aside, or dropped there, before the batch stands: the tables stay
+abbrev pub AsideIsSilent : Type 0
+AsideIsSilent = (tables : Tables) (p : Plain) (k : Bytes) (row : Option Bytes) → IsTables tables p → IsTables tables (with p (aside_key k) row)
+
+-- the batch stands, behind all its rows and their chunks: each of its changes is made, and nothing else
+abbrev pub MarkIsTheStep : Type 0
+MarkIsTheStep = (tables : Tables) (p : Plain) → IsTables tables p → HasAsides p → IsStanding (batched p) (with p stands_key (Some []))
+
+-- a row is carried out: the tables stay
+abbrev pub CarryIsSilent : Type 0
+CarryIsSilent = (tables : Tables) (p : Plain) (k aside : Bytes) → IsStanding tables p → p (aside_key k) ≡ Some aside
+    → IsStanding tables (after p (carry_of k (over (Some aside) None) (head_at p k)))
+
+-- behind the last of them the batch stands no more: the tables stay
+abbrev pub EndIsSilent : Type 0
+EndIsSilent = (tables : Tables) (p : Plain) → IsStanding tables p → ((k : Bytes) → p (aside_key k) ≡ None) → IsTables tables (with p stands_key None)
+
+pub record ABatchIsOneStep : Type 0 where
+  pub aside : AsideIsSilent
+  pub mark : MarkIsTheStep
+  pub carry : CarryIsSilent
+  pub end : EndIsSilent
