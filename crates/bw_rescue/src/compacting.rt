@@ -3,9 +3,8 @@
 use crate::compared::{Wanted, leaves_of};
 use crate::copying::Copied;
 use crate::fault::RescueFault;
-use crate::judged::judge;
 use crate::load::load;
-use crate::reading::sound_images;
+use crate::reading::stood_in;
 use crate::target::Target;
 use bw_codec::limits::HEADER_LEN;
 use bw_core::StoreFault;
@@ -35,8 +34,7 @@ pub fn compact<R: System, W: Watch>(
 ) -> Result<Copied, RescueFault> {
     with_room(options)?;
     let target = Target::of(rt, to)?;
-    let images = sound_images(rt, from, leases, watch)?;
-    let judged = judge(rt.alloc(), images.as_slice(), watch)?;
+    let judged = stood_in(rt, from, leases, watch)?.judged;
     let leaves = leaves_of(rt.alloc(), &judged)?;
     let pairs = pairs_of(rt.alloc(), leaves.as_slice())?;
     let making = target.begin(rt)?;

@@ -1,6 +1,6 @@
 //! Whether a new folder holds what was read.
 
-use crate::judged::Judged;
+use bw_beside::Judged;
 use bw_codec::{Leaf, Pair};
 use bw_page::Leaves;
 use bw_remains::pairs_of;

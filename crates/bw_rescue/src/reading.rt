@@ -1,6 +1,8 @@
 //! The segments of a folder that is read, as bytes.
 
 use crate::fault::RescueFault;
+use crate::judged::judge;
+use bw_beside::{Opened, Stood, open};
 use bw_file::{FolderFault, FolderReader};
 use bw_home::System;
 use bw_look::Image;
@@ -15,15 +17,15 @@ pub(crate) fn allowed(lease: u32, leases: u32) -> Result<u32, RescueFault> {
     }
 }
 
-/// The segments of a folder, by their leases, of which there are so many. Refused where the bytes of
-/// one do not fit their digests.
-pub(crate) fn sound_images<R: System, W: Watch>(
+/// The segments of a folder that is open, by their leases, of which there are so many. Refused where
+/// the bytes of one do not fit their digests.
+fn images_of<R: System, W: Watch>(
     rt: &R,
     path: &str,
+    reader: &FolderReader,
     leases: u32,
     watch: &mut W,
 ) -> Result<Vec<Image>, RescueFault> {
-    let reader = FolderReader::open(rt, path)?;
     let all = folder_bytes(rt, path, leases, watch);
     let mut images = Vec::new(rt.alloc());
     let mut done = 0u64;
@@ -38,6 +40,38 @@ pub(crate) fn sound_images<R: System, W: Watch>(
         watch.see(Work::Reading, done, all);
     }
     Ok(images)
+}
+
+/// The same of a folder in which nobody writes.
+pub(crate) fn sound_images<R: System, W: Watch>(
+    rt: &R,
+    path: &str,
+    leases: u32,
+    watch: &mut W,
+) -> Result<Vec<Image>, RescueFault> {
+    let reader = FolderReader::open(rt, path)?;
+    images_of(rt, path, &reader, leases, watch)
+}
+
+/// The segments of a folder, by their leases, and what recovery says of them; as they stood at one of
+/// its frames, where somebody writes it.
+pub(crate) fn stood_in<R: System, W: Watch>(
+    rt: &R,
+    path: &str,
+    leases: u32,
+    watch: &mut W,
+) -> Result<Stood, RescueFault> {
+    let reader = match open(rt, path, watch)? {
+        Opened::Alone(reader) => reader,
+        Opened::Beside(stood) => return Ok(stood),
+    };
+    let images = images_of(rt, path, &reader, leases, watch)?;
+    let judged = judge(rt.alloc(), images.as_slice(), watch)?;
+    Ok(Stood {
+        images,
+        unsummed: 0,
+        judged,
+    })
 }
 
 /// A segment as it was read, be it damaged or not.

@@ -1,12 +1,13 @@
 //! A folder is verified: its digests first, and then by recovery.
 
 use crate::fault::RescueFault;
-use crate::judged::judge;
+use crate::judged::{bytes_of, judge};
 use crate::reading::allowed;
+use bw_beside::{Opened, open};
 use bw_codec::limits::HEADER_LEN;
 use bw_codec::{HeaderRead, read_header};
 use bw_file::{FolderFault, FolderReader};
-use bw_home::System;
+use bw_home::{Found, System};
 use bw_look::{Frames, Image, Step};
 use bw_watch::{Watch, Work, folder_bytes};
 use std::alloc::{AllocError, Global};
@@ -124,14 +125,14 @@ impl Walk {
     }
 }
 
-/// Reads all files of a folder, of which there are so many at most.
+/// Reads all files of a folder that is open, of which there are so many at most.
 fn walked<R: System, W: Watch>(
     rt: &R,
     path: &str,
+    reader: &FolderReader,
     leases: u32,
     watch: &mut W,
 ) -> Result<Walk, RescueFault> {
-    let reader = FolderReader::open(rt, path)?;
     let all = folder_bytes(rt, path, leases, watch);
     let mut walk = Walk {
         images: Vec::new(rt.alloc()),
@@ -140,14 +141,27 @@ fn walked<R: System, W: Watch>(
         unsummed: 0,
     };
     for lease in &reader.leases(rt)? {
-        walk.look(rt, &reader, allowed(*lease, leases)?)?;
+        walk.look(rt, reader, allowed(*lease, leases)?)?;
         watch.see(Work::Reading, walk.bytes, all);
     }
     Ok(walk)
 }
 
+/// What is told of a folder in which this was found.
+fn whole(found: Found, bytes: u64, unsummed: u64) -> Verdict {
+    Verdict::Whole(Verified {
+        segments: u64::from(found.live),
+        frames: found.last.saturating_sub(found.first).saturating_add(1),
+        bytes,
+        unsummed,
+    })
+}
+
 /// Verifies a folder, which is not changed: each file by its digests, and then frame by frame; and
 /// where none has a fault all of them by recovery. There are so many leases.
+///
+/// Where somebody writes it, that is told of one of its frames, as `bw_beside::open` has it; a fault
+/// is not told then, but that it is in use.
 ///
 /// `Source` where the folder, or a file of it, cannot be read; `Recovery` where each file is whole
 /// and all of them are no store, as where one is missing.
@@ -157,15 +171,17 @@ pub fn verify<R: System, W: Watch>(
     leases: u32,
     watch: &mut W,
 ) -> Result<Verdict, RescueFault> {
-    let walk = walked(rt, path, leases, watch)?;
+    let reader = match open(rt, path, watch)? {
+        Opened::Alone(reader) => reader,
+        Opened::Beside(stood) => {
+            let bytes = bytes_of(stood.images.as_slice());
+            return Ok(whole(stood.judged.found, bytes, stood.unsummed));
+        }
+    };
+    let walk = walked(rt, path, &reader, leases, watch)?;
     if !walk.hurts.is_empty() {
         return Ok(Verdict::Hurt(walk.hurts));
     }
     let found = judge(rt.alloc(), walk.images.as_slice(), watch)?.found;
-    Ok(Verdict::Whole(Verified {
-        segments: u64::from(found.live),
-        frames: found.last.saturating_sub(found.first).saturating_add(1),
-        bytes: walk.bytes,
-        unsummed: walk.unsummed,
-    }))
+    Ok(whole(found, walk.bytes, walk.unsummed))
 }
