@@ -1,10 +1,10 @@
 //! The files of a folder, as they are at a moment. None is locked, made or written.
 
+use crate::host::Host;
 use crate::miss::Miss;
 use bw_codec::limits::HEADER_LEN;
 use bw_codec::{HeaderRead, read_header};
 use bw_device::{MAX_CAPACITY, MAX_LEASES};
-use bw_site::System;
 use std::alloc::Global;
 use std::fs::{self, File, OpenFile};
 use std::io::ErrorKind;
@@ -25,7 +25,7 @@ fn lease_of(name: &str) -> Option<u32> {
 }
 
 /// The leases whose segments have a file in the folder, in no order.
-pub(crate) fn leases_in<R: System>(rt: &R, folder: &str) -> Result<Vec<u32>, Miss> {
+pub(crate) fn leases_in<R: Host>(rt: &R, folder: &str) -> Result<Vec<u32>, Miss> {
     let mut leases = Vec::new(rt.alloc());
     for entry in fs::read_dir(rt, folder)? {
         match entry {
@@ -43,7 +43,7 @@ pub(crate) fn leases_in<R: System>(rt: &R, folder: &str) -> Result<Vec<u32>, Mis
 }
 
 /// Whether something in the folder has this name.
-pub(crate) fn is_there<R: System>(rt: &R, folder: &str, name: &str) -> Result<bool, Miss> {
+pub(crate) fn is_there<R: Host>(rt: &R, folder: &str, name: &str) -> Result<bool, Miss> {
     let path = format!(in rt.alloc(); "{folder}/{name}")?;
     match fs::symlink_metadata(rt, path.as_str()) {
         Ok(_) => Ok(true),
@@ -53,7 +53,7 @@ pub(crate) fn is_there<R: System>(rt: &R, folder: &str, name: &str) -> Result<bo
 }
 
 /// The file of this name, if it is a plain one.
-fn plain<R: System>(rt: &R, name: &str) -> Result<File, Miss> {
+fn plain<R: Host>(rt: &R, name: &str) -> Result<File, Miss> {
     if !fs::symlink_metadata(rt, name)?.is_file() {
         return Err(Miss::Moved);
     }
@@ -73,7 +73,7 @@ fn front_of(alloc: Global, file: &File, most: u64) -> Result<Vec<u8>, Miss> {
 }
 
 /// The first bytes of the file of a lease, so many at most.
-fn front_in<R: System>(rt: &R, folder: &str, lease: u32, most: u64) -> Result<Vec<u8>, Miss> {
+fn front_in<R: Host>(rt: &R, folder: &str, lease: u32, most: u64) -> Result<Vec<u8>, Miss> {
     let name = format!(in rt.alloc(); "{folder}/segment-{lease:04}.bw")?;
     front_of(rt.alloc(), &plain(rt, name.as_str())?, most)
 }
@@ -87,18 +87,18 @@ pub(crate) fn number_of(bytes: &[u8]) -> Option<u64> {
 }
 
 /// The number of the segment in the file of a lease, if it begins with a whole header.
-pub(crate) fn number_in<R: System>(rt: &R, folder: &str, lease: u32) -> Result<Option<u64>, Miss> {
+pub(crate) fn number_in<R: Host>(rt: &R, folder: &str, lease: u32) -> Result<Option<u64>, Miss> {
     let front = front_in(rt, folder, lease, HEADER_LEN as u64)?;
     Ok(number_of(front.as_slice()))
 }
 
 /// All bytes of the file of a lease.
-pub(crate) fn bytes_in<R: System>(rt: &R, folder: &str, lease: u32) -> Result<Vec<u8>, Miss> {
+pub(crate) fn bytes_in<R: Host>(rt: &R, folder: &str, lease: u32) -> Result<Vec<u8>, Miss> {
     front_in(rt, folder, lease, MAX_CAPACITY)
 }
 
 /// The bytes of the sums beside it; none where there are no sums.
-pub(crate) fn sums_in<R: System>(rt: &R, folder: &str, lease: u32) -> Result<Vec<u8>, Miss> {
+pub(crate) fn sums_in<R: Host>(rt: &R, folder: &str, lease: u32) -> Result<Vec<u8>, Miss> {
     let name = format!(in rt.alloc(); "segment-{lease:04}.sum")?;
     if !is_there(rt, folder, name.as_str())? {
         return Ok(Vec::new(rt.alloc()));

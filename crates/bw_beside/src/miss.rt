@@ -44,3 +44,21 @@ impl From<RecoverCause> for Miss {
         }
     }
 }
+
+impl From<NotTaken> for Miss {
+    fn from(fault: NotTaken) -> Miss {
+        match fault {
+            NotTaken::NoMemory => Miss::NoMemory,
+            NotTaken::NoLease => Miss::Moved,
+        }
+    }
+}
+
+impl From<NotMade> for Miss {
+    fn from(fault: NotMade) -> Miss {
+        match fault {
+            NotMade::NoMemory => Miss::NoMemory,
+            NotMade::BadConfig => Miss::Moved,
+        }
+    }
+}

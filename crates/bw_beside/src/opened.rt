@@ -1,9 +1,9 @@
 //! A folder is opened to be read.
 
+use crate::host::Host;
 use crate::miss::Miss;
 use crate::standing::{Stood, standing};
 use bw_file::{FolderFault, FolderReader};
-use bw_site::System;
 use bw_watch::Watch;
 
 /// How often a folder that somebody writes is read at most.
@@ -28,7 +28,7 @@ pub enum Opened {
 /// `InUse` where somebody writes it, and none of ten readings gave that: as where nothing was ever
 /// durable there, it is damaged, or it is written faster than it is read. Else it is refused as
 /// `FolderReader::open` is.
-pub fn open<R: System, W: Watch>(rt: &R, path: &str, watch: &mut W) -> Result<Opened, FolderFault> {
+pub fn open<R: Host, W: Watch>(rt: &R, path: &str, watch: &mut W) -> Result<Opened, FolderFault> {
     for _ in 0..TRIES {
         match FolderReader::open(rt, path) {
             Ok(reader) => return Ok(Opened::Alone(reader)),

@@ -2,8 +2,8 @@
 //! order in which their files are read then.
 
 use crate::files::{leases_in, number_in};
+use crate::host::Host;
 use crate::miss::Miss;
-use bw_site::System;
 use std::alloc::{AllocError, Global};
 use std::collections::BTreeMap;
 
@@ -22,7 +22,7 @@ pub(crate) struct Row {
 }
 
 /// The leases of live segments, by the numbers of these.
-fn numbers_in<R: System>(rt: &R, folder: &str) -> Result<BTreeMap<u64, u32>, Miss> {
+fn numbers_in<R: Host>(rt: &R, folder: &str) -> Result<BTreeMap<u64, u32>, Miss> {
     let mut numbers = BTreeMap::new(rt.alloc());
     for lease in &leases_in(rt, folder)? {
         if let Some(number) = number_in(rt, folder, *lease)? {
@@ -35,7 +35,7 @@ fn numbers_in<R: System>(rt: &R, folder: &str) -> Result<BTreeMap<u64, u32>, Mis
 }
 
 /// The live segments of a folder, by their numbers, as one look at each file sees them.
-fn look<R: System>(rt: &R, folder: &str) -> Result<Vec<Live>, Miss> {
+fn look<R: Host>(rt: &R, folder: &str) -> Result<Vec<Live>, Miss> {
     let mut live = Vec::new(rt.alloc());
     for (number, lease) in &numbers_in(rt, folder)? {
         live.push(Live {
@@ -49,7 +49,7 @@ fn look<R: System>(rt: &R, folder: &str) -> Result<Vec<Live>, Miss> {
 impl Row {
     /// Looks twice. What both looks see was begun before the second one, so all that is older and was
     /// not seen had been given up when it ended. Refused where they do not agree, or see no segment.
-    pub(crate) fn of<R: System>(rt: &R, folder: &str) -> Result<Row, Miss> {
+    pub(crate) fn of<R: Host>(rt: &R, folder: &str) -> Result<Row, Miss> {
         let before = look(rt, folder)?;
         let live = look(rt, folder)?;
         if live.is_empty() || before.as_slice() != live.as_slice() {

@@ -1,13 +1,14 @@
 //! The segments of a folder that somebody writes, as they stood at one of its frames.
 
 use crate::files::{bytes_in, is_there, leases_in, number_of, sums_in};
-use crate::judged::{Judged, judge};
+use crate::found::{Found, found_in};
+use crate::host::Host;
 use crate::miss::Miss;
 use crate::row::Row;
 use bw_device::MAX_LEASES;
 use bw_digest::check;
 use bw_look::Image;
-use bw_site::System;
+use bw_page::Leaves;
 use bw_watch::{Watch, Work, folder_bytes};
 use std::alloc::Global;
 use std::collections::BTreeMap;
@@ -15,7 +16,7 @@ use std::collections::BTreeMap;
 /// The file that says that a folder is not made whole yet.
 const MARK: &str = "unfinished";
 
-/// The segments of a folder at one of its frames, and what recovery says of them.
+/// The segments of a folder at one of its frames, and what recovery finds in them.
 #[derive(Drop)]
 pub struct Stood {
     /// One for each file, by their leases. Their bytes fit the digests.
@@ -23,7 +24,11 @@ pub struct Stood {
     /// How many of the bytes have no digest: those of an older folder, and what was appended while
     /// they were read.
     pub unsummed: u64,
-    pub judged: Judged,
+    /// The numbers of the first and the last frame that is there.
+    pub first: u64,
+    pub last: u64,
+    /// The pages as of the last one.
+    pub leaves: Leaves,
 }
 
 /// A file that was read, and the sums beside it.
@@ -35,7 +40,7 @@ struct Taken {
 
 /// Reads the file of a lease, if it has the segment that was seen there. Its sums are read before:
 /// they follow the bytes, so none of them is ahead of what is read then.
-fn take<R: System>(rt: &R, folder: &str, row: &Row, lease: u32) -> Result<Taken, Miss> {
+fn take<R: Host>(rt: &R, folder: &str, row: &Row, lease: u32) -> Result<Taken, Miss> {
     let sums = sums_in(rt, folder, lease)?;
     let bytes = bytes_in(rt, folder, lease)?;
     if !row.allows(lease, number_of(bytes.as_slice())) {
@@ -45,7 +50,7 @@ fn take<R: System>(rt: &R, folder: &str, row: &Row, lease: u32) -> Result<Taken,
 }
 
 /// Reads the files of these leases, in this order.
-fn take_all<R: System, W: Watch>(
+fn take_all<R: Host, W: Watch>(
     rt: &R,
     folder: &str,
     row: &Row,
@@ -88,7 +93,7 @@ fn images_of(alloc: Global, files: BTreeMap<u32, Taken>) -> Result<(Vec<Image>, 
 
 /// The segments of a folder as they stood at one of its frames, if that is what a reading comes to.
 /// A folder that is not made whole yet has none.
-pub(crate) fn standing<R: System, W: Watch>(
+pub(crate) fn standing<R: Host, W: Watch>(
     rt: &R,
     folder: &str,
     watch: &mut W,
@@ -102,10 +107,16 @@ pub(crate) fn standing<R: System, W: Watch>(
     let order = row.order(rt.alloc(), leases.as_slice())?;
     let taken = take_all(rt, folder, &row, order.as_slice(), watch)?;
     let (images, unsummed) = images_of(rt.alloc(), taken)?;
-    let judged = judge(rt.alloc(), images.as_slice())?;
+    let Found {
+        first,
+        last,
+        leaves,
+    } = found_in(rt.alloc(), images.as_slice())?;
     Ok(Stood {
         images,
         unsummed,
-        judged,
+        first,
+        last,
+        leaves,
     })
 }

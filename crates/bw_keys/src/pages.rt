@@ -114,7 +114,7 @@ pub fn pages_in<R: System, W: Watch>(
 ) -> Result<Option<Leaves>, KeysFault> {
     match bw_beside::open(rt, path, watch) {
         Ok(Opened::Alone(reader)) => pages_alone(rt, path, &reader, leases, watch),
-        Ok(Opened::Beside(stood)) => Ok(Some(stood.judged.leaves)),
+        Ok(Opened::Beside(stood)) => Ok(Some(stood.leaves)),
         Err(fault) => Err(KeysFault::from(HomeFault::from(fault))),
     }
 }

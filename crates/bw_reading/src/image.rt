@@ -6,7 +6,7 @@
 ghost use Rattle.std.specs.Prelude.{◌≡◌, ◌++◌, [], ◌∷◌, drop, IfOk, OnOk};
 ghost use Rattle.bw_page.specs.Leaves.{union};
 ghost use Rattle.bw_reading.specs.Calls.{over, pair_bytes, key_at};
-ghost use Rattle.bw_reading.specs.Images.{image_bytes, AreAll, IsImage};
+ghost use Rattle.bw_reading.specs.Images.{image_bytes, end_at, AreAll, IsImage};
 
 use crate::answer::Fault;
 use bw_codec::{Key, Pair};
@@ -110,12 +110,16 @@ pub(crate) fn key_of(image: &[u8], at: u64) -> &[u8]
     }
 }
 
-/// Where the pair ends that begins there, and the next one begins.
-pub(crate) fn end_of(image: &[u8], at: u64) -> u64 {
+/// Where the pair ends that begins there, and the next one begins; there, where none does.
+pub(crate) fn end_of(image: &[u8], at: u64) -> u64
+    ensures { result ≡ end_at image.now at }
+{
+    if at >= image.len() as u64 {
+        return at;
+    }
     match from_place(image, at) {
         [len, low, high, ..] => {
-            let size = 3 + u64::from(*len) + u64::from(*low) + 256 * u64::from(*high);
-            at.saturating_add(size)
+            at + (3 + u64::from(*len) + u64::from(*low) + 256 * u64::from(*high))
         }
         _ => at,
     }

@@ -15,10 +15,11 @@
 //! program.
 #![tactic(auto)]
 
-ghost use Rattle.std.specs.Prelude.{◌≡◌, ◌⊎◌, ◌≤◌, pos, length, true, false};
+ghost use Rattle.std.specs.Prelude.{◌≡◌, ◌⊎◌, ◌≤◌, pos, length, true, false, IfOk};
 ghost use Rattle.std.specs.List.Sorted.{IsPartitionedBy, IsPartitionPoint};
 ghost use Rattle.bw_reading.specs.Calls.{is_below_at};
 ghost use Rattle.bw_reading.specs.Answers.{IsRefusal};
+ghost use Rattle.bw_reading.specs.Images.{starts_from, IsImageOfPages, IsTold};
 
 mod answer;
 mod image;
@@ -37,7 +38,9 @@ fn image_in(
     sums: &[u8],
     parts: &[u64],
     room: usize,
-) -> Result<Image, Fault> {
+) -> Result<Image, Fault>
+    ensures { IfOk result (λ image. IsImageOfPages image.bytes.items image.count) }
+{
     let leaves = pages_in(alloc, bytes, sums, parts)?;
     image_of(alloc, &leaves, room)
 }
@@ -58,6 +61,7 @@ pub extern "C" fn bw_pairs_in(
     count: &mut u64,
 ) -> i32
     ensures told { (result ≡ pos 0) ⊎ IsRefusal result }
+    ensures written { result ≡ pos 0 → IsTold image.old image.new needed.new count.new }
     ensures image { IsRefusal result → image.new ≡ image.old }
     ensures needed { IsRefusal result → needed.new ≡ needed.old }
     ensures count { IsRefusal result → count.new ≡ count.old }
@@ -75,10 +79,12 @@ pub extern "C" fn bw_pairs_in(
 
 /// Notes where each pair of an image begins, as many as there is room for.
 #[unsafe(no_mangle)]
-pub extern "C" fn bw_index_of(image: &[u8], starts: &mut [u64]) {
+pub extern "C" fn bw_index_of(image: &[u8], starts: &mut [u64])
+    ensures { starts.new ≡ starts_from image.now (length starts.old) 0 }
+{
     let mut at = 0u64;
-    for start in starts {
-        *start = at;
+    for i in 0..starts.len() {
+        starts[i] = at;
         at = end_of(image, at);
     }
 }

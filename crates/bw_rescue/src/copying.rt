@@ -2,9 +2,9 @@
 
 use crate::compared::Wanted;
 use crate::fault::RescueFault;
-use crate::reading::stood_in;
+use crate::judged::Judged;
+use crate::reading::{Source, source};
 use crate::target::Target;
-use bw_beside::{Judged, Stood};
 use bw_codec::{HeaderRead, read_header};
 use bw_home::System;
 use bw_look::Image;
@@ -62,9 +62,12 @@ pub fn copy<R: System, W: Watch>(
     watch: &mut W,
 ) -> Result<Copied, RescueFault> {
     let target = Target::of(rt, to)?;
-    let Stood { images, judged, .. } = stood_in(rt, from, leases, watch)?;
+    let Source {
+        images,
+        leaves: pages,
+    } = source(rt, from, leases, watch)?;
     let live = live_of(images)?;
     let making = target.begin(rt)?;
     making.write(rt, live.as_slice(), watch)?;
-    making.end(rt, leases, Wanted::Pages(&judged.leaves), watch)
+    making.end(rt, leases, Wanted::Pages(&pages), watch)
 }

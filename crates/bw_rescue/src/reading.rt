@@ -2,10 +2,11 @@
 
 use crate::fault::RescueFault;
 use crate::judged::judge;
-use bw_beside::{Opened, Stood, open};
+use bw_beside::{Opened, open};
 use bw_file::{FolderFault, FolderReader};
 use bw_home::System;
 use bw_look::Image;
+use bw_page::Leaves;
 use bw_watch::{Watch, Work, folder_bytes};
 
 /// The lease again, where it is below the number of leases.
@@ -53,25 +54,33 @@ pub(crate) fn sound_images<R: System, W: Watch>(
     images_of(rt, path, &reader, leases, watch)
 }
 
-/// The segments of a folder, by their leases, and what recovery says of them; as they stood at one of
-/// its frames, where somebody writes it.
-pub(crate) fn stood_in<R: System, W: Watch>(
+/// The segments of a folder, and the pages that they hold.
+#[derive(Drop)]
+pub(crate) struct Source {
+    pub(crate) images: Vec<Image>,
+    pub(crate) leaves: Leaves,
+}
+
+/// The segments of a folder, by their leases, and their pages; as they stood at one of its frames,
+/// where somebody writes it.
+pub(crate) fn source<R: System, W: Watch>(
     rt: &R,
     path: &str,
     leases: u32,
     watch: &mut W,
-) -> Result<Stood, RescueFault> {
+) -> Result<Source, RescueFault> {
     let reader = match open(rt, path, watch)? {
         Opened::Alone(reader) => reader,
-        Opened::Beside(stood) => return Ok(stood),
+        Opened::Beside(stood) => {
+            return Ok(Source {
+                images: stood.images,
+                leaves: stood.leaves,
+            });
+        }
     };
     let images = images_of(rt, path, &reader, leases, watch)?;
-    let judged = judge(rt.alloc(), images.as_slice(), watch)?;
-    Ok(Stood {
-        images,
-        unsummed: 0,
-        judged,
-    })
+    let leaves = judge(rt.alloc(), images.as_slice(), watch)?.leaves;
+    Ok(Source { images, leaves })
 }
 
 /// A segment as it was read, be it damaged or not.

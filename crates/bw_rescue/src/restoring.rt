@@ -2,10 +2,9 @@
 
 use crate::copying::Copied;
 use crate::fault::{RescueFault, already_there};
-use crate::judged::judge;
+use crate::judged::{Judged, judge};
 use crate::pieces::ends_of;
 use crate::reading::{Seen, seen_images};
-use bw_beside::Judged;
 use bw_care::RecoverCause;
 use bw_file::{Folder, FolderFault};
 use bw_home::{Found, System};

@@ -3,11 +3,11 @@
 use crate::fault::RescueFault;
 use crate::judged::{bytes_of, judge};
 use crate::reading::allowed;
-use bw_beside::{Opened, open};
+use bw_beside::{Opened, Stood, open};
 use bw_codec::limits::HEADER_LEN;
 use bw_codec::{HeaderRead, read_header};
 use bw_file::{FolderFault, FolderReader};
-use bw_home::{Found, System};
+use bw_home::System;
 use bw_look::{Frames, Image, Step};
 use bw_watch::{Watch, Work, folder_bytes};
 use std::alloc::{AllocError, Global};
@@ -147,14 +147,17 @@ fn walked<R: System, W: Watch>(
     Ok(walk)
 }
 
-/// What is told of a folder in which this was found.
-fn whole(found: Found, bytes: u64, unsummed: u64) -> Verdict {
-    Verdict::Whole(Verified {
-        segments: u64::from(found.live),
-        frames: found.last.saturating_sub(found.first).saturating_add(1),
-        bytes,
-        unsummed,
-    })
+/// What a folder has that somebody writes, at one of its frames.
+fn verified_beside(stood: &Stood) -> Verified {
+    let live = stood.images.as_slice().iter().filter(|image| {
+        matches!(read_header(image.bytes.as_slice()), HeaderRead::Whole(_))
+    });
+    Verified {
+        segments: live.count() as u64,
+        frames: stood.last.saturating_sub(stood.first).saturating_add(1),
+        bytes: bytes_of(stood.images.as_slice()),
+        unsummed: stood.unsummed,
+    }
 }
 
 /// Verifies a folder, which is not changed: each file by its digests, and then frame by frame; and
@@ -173,15 +176,17 @@ pub fn verify<R: System, W: Watch>(
 ) -> Result<Verdict, RescueFault> {
     let reader = match open(rt, path, watch)? {
         Opened::Alone(reader) => reader,
-        Opened::Beside(stood) => {
-            let bytes = bytes_of(stood.images.as_slice());
-            return Ok(whole(stood.judged.found, bytes, stood.unsummed));
-        }
+        Opened::Beside(stood) => return Ok(Verdict::Whole(verified_beside(&stood))),
     };
     let walk = walked(rt, path, &reader, leases, watch)?;
     if !walk.hurts.is_empty() {
         return Ok(Verdict::Hurt(walk.hurts));
     }
     let found = judge(rt.alloc(), walk.images.as_slice(), watch)?.found;
-    Ok(whole(found, walk.bytes, walk.unsummed))
+    Ok(Verdict::Whole(Verified {
+        segments: u64::from(found.live),
+        frames: found.last.saturating_sub(found.first).saturating_add(1),
+        bytes: walk.bytes,
+        unsummed: walk.unsummed,
+    }))
 }
