@@ -7,9 +7,10 @@
 //! or above a key. These two take no memory, and read alone what C lends, so any number of threads
 //! may call. Nothing of Rattle's stays behind a call.
 //!
-//! What no clause says, and the tests of the program show: that the image has all pairs of the pages
-//! in the order of their keys, that the pages are those of the bytes that C handed in, and that the
-//! index is right. What an answer of `bw_first_at` means rests on keys that ascend.
+//! An image has all pairs of pages in the order of their keys, each once (`specs/Images.antt`), and
+//! its index goes from pair to pair by their lengths. What no clause says, and the tests of the program
+//! show: that the pages are those of the bytes that C handed in, and that the lengths in an image lead
+//! to where its pairs begin. What an answer of `bw_first_at` means rests on keys that ascend.
 //!
 //! `clients/c/hechdoram_read.c` has the part in C, and `include/hechdoram_read.h` the calls for a
 //! program.

@@ -1,4 +1,3 @@
-use Rattle.std.proofs.Common.{rules}
 use Rattle.std.proofs.lemmas.Result.{IfOk-weaker}
 use Rattle.bw_page.specs.Leaves.{union}
 use Rattle.bw_reading.specs.Images.{IsImage, IsImageOfPages}
