@@ -31,6 +31,7 @@ pub mod Shares
 pub mod Fresh
 pub mod FollowMore
 pub mod LaneByLane
+pub mod HeardMore
 pub mod Logs
 pub mod Edging
 pub mod Stopping

@@ -55,7 +55,7 @@ index_last : (cs : List ℕ) (d : ℕ) → slice_index_or (cs ++ d ∷ []) (leng
 index_last [] d = refl
 index_last (c ∷ cs) d = index_last cs d
 
-cut_more : (cs ds : List ℕ) (k : ℕ) → k ≤ length cs → cut (cs ++ ds) k ≡ cut cs k
+pub cut_more : (cs ds : List ℕ) (k : ℕ) → k ≤ length cs → cut (cs ++ ds) k ≡ cut cs k
 cut_more cs ds zero le = refl
 cut_more cs ds (suc k) le = index_more cs ds k (omega arith)
 
@@ -70,7 +70,7 @@ index_next from [] n k are below = absurd (omega arith)
 index_next from (c ∷ cs) n zero are below = index_low c cs n 0 are.1 (omega arith)
 index_next from (c ∷ cs) n (suc k) are below = index_next c cs n k are.1 (omega arith)
 
-cut_next : (cs : List ℕ) (n k : ℕ) → AreCuts 0 cs n → k < length cs → cut cs k ≤ cut cs (suc k)
+pub cut_next : (cs : List ℕ) (n k : ℕ) → AreCuts 0 cs n → k < length cs → cut cs k ≤ cut cs (suc k)
 cut_next cs n zero are below = omega arith
 cut_next cs n (suc k) are below = index_next 0 cs n k are below
 

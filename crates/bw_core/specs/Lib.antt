@@ -23,6 +23,7 @@ pub mod Looking
 pub mod Cleaning
 pub mod Settling
 pub mod Goal
+pub mod Heard
 pub mod Upgrading
 pub mod Rewriting
 pub mod Counting

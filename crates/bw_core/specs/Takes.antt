@@ -69,9 +69,11 @@ module _ {I : Type 0} {H : I → Type 0} where
     pub count : length (lanes_of new) ≡ length (lanes_of old)
     pub given : OnOk result (map ends.given (lanes_of new) ≡ map ends.given (lanes_of old))
     pub known : OnOk result (TookKnown lane (lanes_of old) (lanes_of new))
+    -- a refusal leaves all lanes as they were
+    pub stays : OnErr result (lanes_of new ≡ lanes_of old)
     pub noted : noted_of new ≡ noted_of old
 
-  -- the same, and a refusal leaves all lanes as they were
+  -- a take of this group
   pub record TakesGroup (lane : ℕ) (old : Core I H) (result : Result (Unit {0}) StoreFault) (new : Core I H) (v : (i : I) × H i → Holding) : Type 0 where
     pub sound : IsSound new v
     pub count : length (lanes_of new) ≡ length (lanes_of old)

@@ -11,6 +11,7 @@ ghost use Rattle.bw_history.specs.Lanes.{known_at, StayDry};
 ghost use Rattle.bw_history.specs.Machine.{TakesAndKeeps, TakesAndStops};
 ghost use Rattle.bw_core.specs.Following.{RefusedAt, TookSome};
 ghost use Rattle.bw_core.specs.Goal.{Goal, SameFeeds, Sequel};
+ghost use Rattle.bw_core.specs.Heard.{IsOfFeeds};
 ghost use Rattle.bw_core.specs.Machine.{machine_of};
 ghost use Rattle.bw_core.specs.Settling.{SettleRefuses};
 
@@ -30,6 +31,7 @@ impl Core {
     /// line of it. What was taken is flushed as `flush` does it, also where nothing waits: a log
     /// that failed answers `Failed`, and one without a further number `Spent`. A refusal leaves
     /// what a refused `turn` or `flush` leaves, and tells its cause; `settle` may be called again.
+    /// Whatever the answer is, the history has nothing but what the feeds accepted, in their order.
     /// The time is that of a turn over what was accepted, and of a flush.
     pub fn settle(&mut self, feeds: &mut Vec<Feed>) -> Result<u64, StoreFault>
         requires sound { IsSound self.old holding }
@@ -48,6 +50,7 @@ impl Core {
             (λ _. TakesAndStops (machine_of (kept_by self.old holding))
             (machine_of (kept_by self.new holding))) }
         ensures sound { IsSound self.new holding }
+        ensures heard { IsOfFeeds feeds.new.items (kept_by self.new holding).entries }
         ensures feeds { SameFeeds feeds.old.items feeds.new.items }
         ensures sequel { Sequel (kept_by self.old holding) (kept_by self.new holding)
             (noted_of self.old) (noted_of self.new) }
@@ -74,6 +77,8 @@ impl Core {
     pub(crate) fn take_known(&mut self) -> Result<(), StoreFault>
         requires sound { IsSound self.old holding }
         ensures quiet { IsQuiet self.old self.new holding }
+        ensures given { map given self.new.intake.lanes.items
+            ≡ map given self.old.intake.lanes.items }
         ensures taken { OnOk result
             (map taken self.new.intake.lanes.items ≡ map given self.old.intake.lanes.items) }
         ensures took { MatchResult result
@@ -94,8 +99,8 @@ impl Core {
         requires inside { lane < length self.old.intake.lanes.items }
         ensures quiet { IsQuiet self.old self.new holding }
         ensures count { length self.new.intake.lanes.items ≡ length self.old.intake.lanes.items }
-        ensures given { OnOk result (map given self.new.intake.lanes.items
-            ≡ map given self.old.intake.lanes.items) }
+        ensures given { map given self.new.intake.lanes.items
+            ≡ map given self.old.intake.lanes.items }
         ensures dry { OnOk result (known_at self.new.intake.lanes.items lane ≡ []) }
         ensures others { OnOk result
             (StayDry self.old.intake.lanes.items self.new.intake.lanes.items) }

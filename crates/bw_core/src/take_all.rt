@@ -7,6 +7,7 @@ ghost use Rattle.bw_history.specs.History.{streams};
 ghost use Rattle.bw_history.specs.Machine.{TakesAndStops, TakesMany};
 ghost use Rattle.bw_core.specs.Following.{groups_since, RefusedAt};
 ghost use Rattle.bw_core.specs.Goal.{SameFeeds, Sequel};
+ghost use Rattle.bw_core.specs.Heard.{IsOfFeeds};
 ghost use Rattle.bw_core.specs.Machine.{machine_of};
 
 use crate::store::Core;
@@ -21,7 +22,8 @@ impl Core {
     ///
     /// Nothing is flushed but a frame that is full, before a group that does not fit: what was
     /// taken is kept by the next `flush` or `settle`. Where nothing waits nothing is done, and
-    /// nothing refused. A refusal leaves what a refused `turn` leaves, and tells its cause.
+    /// nothing refused. A refusal leaves what a refused `turn` leaves, and tells its cause. Whatever
+    /// the answer is, the history has nothing but what the feeds accepted, in their order.
     pub fn take_all(&mut self, feeds: &mut Vec<Feed>) -> Result<u64, StoreFault>
         requires sound { IsSound self.old holding }
         requires feeds { map ring_of_feed feeds.old.items ≡ (kept_by self.old holding).rings }
@@ -40,6 +42,7 @@ impl Core {
             (λ _. TakesAndStops (machine_of (kept_by self.old holding))
             (machine_of (kept_by self.new holding))) }
         ensures sound { IsSound self.new holding }
+        ensures heard { IsOfFeeds feeds.new.items (kept_by self.new holding).entries }
         ensures feeds { SameFeeds feeds.old.items feeds.new.items }
         ensures sequel { Sequel (kept_by self.old holding) (kept_by self.new holding)
             (noted_of self.old) (noted_of self.new) }

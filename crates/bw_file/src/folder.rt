@@ -24,23 +24,23 @@ use std::sync::Arc;
 
 // So many bytes at the end of a file are written once more when it is opened: no append is longer,
 // a header or the longest frame.
-const LAST: usize = 262_168;
+pub(crate) const LAST: usize = 262_168;
 
 /// A folder with a file for each segment, named by its lease, which nobody else has open.
 ///
 /// It is open as long as it or one of its segments stands. A drop changes no file.
 #[derive(Drop)]
 pub struct Folder<F = File> {
-    path: String,
+    pub(crate) path: String,
     /// By which new names come to stand.
-    itself: F,
+    pub(crate) itself: F,
     /// Shared with every segment of the folder.
-    shared: Arc<Shared<F>>,
+    pub(crate) shared: Arc<Shared<F>>,
 }
 
 // The files of a lease, the bytes of its segment and the sums that tell of them, with what the folder
 // shares.
-type Settled<F> = (Pair<F>, Vec<u8>, Row, Arc<Shared<F>>);
+pub(crate) type Settled<F> = (Pair<F>, Vec<u8>, Row, Arc<Shared<F>>);
 
 // Makes the folder where it is missing, and then waits until its name stands in its parent. The
 // parent of a folder that is there may be one that nobody may read.
@@ -101,9 +101,19 @@ impl<F: SegmentFile> Folder<F> {
             .write(true)
             .create(true)
             .open(rt, name.as_str())?;
+        Folder::locked(rt.alloc(), path, itself, lock)
+    }
+
+    // The folder of this path, once nobody else has this file `lock` of it.
+    pub(crate) fn locked(
+        alloc: Global,
+        path: &str,
+        itself: F,
+        lock: F,
+    ) -> Result<Folder<F>, FolderFault> {
         lock.lock_alone()?;
-        let path = String::from_str(rt.alloc(), path)?;
-        let Ok(shared) = Arc::new(rt.alloc(), Shared::new(lock)) else {
+        let path = String::from_str(alloc, path)?;
+        let Ok(shared) = Arc::new(alloc, Shared::new(lock)) else {
             return Err(FolderFault::NoMemory);
         };
         Ok(Folder {

@@ -9,6 +9,7 @@
 //! holds.
 #![tactic(auto)]
 
+mod again;
 mod files;
 mod folder;
 mod names;

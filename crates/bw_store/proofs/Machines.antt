@@ -5,7 +5,6 @@ use Rattle.std.proofs.lemmas.List.{length-take-le}
 use Rattle.bw_versions.specs.Posted.{Posted, entries_in, posted_of}
 use Rattle.bw_history.specs.History.{cut}
 use Rattle.bw_history.specs.Machine.{Machine, Stops, TakesAndKeeps, TakesAndStops, TakesMany, TakesOne, keeps, shows}
-use Rattle.bw_core.specs.Kept as core
 use Rattle.bw_core.specs.Machine as core_machine
 use Rattle.bw_terms.specs.declared.fault.TurnFault.{TurnFault}
 use Rattle.bw_core.proofs.Machines.{may_leave}

@@ -1,11 +1,14 @@
 //! A store is opened again over what was recovered.
 
-ghost use Rattle.std.specs.Prelude.{◌≡◌, ◌≤◌, [], length, map, IfOk, IfErr, MatchResult};
+ghost use Rattle.std.specs.Prelude.{◌≡◌, ◌≤◌, List, [], length, map, IfOk, IfErr, MatchResult};
+ghost use Rattle.bw_device.specs.Holding.{Holding};
 ghost use Rattle.bw_ring.specs.Ends.{ring_of_feed};
 ghost use Rattle.bw_care.specs.Views.{seen};
 ghost use Rattle.bw_care.specs.Tallies.{bytes_of, up};
 ghost use Rattle.bw_core.specs.Counting.{noted_from};
 ghost use Rattle.bw_core.specs.Opened.{AreUnused};
+ghost use Rattle.bw_core.specs.Reopened.{Begins};
+ghost use Rattle.bw_store.specs.Kept.{core_of};
 ghost use Rattle.bw_store.specs.Opened.{reopened, AreEnds, IsReopenFault};
 ghost use Rattle.bw_store.specs.Showing.{AreUnseen};
 
@@ -36,12 +39,13 @@ fn unseen<R: Wait>(
 }
 
 impl Store {
-    ghost use Rattle.bw_care.specs.Found.{IsRecovered};
+    ghost use Rattle.bw_care.specs.Found.{IsFoundIn, IsRecovered};
     ghost use Rattle.bw_store.specs.Views.{kept_by, noted_of, IsSound};
 
     /// A store that goes on from what was recovered, and a feed for each of `writers` writers, 1 to
     /// 64, with rings of `places` places, 1 to 4,096; `readers` is 1 to 64. Its pages are the
-    /// recovered leaves, its history is empty, and its next frame is the one after the last.
+    /// recovered leaves, its history is empty, and its next frame is the one after the last: it
+    /// begins over the boxes that recovery was given, as a core does.
     ///
     /// Refused `BadConfig`, where a number is out of its range, or `NoMemory`. What was recovered
     /// then comes back. It costs a copy of each page, which is what readers will see, and a look at
@@ -59,6 +63,9 @@ impl Store {
             ≡ reopened (map ring_of_feed r.1.items) recovered.last recovered.leaves
             (kept_by r.0 holding).newest (kept_by r.0 holding).making
             (seen recovered.log holding) (kept_by r.0 holding).versions) }
+        ensures begins { IfOk result (λ r. (held : List Holding)
+            → IsFoundIn (λ b. holding (b.vtable, b.value)) held recovered
+            → Begins held (core_of (kept_by r.0 holding))) }
         ensures empty { IfOk result (λ r. (kept_by r.0 holding).making.blocks ≡ []) }
         ensures sound { IfOk result (λ r. IsSound r.0 holding) }
         ensures feeds { IfOk result (λ r. AreUnused writers places r.1.items) }

@@ -1,11 +1,12 @@
 use Rattle.std.proofs.Common.{false, Err, ap, sym, subst, inl, inr, ◌∙◌, map}
 use Rattle.std.proofs.lemmas.Result.{err_from_is_err_and}
-use Rattle.bw_ring.specs.Ends.{taken, ring_of_lane}
+use Rattle.bw_ring.specs.Ends.{given, taken, ring_of_lane}
 use Rattle.bw_core.specs.Kept.{IsSound, Kept}
 use Rattle.bw_core.specs.Machine.{machine_of}
 use Rattle.bw_core.specs.Views.{kept_by}
 use Rattle.bw_history.specs.Machine.{TakesAndKeeps, TakesAndStops}
 use Rattle.bw_core.proofs.FollowMore.{failed_at, failed_flushes, failed_never, refused_boxes, refused_follows, flushed_boxes, flushed_follows}
+use Rattle.bw_core.proofs.HeardMore.{begin_with}
 use Rattle.bw_core.proofs.Machines.{may_leave, refused_stops, settle_keeps, settle_stops}
 use Rattle.bw_history.proofs.Laned.{exact, writers_of}
 use Rattle.bw_core.proofs.SettledMore.{settled_by}
@@ -113,3 +114,43 @@ returns-clause-goal g c =
         },
       );
     })
+
+pub returns-in_err-take_known-clause-heard : goal.returns-in_err-take_known-clause-heard
+returns-in_err-take_known-clause-heard g c =
+    let lanes = c.take_known.new.self.intake.lanes.items in
+    let rings = (refused_follows _ _ _ _ _ c.in_err-take_known.ensures.took).continues.rings in
+    record {
+      begins = begin_with lanes _ _ c.take_known.new.self.intake.takes
+          (c.take_known.ensures.given ∙ c.look_beside.ensures.whole ∙ sym c.look_beside.ensures.accepted);
+      writers = writers_of lanes _ _
+          (c.look_beside.ensures.ends ∙ c.requires.feeds ∙ sym (rings ∙ ap (λ (s : Kept). s.rings) c.look_beside.ensures.same))
+          c.take_known.ensures.quiet.sound.writers;
+    }
+
+pub returns-in_err-flush_making-clause-heard : goal.returns-in_err-flush_making-clause-heard
+returns-in_err-flush_making-clause-heard g c =
+    let lanes = c.flush_making.new.self.intake.lanes.items in
+    let same = c.flush_making.ensures.keeps.intake in
+    record {
+      begins = begin_with lanes _ _ c.flush_making.new.self.intake.takes
+          (ap (λ i. map given i.lanes.items) same ∙ c.take_known.ensures.given ∙ c.look_beside.ensures.whole
+          ∙ sym c.look_beside.ensures.accepted);
+      writers = writers_of lanes _ _
+          (c.look_beside.ensures.ends ∙ c.requires.feeds
+          ∙ sym (ap (λ i. map ring_of_lane i.lanes.items) same ∙ c.in_ok-take_known.ensures.took.1.turned.follows.continues.rings
+          ∙ ap (λ (s : Kept). s.rings) c.look_beside.ensures.same)) c.flush_making.ensures.keeps.sound.writers;
+    }
+
+pub returns-clause-heard : goal.returns-clause-heard
+returns-clause-heard g c =
+    let lanes = c.flush_making.new.self.intake.lanes.items in
+    let same = c.flush_making.ensures.keeps.intake in
+    record {
+      begins = begin_with lanes _ _ c.flush_making.new.self.intake.takes
+          (ap (λ i. map given i.lanes.items) same ∙ c.take_known.ensures.given ∙ c.look_beside.ensures.whole
+          ∙ sym c.look_beside.ensures.accepted);
+      writers = writers_of lanes _ _
+          (c.look_beside.ensures.ends ∙ c.requires.feeds
+          ∙ sym (ap (λ i. map ring_of_lane i.lanes.items) same ∙ c.in_ok-take_known.ensures.took.1.turned.follows.continues.rings
+          ∙ ap (λ (s : Kept). s.rings) c.look_beside.ensures.same)) c.flush_making.ensures.keeps.sound.writers;
+    }

@@ -6,6 +6,7 @@ use Rattle.bw_core.specs.Machine.{machine_of}
 use Rattle.bw_core.specs.Views.{kept_by}
 use Rattle.bw_history.specs.Machine.{TakesAndStops, TakesMany}
 use Rattle.bw_core.proofs.FollowMore.{refused_boxes, refused_follows}
+use Rattle.bw_core.proofs.HeardMore.{begin_with}
 use Rattle.bw_core.proofs.Machines.{may_leave, refused_stops, turn_takes}
 use Rattle.bw_history.proofs.Laned.{exact, writers_of}
 use Rattle.bw_core.proofs.store.Core.take_all.Goals as goal
@@ -58,3 +59,27 @@ returns-clause-writers g c =
 
 pub returns-clause-answer : goal.returns-clause-answer
 returns-clause-answer g c = c.len.ensures
+
+pub returns-in_err-take_known-clause-heard : goal.returns-in_err-take_known-clause-heard
+returns-in_err-take_known-clause-heard g c =
+    let lanes = c.take_known.new.self.intake.lanes.items in
+    let rings = (refused_follows _ _ _ _ _ c.in_err-take_known.ensures.took).continues.rings in
+    record {
+      begins = begin_with lanes _ _ c.take_known.new.self.intake.takes
+          (c.take_known.ensures.given ∙ c.look_beside.ensures.whole ∙ sym c.look_beside.ensures.accepted);
+      writers = writers_of lanes _ _
+          (c.look_beside.ensures.ends ∙ c.requires.feeds ∙ sym (rings ∙ ap (λ (s : Kept). s.rings) c.look_beside.ensures.same))
+          c.take_known.ensures.quiet.sound.writers;
+    }
+
+pub returns-clause-heard : goal.returns-clause-heard
+returns-clause-heard g c =
+    let lanes = c.take_known.new.self.intake.lanes.items in
+    record {
+      begins = begin_with lanes _ _ c.take_known.new.self.intake.takes
+          (c.take_known.ensures.given ∙ c.look_beside.ensures.whole ∙ sym c.look_beside.ensures.accepted);
+      writers = writers_of lanes _ _
+          (c.look_beside.ensures.ends ∙ c.requires.feeds
+          ∙ sym (c.in_ok-take_known.ensures.took.1.turned.follows.continues.rings ∙ ap (λ (s : Kept). s.rings) c.look_beside.ensures.same))
+          c.take_known.ensures.quiet.sound.writers;
+    }

@@ -12,7 +12,7 @@ pub lanes-preserved : goal.lanes-preserved
 lanes-preserved g c =
     let i = c.lanes.invariant in
     record {
-      taken = took_on _ _ _ _ i.taken c.take_lane.ensures.quiet.sound c.take_lane.ensures.count c.in_ok-take_lane.ensures.given
+      taken = took_on _ _ _ _ i.taken c.take_lane.ensures.quiet.sound c.take_lane.ensures.count c.take_lane.ensures.given
           (some_then _ _ _ i.taken.took c.in_ok-take_lane.ensures.took) c.take_lane.ensures.quiet.noted;
       dry = dry_next _ _ c.lanes.lane i.dry c.in_ok-take_lane.ensures.others c.in_ok-take_lane.ensures.dry;
     }
@@ -30,3 +30,9 @@ returns-clause-taken g c =
     let shown = c.writers-lanes.ensures in
     c.lanes.invariant.dry i (omega arith)))
     ∙ c.lanes.invariant.taken.same_given
+
+pub returns-in_err-take_lane-clause-given : goal.returns-in_err-take_lane-clause-given
+returns-in_err-take_lane-clause-given g c = c.take_lane.ensures.given ∙ c.lanes.invariant.taken.same_given
+
+pub returns-clause-given : goal.returns-clause-given
+returns-clause-given g c = c.lanes.invariant.taken.same_given

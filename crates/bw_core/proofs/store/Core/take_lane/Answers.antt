@@ -1,3 +1,6 @@
+use Rattle.std.proofs.Common.{List, ap, map, ◌∙◌}
+use Rattle.bw_ring.specs.Ends.{given}
+use Rattle.bw_ring.specs.declared.lane.Lane.{Lane}
 use Rattle.bw_core.proofs.FollowMore.{any_then}
 use Rattle.bw_core.proofs.LaneByLane.{took_none, took_on}
 use Rattle.bw_history.proofs.Laned.{none_waits, took_dry, took_fewer}
@@ -21,3 +24,10 @@ records-smaller g c =
 
 pub returns-clause-dry : goal.returns-clause-dry
 returns-clause-dry g c = none_waits _ c.waits.result c.waits.ensures.1 c.records-test.false
+
+pub returns-in_err-take_waiting-clause-given : goal.returns-in_err-take_waiting-clause-given
+returns-in_err-take_waiting-clause-given g c =
+    ap (λ (ls : List Lane). map given ls) c.in_err-take_waiting.ensures.takes.stays ∙ c.records.invariant.taken.same_given
+
+pub returns-clause-given : goal.returns-clause-given
+returns-clause-given g c = c.records.invariant.taken.same_given
