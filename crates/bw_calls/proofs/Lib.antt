@@ -1,0 +1,3 @@
+pub mod PlainLaws
+pub mod CallLaws
+pub mod WayLaws

@@ -1,0 +1,8 @@
+use Rattle.bw_calls.proofs.WayLaws.{put_is, refused_is}
+use Rattle.bw_calls.proofs.ways.prepare.Goals as goal
+
+pub returns-in-Ok-clause-changed : goal.returns-in-Ok-clause-changed
+returns-in-Ok-clause-changed g c = put_is _ _ c.args.group c.in-Ok.ensures.changed.put
+
+pub returns-in-Err-clause-refused : goal.returns-in-Err-clause-refused
+returns-in-Err-clause-refused g c = refused_is c.in-Err.fault _ _ c.args.group c.in-Err.ensures.refused

@@ -1,0 +1,16 @@
+use Rattle.bw_calls.proofs.PlainLaws.{gone_on, gone_on_in_vain, gone_on_same}
+use Rattle.std.proofs.Common.{◌-◌}
+use Rattle.bw_calls.proofs.writing.add.Goals as goal
+
+pub returns-clause-goes_on : goal.returns-clause-goes_on
+returns-clause-goes_on g c = λ tables h.
+    gone_on tables _ _ c.args.number.bytes c.args.value.now c.args.from c.args.to c.chunk_group.result c.prepare.result c.chunk_group.ensures.goes_on h c.prepare.ensures.changed
+
+pub returns-clause-rows : goal.returns-clause-rows
+returns-clause-rows g c =
+    gone_on_same _ _ c.args.number.bytes c.args.value.now c.args.from (c.args.to - c.args.from) c.chunk_group.result c.prepare.result c.chunk_group.ensures.records c.prepare.ensures.changed
+
+pub returns-clause-stays : goal.returns-clause-stays
+returns-clause-stays g c = λ tables h.
+    gone_on_in_vain tables _ _ c.args.number.bytes c.args.value.now c.args.from c.args.to c.chunk_group.result c.prepare.result c.chunk_group.ensures.goes_on h
+    c.prepare.ensures.changed c.prepare.ensures.refused

@@ -1,0 +1,29 @@
+use Rattle.std.proofs.Common.{◌≡◌, false, Some, None, rules}
+use Rattle.std.specs.Prelude.{IfErr}
+use Rattle.bw_home.specs.Maps.{maps_of}
+use Rattle.bw_calls.specs.Standing.{waits}
+use Rattle.bw_calls.proofs.PlainLaws.{itself, moved, lawful_moved, left_before, err_map, number_told}
+use Rattle.bw_calls.proofs.CallLaws.{finished, refused}
+use Rattle.bw_calls.proofs.writing.delete.Goals as goal
+
+pub returns-in_err-table-clause-refused : goal.returns-in_err-table-clause-refused
+returns-in_err-table-clause-refused g c = λ lawful.
+    let before : IfErr c.from_residual.result (λ fault. waits fault ≡ false) = search rules in
+    err_map c.from_residual.result (λ fault told. left_before _ _ _ (waits fault) told (moved _ _ _ (itself _ lawful) c.number_of.ensures.same)) before
+
+pub returns-in-Some-clause-deleted : goal.returns-in-Some-clause-deleted
+returns-in-Some-clause-deleted g c = λ lawful.
+    let m = (maps_of c.args.home.now (λ z. (goal.Segment-dyn g z).holding z.1)).put in
+    let told = number_told c.in_ok-table.field-0 c.in-Some.table m c.args.name.now c.in-Some.is c.in_ok-table.ensures.number in
+    finished c.delete_at.result m _ c.args.name.now c.in-Some.table.bytes c.args.key.now None _ c.number_of.ensures.same told
+    (c.delete_at.ensures.set (lawful_moved _ _ lawful c.number_of.ensures.same))
+
+pub returns-in-Some-clause-refused : goal.returns-in-Some-clause-refused
+returns-in-Some-clause-refused g c = λ lawful.
+    let m = (maps_of c.args.home.now (λ z. (goal.Segment-dyn g z).holding z.1)).put in
+    let told = number_told c.in_ok-table.field-0 c.in-Some.table m c.args.name.now c.in-Some.is c.in_ok-table.ensures.number in
+    refused c.delete_at.result m _ c.args.name.now c.in-Some.table.bytes c.args.key.now None _ c.number_of.ensures.same told
+    (c.delete_at.ensures.refused (lawful_moved _ _ lawful c.number_of.ensures.same))
+
+pub returns-in-None-clause-refused : goal.returns-in-None-clause-refused
+returns-in-None-clause-refused g c = λ lawful. moved _ _ _ (itself _ lawful) c.number_of.ensures.same

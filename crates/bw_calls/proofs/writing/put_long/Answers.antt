@@ -1,0 +1,31 @@
+use Rattle.std.proofs.Common.{◌≡◌, false, Some, None, rules}
+use Rattle.std.specs.Prelude.{IfErr}
+use Rattle.bw_tables.specs.Writing.{named}
+use Rattle.bw_calls.specs.Standing.{plain_in, waits}
+use Rattle.bw_calls.proofs.PlainLaws.{not_long, not_set_long_at, set_long_at, set_behind, err_map, moved}
+use Rattle.bw_calls.proofs.writing.put_long.Goals as goal
+
+pub returns-in_err-number-clause-refused : goal.returns-in_err-number-clause-refused
+returns-in_err-number-clause-refused g c = λ lawful.
+    let before : IfErr c.from_residual.result (λ fault. waits fault ≡ false) = search rules in
+    err_map c.from_residual.result (λ fault told. not_long (plain_in c.args.home.now (λ z. (goal.Segment-dyn g z).holding z.1)) _ c.args.table.bytes c.args.key.now (Some c.args.value.now)
+    (waits fault) told (c.in_err-number.ensures.stays lawful)) before
+
+pub returns-in_err-old-clause-refused : goal.returns-in_err-old-clause-refused
+returns-in_err-old-clause-refused g c = λ lawful.
+    let before : IfErr c.from_residual-in_err-old.result (λ fault. waits fault ≡ false) = search rules in
+    err_map c.from_residual-in_err-old.result (λ fault told. not_long (plain_in c.args.home.now (λ z. (goal.Segment-dyn g z).holding z.1)) _ c.args.table.bytes c.args.key.now (Some c.args.value.now)
+    (waits fault) told (moved _ _ _ (c.in_ok-number.ensures.written lawful).stays c.head_of.ensures.same)) before
+
+pub returns-in-Ok-clause-set : goal.returns-in-Ok-clause-set
+returns-in-Ok-clause-set g c = λ lawful.
+    let p = plain_in c.args.home.now (λ z. (goal.Segment-dyn g z).holding z.1) in
+    let set = set_long_at p _ _ _ c.args.table.bytes c.args.key.now c.in_ok-number.number.bytes c.args.value.now (named c.in_ok-old.old) c.long_step.result c.head_of.ensures.same
+    (c.in_ok-number.ensures.written lawful) c.in_ok-number.ensures.rows c.long_step.ensures.step c.in_ok-old.ensures.head c.in-Ok.ensures.changed in
+    set_behind p _ _ c.args.table.bytes c.args.key.now (Some c.args.value.now) set c.collect_old.ensures.stays
+
+pub returns-in-Err-clause-refused : goal.returns-in-Err-clause-refused
+returns-in-Err-clause-refused g c = λ lawful.
+    let p = plain_in c.args.home.now (λ z. (goal.Segment-dyn g z).holding z.1) in
+    not_set_long_at p _ _ _ c.args.table.bytes c.args.key.now c.in_ok-number.number.bytes c.args.value.now (named c.in_ok-old.old) c.long_step.result (waits c.in-Err.fault)
+    c.head_of.ensures.same (c.in_ok-number.ensures.written lawful) c.in_ok-number.ensures.rows c.long_step.ensures.step c.in_ok-old.ensures.head c.in-Err.ensures.refused

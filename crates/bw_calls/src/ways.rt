@@ -1,0 +1,127 @@
+//! The ways to a home on which all calls stand: a value is read, and a group is written.
+//!
+//! Each takes first what waits in the queue, so that what is read is all that was put.
+
+ghost use Rattle.std.specs.Prelude.{◌≡◌, ◌⊎◌, ◌<◌, ◌≤◌, false, cond, length, IfErr, IfOk, OnOk};
+ghost use Rattle.bw_rows.specs.Steps.{after};
+ghost use Rattle.bw_home.specs.Maps.{maps_of};
+ghost use Rattle.bw_home.specs.Ready.{IsReady};
+ghost use Rattle.bw_calls.specs.Standing.{plain_in, waits};
+ghost use Rattle.bw_calls.specs.Changes.{IsFirstOf};
+
+use crate::fault::TableFault;
+use bw::Walk;
+use bw_codec::{Key, Value};
+use bw_home::{Home, MapFault};
+use bw_ring::Group;
+
+// Takes what waits in the queue.
+fn take(home: &mut Home) -> Result<(), TableFault>
+    requires { IsReady home.old holding }
+    ensures ready { IsReady home.new holding }
+    ensures same { (maps_of home.new holding).put ≡ (maps_of home.old holding).put }
+    ensures taken { OnOk result ((maps_of home.new holding).now ≡ (maps_of home.new holding).put) }
+    ensures before { IfErr result (λ fault. waits fault ≡ false) }
+{
+    if home.feeds.len() != 1 {
+        return Err(TableFault::NotMade(MapFault::Writers));
+    }
+    match home.take_all() {
+        Ok(_) => Ok(()),
+        Err(cause) => Err(TableFault::NotRead(cause)),
+    }
+}
+
+/// The value of a key of the store.
+pub(crate) fn get(home: &mut Home, key: &Key) -> Result<Option<Value>, TableFault>
+    requires { IsReady home.old holding }
+    ensures ready { IsReady home.new holding }
+    ensures same { (maps_of home.new holding).put ≡ (maps_of home.old holding).put }
+    ensures value { IfOk result (λ value. value ≡ plain_in home.old holding key.now) }
+    ensures before { IfErr result (λ fault. waits fault ≡ false) }
+{
+    take(home)?;
+    match home.get(key) {
+        Ok(value) => Ok(value),
+        Err(cause) => Err(TableFault::NotRead(cause)),
+    }
+}
+
+/// Writes a group, which is the step of a call.
+pub(crate) fn step(home: &mut Home, group: Group) -> Result<(), TableFault>
+    requires { IsReady home.old holding }
+    ensures ready { IsReady home.new holding }
+    ensures changed { OnOk result
+        (plain_in home.new holding ≡ after (plain_in home.old holding) group) }
+    ensures refused { IfErr result (λ fault. plain_in home.new holding
+        ≡ cond (waits fault) (after (plain_in home.old holding) group)
+        (plain_in home.old holding)) }
+{
+    match home.change(group) {
+        Ok(()) => Ok(()),
+        Err(MapFault::Waits(cause)) => Err(TableFault::Waits(cause)),
+        Err(MapFault::Writers) => Err(TableFault::NotMade(MapFault::Writers)),
+        Err(MapFault::NotPut(cause)) => Err(TableFault::NotMade(MapFault::NotPut(cause))),
+        Err(MapFault::NotKept(cause)) => Err(TableFault::NotMade(MapFault::NotKept(cause))),
+    }
+}
+
+/// Writes a group that is no call's step.
+pub(crate) fn prepare(home: &mut Home, group: Group) -> Result<(), TableFault>
+    requires { IsReady home.old holding }
+    ensures ready { IsReady home.new holding }
+    ensures changed { OnOk result
+        (plain_in home.new holding ≡ after (plain_in home.old holding) group) }
+    ensures refused { IfErr result (λ fault.
+        (plain_in home.new holding ≡ plain_in home.old holding)
+        ⊎ (plain_in home.new holding ≡ after (plain_in home.old holding) group)) }
+    ensures before { IfErr result (λ fault. waits fault ≡ false) }
+{
+    match home.change(group) {
+        Ok(()) => Ok(()),
+        Err(fault) => Err(TableFault::NotMade(fault)),
+    }
+}
+
+/// The first pair whose key begins with this one.
+pub(crate) fn first(home: &mut Home, prefix: Key) -> Result<Option<(Key, Value)>, TableFault>
+    requires { IsReady home.old holding }
+    ensures ready { IsReady home.new holding }
+    ensures same { (maps_of home.new holding).put ≡ (maps_of home.old holding).put }
+    ensures value { IfOk result (λ pair. IsFirstOf (plain_in home.old holding) prefix pair) }
+    ensures before { IfErr result (λ fault. waits fault ≡ false) }
+{
+    take(home)?;
+    let mut walk = Walk::over(prefix);
+    match walk.next(home) {
+        Ok(pair) => Ok(pair),
+        Err(cause) => Err(TableFault::NotRead(cause)),
+    }
+}
+
+/// The last key below this one.
+pub(crate) fn below(home: &mut Home, key: &Key) -> Result<Option<Key>, TableFault>
+    requires { IsReady home.old holding }
+    ensures ready { IsReady home.new holding }
+    ensures same { (maps_of home.new holding).put ≡ (maps_of home.old holding).put }
+    ensures before { IfErr result (λ fault. waits fault ≡ false) }
+{
+    take(home)?;
+    match home.prev_below(key) {
+        Ok(Some((key, _))) => Ok(Some(key)),
+        Ok(None) => Ok(None),
+        Err(cause) => Err(TableFault::NotRead(cause)),
+    }
+}
+
+/// The key of these bytes.
+pub(crate) fn key_of(bytes: &[u8]) -> Key
+    requires some { 0 < length bytes.now }
+    requires few { length bytes.now ≤ 128 }
+    ensures { result ≡ bytes.now }
+{
+    match Key::new(bytes) {
+        Ok(key) => key,
+        Err(_) => unreachable!(),
+    }
+}
