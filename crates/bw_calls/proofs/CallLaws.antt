@@ -1,14 +1,14 @@
 -- What a call leaves, by its answer.
 
-use Rattle.std.proofs.Common.{◌≡◌, Option, Some, Bool, cond, sym, subst}
+use Rattle.std.proofs.Common.{◌≡◌, Option, Some, sym, subst}
 use Rattle.std.specs.Prelude.{Result, Ok, Err, OnOk, IfErr}
 use Rattle.std.specs.Option.{option_map}
 use Rattle.bw_leaf.specs.Changed.{Map}
 use Rattle.bw_rows.specs.Spelling.{Bytes, name_key}
 use Rattle.bw_rows.specs.Meaning.{Plain, tables_of, table_in, with_value}
-use Rattle.bw_rows.specs.Laws.{IsTables, HasNumber}
+use Rattle.bw_rows.specs.Laws.{IsTables}
 use Rattle.bw_calls.specs.Changes.{IsSet}
-use Rattle.bw_calls.specs.Standing.{waits, IsLeftBy, IsNotSet}
+use Rattle.bw_calls.specs.Standing.{IsLeftBy, IsNotSet}
 use Rattle.bw_calls.specs.declared.fault.TableFault.{TableFault}
 use Rattle.bw_calls.proofs.PlainLaws.{plain_of, set_by}
 

@@ -1,6 +1,6 @@
 -- What a call makes of a plain map, step by step.
 
-use Rattle.std.proofs.Common.{ℕ, zero, suc, ◌≡◌, ◌+◌, ◌-◌, ◌<◌, ◌⊎◌, inl, inr, Bool, true, false, cond, Option, Some, None, is_some, List, [], ◌∷◌, ◌++◌, length, take, refl, sym, ap, subst, ◌∙◌, arith, nat_eq, eq-eqb, ◌&&◌}
+use Rattle.std.proofs.Common.{ℕ, zero, suc, ◌≡◌, ◌+◌, ◌-◌, ◌⊎◌, inl, inr, Bool, true, false, cond, Option, Some, None, is_some, List, [], ◌∷◌, ◌++◌, length, take, refl, sym, ap, subst, ◌∙◌, nat_eq, eq-eqb, ◌&&◌}
 use Rattle.std.specs.Prelude.{Result, Ok, Err, OnOk, OnErr, IfOk, IfErr}
 use Rattle.std.specs.List.{fold, starts_with}
 use Rattle.std.specs.Option.{option_map, option_and_then}
@@ -17,7 +17,7 @@ use Rattle.bw_rows.specs.Meaning.{Plain, Table, Tables, chunks_of, joined, or_no
 use Rattle.bw_rows.specs.Law.{head_at, is_doomed}
 use Rattle.bw_rows.specs.Steps.{changed, after}
 use Rattle.bw_rows.specs.Laws.{IsLawful, IsTables, IsUnnamed, HasNumber, HasNoChunk}
-use Rattle.bw_rows.proofs.TableLaws.{quiet_found, chunk_law}
+use Rattle.bw_rows.proofs.TableLaws.{quiet_found, chunk_law, fresh_law}
 use Rattle.bw_tables.specs.Writing.{chunk_record, chunk_records, taking, IsWriting}
 use Rattle.bw_tables.specs.Calls.{Begins, GoesOn, MakesShort, MakesLong, Frees}
 use Rattle.bw_calls.specs.Changes.{value_at, IsSet, IsCollecting, HasSame}
@@ -87,6 +87,22 @@ none_by p key (Some row) e = absurd (cc e)
 -- a table that is not there has no value
 pub no_value : (p : Plain) (name key : Bytes) → option_map table_in (p (name_key name)) ≡ None → value_at (tables_of p) name key ≡ None
 no_value p name key none = none_by p key (p (name_key name)) none
+
+-- what was read of a key whose row is there
+pub value_told : (m m1 m2 : Map) (name t key k row shown value : Bytes) (answer : Option Bytes) → IsLawful (plain_of m) → m1 ≡ m → m2 ≡ m1
+    → Some t ≡ option_map table_in (plain_of m (name_key name)) → answer ≡ Some row → answer ≡ plain_of m1 k → k ≡ row_key (row_place t key)
+    → shown ≡ row → value ≡ value_of (plain_of m2) shown → Some value ≡ value_at (tables_of (plain_of m)) name key
+value_told m m1 m2 name t key k row shown value answer lawful same again number is told its shows e =
+    let there : plain_of m (row_key (row_place t key)) ≡ Some row
+    = ap (λ (x : Map). plain_of x (row_key (row_place t key))) (sym same) ∙ ap (plain_of m1) (sym its) ∙ sym told ∙ is in
+    let told_so : value ≡ value_of (plain_of m) row = e ∙ ap (λ (x : Map). value_of (plain_of x) shown) (again ∙ same) ∙ ap (value_of (plain_of m)) shows in
+    ap (λ (v : Bytes). Some v) told_so ∙ ap (option_map (value_of (plain_of m))) (sym there) ∙ sym (got (plain_of m) name t key lawful (sym number))
+
+-- a number whose first chunk is not there
+pub unnamed_told : (m m1 : Map) (n k : Bytes) (answer : Option Bytes) → IsLawful (plain_of m) → m1 ≡ m → answer ≡ None → answer ≡ plain_of m1 k
+    → k ≡ chunk_key (chunk_place n 0) → IsUnnamed (plain_of m) n
+unnamed_told m m1 n k answer lawful same is told its =
+    fresh_law (plain_of m) n lawful.values (ap (λ (x : Map). plain_of x (chunk_key (chunk_place n 0))) (sym same) ∙ ap (plain_of m1) (sym its) ∙ sym told ∙ is)
 
 -- ---- chunks that go away
 
@@ -263,6 +279,14 @@ pub record Adding (start p : Plain) (n value : Bytes) (from at : ℕ) : Type 0 w
 pub record Joining (start m : Map) (n value : Bytes) (i : ℕ) : Type 0 where
   pub same : m ≡ start
   pub its : value ≡ joined (chunks_of (plain_of start) n) i
+
+pub joining_more : (start m new : Map) (n value more : Bytes) (i next : ℕ) → next ≡ suc i → Joining start m n value i → new ≡ m
+    → more ≡ value ++ or_nothing (chunks_of (plain_of m) n i) → Joining start new n more next
+joining_more start m new n value more i next counts j same added = subst (Joining start new n more) (sym counts) record {
+  same = same ∙ j.same;
+  its = added ∙ ap (λ (v : Bytes). v ++ or_nothing (chunks_of (plain_of m) n i)) j.its
+      ∙ ap (λ (x : Map). joined (chunks_of (plain_of start) n) i ++ or_nothing (chunks_of (plain_of x) n i)) j.same;
+}
 
 -- by an answer that is Ok
 pub ok_map : {A E : Type 0} {P Q : A → Type 0} (r : Result A E) → ((x : A) → P x → Q x) → IfOk r P → IfOk r Q

@@ -6,7 +6,7 @@ ghost use Rattle.std.specs.Prelude.{◌≡◌, ◌⊎◌, ◌<◌, ◌≤◌, fa
 ghost use Rattle.bw_rows.specs.Steps.{after};
 ghost use Rattle.bw_home.specs.Maps.{maps_of};
 ghost use Rattle.bw_home.specs.Ready.{IsReady};
-ghost use Rattle.bw_calls.specs.Standing.{plain_in, waits};
+ghost use Rattle.bw_calls.specs.Standing.{is_waiting, plain_in, waits};
 ghost use Rattle.bw_calls.specs.Changes.{IsFirstOf};
 
 use crate::fault::TableFault;
@@ -47,6 +47,16 @@ pub(crate) fn get(home: &mut Home, key: &Key) -> Result<Option<Value>, TableFaul
     }
 }
 
+// Why a step was refused, which may wait all the same.
+fn step_fault(fault: MapFault) -> TableFault
+    ensures { waits result ≡ is_waiting fault }
+{
+    match fault {
+        MapFault::Waits(cause) => TableFault::Waits(cause),
+        other => TableFault::NotMade(other),
+    }
+}
+
 /// Writes a group, which is the step of a call.
 pub(crate) fn step(home: &mut Home, group: Group) -> Result<(), TableFault>
     requires { IsReady home.old holding }
@@ -59,10 +69,7 @@ pub(crate) fn step(home: &mut Home, group: Group) -> Result<(), TableFault>
 {
     match home.change(group) {
         Ok(()) => Ok(()),
-        Err(MapFault::Waits(cause)) => Err(TableFault::Waits(cause)),
-        Err(MapFault::Writers) => Err(TableFault::NotMade(MapFault::Writers)),
-        Err(MapFault::NotPut(cause)) => Err(TableFault::NotMade(MapFault::NotPut(cause))),
-        Err(MapFault::NotKept(cause)) => Err(TableFault::NotMade(MapFault::NotKept(cause))),
+        Err(fault) => Err(step_fault(fault)),
     }
 }
 
@@ -99,6 +106,12 @@ pub(crate) fn first(home: &mut Home, prefix: Key) -> Result<Option<(Key, Value)>
     }
 }
 
+// The key of a pair.
+fn key_in(pair: Option<(Key, Value)>) -> Option<Key> {
+    let (key, _) = pair?;
+    Some(key)
+}
+
 /// The last key below this one.
 pub(crate) fn below(home: &mut Home, key: &Key) -> Result<Option<Key>, TableFault>
     requires { IsReady home.old holding }
@@ -108,8 +121,7 @@ pub(crate) fn below(home: &mut Home, key: &Key) -> Result<Option<Key>, TableFaul
 {
     take(home)?;
     match home.prev_below(key) {
-        Ok(Some((key, _))) => Ok(Some(key)),
-        Ok(None) => Ok(None),
+        Ok(pair) => Ok(key_in(pair)),
         Err(cause) => Err(TableFault::NotRead(cause)),
     }
 }

@@ -1,4 +1,4 @@
-use Rattle.bw_calls.proofs.PlainLaws.{moved, behind, collecting_moved, collecting_behind, no_chunk_moved}
+use Rattle.bw_calls.proofs.PlainLaws.{behind, collecting_moved, collecting_behind, no_chunk_moved}
 use Rattle.bw_calls.proofs.collecting.collect_doomed.Goals as goal
 
 pub returns-in_err-i-clause-stays : goal.returns-in_err-i-clause-stays

@@ -1,5 +1,4 @@
 use Rattle.std.proofs.Common.{◌≡◌, [], ◌∷◌, length, rules}
-use Rattle.bw_record.specs.declared.record.Record.{Record}
 use Rattle.bw_record.specs.declared.record.Record.TheVariants.{Del}
 use Rattle.bw_rows.specs.Spelling.{chunk_key, chunk_place}
 use Rattle.bw_calls.proofs.PlainLaws.{dropped}

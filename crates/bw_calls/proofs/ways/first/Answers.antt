@@ -1,4 +1,4 @@
-use Rattle.std.proofs.Common.{◌≡◌, ◌∙◌, subst}
+use Rattle.std.proofs.Common.{◌∙◌, subst}
 use Rattle.bw_leaf.specs.Changed.{Map}
 use Rattle.bw_calls.specs.Changes.{IsFirstOf}
 use Rattle.bw_calls.proofs.PlainLaws.{plain_of}
@@ -8,8 +8,8 @@ use Rattle.bw_calls.proofs.ways.first.Goals as goal
 pub returns-in-Ok-clause-same : goal.returns-in-Ok-clause-same
 returns-in-Ok-clause-same g c = same_feeds _ _ _ _ c.next.ensures.follows.continues.start c.next.ensures.feeds ∙ c.take.ensures.same
 
-pub returns-in-Err-next-clause-same : goal.returns-in-Err-next-clause-same
-returns-in-Err-next-clause-same g c = same_feeds _ _ _ _ c.next.ensures.follows.continues.start c.next.ensures.feeds ∙ c.take.ensures.same
+pub returns-in-Err-clause-same : goal.returns-in-Err-clause-same
+returns-in-Err-clause-same g c = same_feeds _ _ _ _ c.next.ensures.follows.continues.start c.next.ensures.feeds ∙ c.take.ensures.same
 
 pub returns-in-Ok-clause-value : goal.returns-in-Ok-clause-value
 returns-in-Ok-clause-value g c =

@@ -1,7 +1,7 @@
 use Rattle.std.proofs.Common.{◌≡◌, subst, arith}
 use Rattle.bw_tables.specs.Writing.{IsWriting}
 use Rattle.bw_calls.specs.Standing.{plain_in}
-use Rattle.bw_calls.proofs.PlainLaws.{Adding, same_then, on_err}
+use Rattle.bw_calls.proofs.PlainLaws.{same_then, on_err}
 use Rattle.bw_calls.proofs.writing.add_all.Goals as goal
 
 pub returns-in_err-add-clause-stays : goal.returns-in_err-add-clause-stays

@@ -1,4 +1,4 @@
-use Rattle.std.proofs.Common.{◌≡◌, false, Some, None, rules}
+use Rattle.std.proofs.Common.{◌≡◌, false, None, rules}
 use Rattle.std.specs.Prelude.{IfErr}
 use Rattle.bw_home.specs.Maps.{maps_of}
 use Rattle.bw_calls.specs.Standing.{waits}

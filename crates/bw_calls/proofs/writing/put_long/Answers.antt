@@ -1,4 +1,4 @@
-use Rattle.std.proofs.Common.{◌≡◌, false, Some, None, rules}
+use Rattle.std.proofs.Common.{◌≡◌, false, Some, rules}
 use Rattle.std.specs.Prelude.{IfErr}
 use Rattle.bw_tables.specs.Writing.{named}
 use Rattle.bw_calls.specs.Standing.{plain_in, waits}

@@ -1,4 +1,4 @@
-use Rattle.bw_calls.proofs.PlainLaws.{itself, moved, lawful_moved, tables_from, unnamed_from, written_from, on_err}
+use Rattle.bw_calls.proofs.PlainLaws.{all_same, itself, moved, lawful_moved, tables_from, unnamed_from, written_from, on_err}
 use Rattle.bw_calls.proofs.writing.write.Goals as goal
 
 pub returns-in_err-number-clause-stays : goal.returns-in_err-number-clause-stays
@@ -22,3 +22,6 @@ returns-clause-written g c = λ lawful.
     let unnamed = unnamed_from _ _ c.in_ok-number.number.bytes c.fresh.ensures.same (c.in_ok-number.ensures.unnamed lawful) in
     written_from _ _ _ c.in_ok-number.number.bytes c.args.value.now c.chunk_count-count.result _ c.fresh.ensures.same c.chunk_count-count.ensures
     (c.in_ok-add_all.ensures.goes_on _ (c.in_ok-begin.ensures.begins still unnamed))
+
+pub returns-clause-rows : goal.returns-clause-rows
+returns-clause-rows g c = all_same _ _ _ _ c.fresh.ensures.same c.in_ok-begin.ensures.rows c.in_ok-add_all.ensures.rows

@@ -1,0 +1,6 @@
+use Rattle.bw_calls.proofs.PlainLaws.{unnamed_told}
+use Rattle.bw_calls.proofs.writing.fresh.Goals as goal
+
+pub returns-in-None-clause-unnamed : goal.returns-in-None-clause-unnamed
+returns-in-None-clause-unnamed g c = λ lawful.
+    unnamed_told _ _ c.in_ok-number.number.bytes c.chunk_key.result _ lawful c.candidate.ensures.same c.in-None.is c.in_ok-get.ensures.value c.chunk_key.ensures
