@@ -6,12 +6,13 @@ use bw_care::recover;
 use bw_codec::limits::{HEADER_LEN, MAX_FRAME};
 use bw_codec::{Key, Leaf, Pair};
 use bw_device::{Desk, MemSegment, Segment};
-use bw_file::FolderReader;
+use bw_file::{FolderFault, FolderReader};
 use bw_home::{HomeFault, System};
 use bw_page::Leaves;
 use bw_site::{beginning_of, copy_of};
 use bw_watch::{Watch, Work, folder_bytes};
 use std::alloc::Global;
+use std::io::ErrorKind;
 
 /// The least capacity of a copy, in bytes: a header and the longest frame.
 const LEAST: u64 = HEADER_LEN as u64 + MAX_FRAME as u64;
@@ -98,6 +99,30 @@ pub fn pages_in<R: System, W: Watch>(
     let copies = copies_of(rt, &reader, files.as_slice(), leases, all, watch)?;
     watch.see(Work::Recovering, 0, all);
     Ok(pages_in_copies(rt.alloc(), copies)?)
+}
+
+/// Whether a folder was not opened since it is missing, or has no store.
+fn is_missing(fault: &KeysFault) -> bool {
+    match fault {
+        KeysFault::NoStore => true,
+        KeysFault::Home(HomeFault::Folder(FolderFault::System(error))) => {
+            error.kind() == ErrorKind::NotFound
+        }
+        _ => false,
+    }
+}
+
+/// The same; `None` also where the folder is missing, or has no store.
+pub fn pages_if_there<R: System, W: Watch>(
+    rt: &R,
+    path: &str,
+    leases: u32,
+    watch: &mut W,
+) -> Result<Option<Leaves>, KeysFault> {
+    match pages_in(rt, path, leases, watch) {
+        Err(fault) if is_missing(&fault) => Ok(None),
+        found => found,
+    }
 }
 
 /// The numbers of the pages that may have wanted keys, in the order of their keys.

@@ -9,7 +9,7 @@ use bw_file::FolderFault;
 use bw_home::Home;
 use bw_look::{Printer, write_page, write_word};
 use bw_rescue::Copied;
-use bw_words::{Stop, write_dump, write_entry, write_pair_line, write_value};
+use bw_words::{Fault, Stop, write_dump, write_entry, write_pair_line, write_value};
 use std::io::Write;
 
 /// What a command comes to.
@@ -17,6 +17,12 @@ use std::io::Write;
 pub enum Answer {
     /// Whether a group found a place in its writer's ring.
     Put(bool),
+    /// The key has not what a put asks of it, and nothing was put.
+    Kept,
+    /// What is asked cannot be, for this reason.
+    Fault(Fault),
+    /// The number that a key has from now on.
+    Number(i64),
     /// How many records a turn took.
     Took(u64),
     /// The frame that was appended, if something waited.
@@ -93,6 +99,9 @@ fn write_answer<O: Write>(out: &mut Printer<'_, O>, answer: &Answer) {
     match answer {
         Answer::Put(true) => out.text(b"ok\n"),
         Answer::Put(false) => out.text(b"full\n"),
+        Answer::Kept => out.text(b"kept\n"),
+        Answer::Fault(fault) => out.line("fault ", *fault),
+        Answer::Number(number) => out.line("value ", *number),
         Answer::Took(count) => out.line("took ", *count),
         Answer::Frame(Some(frame)) => out.line("frame ", *frame),
         Answer::Frame(None) => out.text(b"no frame\n"),

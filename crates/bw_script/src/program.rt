@@ -171,7 +171,7 @@ fn tell_stop<E: Write>(errors: &mut E, folders: Folders<'_>, stop: Stop) -> Resu
 /// What to do where the log had no room. A mode tells it whose lines can make some.
 fn advice_of(mode: &Mode<'_>) -> Option<&'static [u8]> {
     match mode {
-        Mode::Lines(_, Manner::Requests) => None,
+        Mode::Lines(_, Manner::Requests | Manner::Shell | Manner::Prompted) => None,
         Mode::Lines(options, _) if options.most > 0 => Some(
             b"the log is full, with as many segments as --most-segments adds: a greater number, or \
                 `clean` and `add`, make room\n",
@@ -275,9 +275,17 @@ fn run_usage<O: Write, E: Write>(error: &Error, output: &mut O, errors: &mut E) 
 }
 
 /// Says that the input is waited for, and how it ends.
-fn tell_typed<E: Write>(errors: &mut E) -> Result<(), Stop> {
+fn tell_typed<E: Write>(errors: &mut E, manner: Option<Manner>) -> Result<(), Stop> {
     let mut out = Printer::new(errors);
-    out.text(b"reading the terminal, up to an end of input (Ctrl-D)\n");
+    match manner {
+        Some(Manner::Shell | Manner::Prompted) => {
+            out.text(b"help lists the commands; quit, or Ctrl-D, ends\n");
+        }
+        _ => out.text(b"reading the terminal, up to an end of input (Ctrl-D)\n"),
+    }
+    if manner == Some(Manner::Requests) {
+        out.text(b"these are the requests of a program; for people there is bwlog shell\n");
+    }
     out.end()?;
     Ok(())
 }
@@ -305,12 +313,17 @@ pub fn run<R: Host, I: Read, O: Write, E: Write + IsTerminal>(
             return written_out(status, output, errors);
         }
     };
-    if is_typed && mode.reads_input() && tell_typed(errors).is_err() {
+    if is_typed && mode.reads_input() && tell_typed(errors, mode.manner()).is_err() {
         return 6;
     }
-    if let Mode::Keys(dir, task) = mode {
-        return keys(rt, dir, &task, input, output, errors, is_shown);
+    if let Mode::Keys(dir, task) = &mode {
+        return keys(rt, *dir, task, input, output, errors, is_shown);
     }
+    let mode = if is_typed && is_shown {
+        mode.on_terminal()
+    } else {
+        mode
+    };
     let status = run_mode(rt, &mode, input, output, errors, is_shown);
     written_out(status, output, errors)
 }

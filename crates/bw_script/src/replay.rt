@@ -1,10 +1,12 @@
-//! `bwlog replay`: a script over one store, line by line; and `bwlog serve`, by the same lines, but
-//! each is a request that has one line of answer, whatever it is.
+//! `bwlog replay`: a script over one store, line by line; `bwlog serve`, by the same lines, but each is
+//! a request that has one line of answer, whatever it is; and `bwlog shell`, whose lines a person types,
+//! by the same requests.
 
 ghost use Rattle.bw_home.specs.Ready.{IsReady};
 
 use crate::answers::{Answer, tell};
 use crate::calls::{call, durable, put_taking, turn_on};
+use crate::shell::{HELP, PROMPT, Shell, tell_text};
 use crate::tended::{Served, Tending};
 use bw_device::MAX_LEASES;
 use bw_home::{Added, Home, Legs, with_store_at};
@@ -12,9 +14,11 @@ use bw_look::Printer;
 use bw_pairs::{Lines, READS};
 use bw_watch::{Watch, Work, folder_bytes};
 use bw_words::{
-    Command, Fault, LONGEST, Manner, Met, Miss, Options, PROTOCOL, Reading, Refusal, Request, Stop,
-    System, leases_in, missed, no_input, parse, parse_request, print, print_found, refuse,
+    Command, Fault, LONGEST, Manner, Met, Miss, NotTyped, Options, PROTOCOL, Reading, Refusal,
+    Request, Stop, System, Typed, leases_in, missed, no_input, parse, parse_request, parse_typed,
+    print, print_found, refuse,
 };
+use std::alloc::Global;
 use std::io::{Read, Write};
 
 /// What a line asks for.
@@ -24,8 +28,14 @@ enum Asked {
     Nothing,
     Command(Command),
     Request(Request),
+    /// What a shell asks before its next line.
+    Ahead(Request),
     /// It is no request, for this reason.
     NoRequest(Fault),
+    /// What a person typed.
+    Typed(Result<Typed, NotTyped>),
+    /// Nothing more before a shell ends.
+    Over,
 }
 
 /// What came of a line.
@@ -139,6 +149,7 @@ fn print_reopened<O: Write>(output: &mut O, frame: u64, lost: u64) -> Result<(),
 fn records_in(request: &Request) -> u64 {
     match request {
         Request::Do(Command::Put(_, group)) => group.len() as u64,
+        Request::If(_) => 1,
         _ => 0,
     }
 }
@@ -168,6 +179,8 @@ struct Script<'a, I, O, W> {
     done: Option<Done>,
     /// Whether the last line is asked again.
     is_again: bool,
+    /// What a shell has to do before its next line.
+    shell: Shell,
     /// How many records that line took, a turn, before it was.
     taken: u64,
     /// Whether the answer of the last line is a receipt.
@@ -182,6 +195,9 @@ impl<I: Read + Drop, O: Write, W: Watch> Script<'_, I, O, W> {
     /// input is asked for.
     fn read_line(&mut self) -> Result<bool, Miss> {
         if !self.lines.holds_line() {
+            if self.manner == Manner::Prompted {
+                tell_text(self.output, PROMPT)?;
+            }
             write_out(self.output)?;
         }
         Ok(self.lines.read_line().map_err(no_input)?)
@@ -223,11 +239,40 @@ impl<I: Read + Drop, O: Write, W: Watch> Script<'_, I, O, W> {
         Ok(Asked::Nothing)
     }
 
+    /// What a shell does next: what is to be done before its next line, or what that asks for.
+    fn next_typed(&mut self, alloc: Global) -> Result<Asked, Miss> {
+        self.shell
+            .keep_before_wait(!self.is_again && !self.lines.holds_line());
+        if let Some(request) = self.shell.next_request() {
+            self.is_again = false;
+            return Ok(Asked::Ahead(request));
+        }
+        if self.shell.is_over() || !self.next_line()? {
+            return Ok(Asked::Over);
+        }
+        match parse_typed(alloc, self.lines.line()) {
+            Err(NotTyped::NoMemory) => Err(Miss::Refused(Refusal::NO_MEMORY)),
+            typed => Ok(Asked::Typed(typed)),
+        }
+    }
+
     /// What the next line asks for in this manner.
-    fn next_asked(&mut self) -> Result<Asked, Miss> {
+    fn next_asked(&mut self, alloc: Global) -> Result<Asked, Miss> {
         match self.manner {
             Manner::Script | Manner::Taking => self.next_command(),
             Manner::Requests => self.next_request(),
+            Manner::Shell | Manner::Prompted => self.next_typed(alloc),
+        }
+    }
+
+    /// Prints an answer, for a program or for a person.
+    fn tell_answer(&mut self, home: &Home, answer: &Answer) -> Result<(), Stop>
+        requires { IsReady home.now holding }
+    {
+        if self.manner.is_shell() {
+            self.shell.tell(home, self.output, answer)
+        } else {
+            tell(home, self.output, answer)
         }
     }
 
@@ -312,7 +357,7 @@ impl<I: Read + Drop, O: Write, W: Watch> Script<'_, I, O, W> {
             }
         };
         self.note_put(&answer, count);
-        tell(home, self.output, &answer)?;
+        self.tell_answer(home, &answer)?;
         if !matches!(answer, Answer::Won(..)) {
             self.write_receipt()?;
             return done_of_room(self.tending.look(rt, home));
@@ -324,10 +369,9 @@ impl<I: Read + Drop, O: Write, W: Watch> Script<'_, I, O, W> {
 
     /// Counts so many records, if the answer says that they were accepted.
     fn note_put(&mut self, answer: &Answer, count: u64) {
-        if let Answer::Put(is_accepted) = answer {
-            if *is_accepted {
-                self.accepted = self.accepted.saturating_add(count);
-            }
+        if matches!(answer, Answer::Put(true) | Answer::Number(_)) {
+            self.accepted = self.accepted.saturating_add(count);
+            self.shell.note_put();
         }
     }
 
@@ -345,13 +389,59 @@ impl<I: Read + Drop, O: Write, W: Watch> Script<'_, I, O, W> {
         Ok(Done::Reopen)
     }
 
+    /// Does what a shell asks before its next line.
+    fn do_ahead<R: System>(
+        &mut self,
+        rt: &R,
+        home: &mut Home,
+        request: Request,
+    ) -> Result<Done, Miss>
+        requires { IsReady home.old holding }
+        ensures { IsReady home.new holding }
+    {
+        let done = self.do_request(rt, home, request);
+        if !self.is_again {
+            self.shell.note_asked(done.is_err());
+        }
+        done
+    }
+
+    /// Does what a person typed.
+    fn do_typed<R: System>(
+        &mut self,
+        rt: &R,
+        home: &mut Home,
+        typed: Result<Typed, NotTyped>,
+    ) -> Result<Done, Miss>
+        requires { IsReady home.old holding }
+        ensures { IsReady home.new holding }
+    {
+        match typed {
+            Ok(Typed::Request(request)) => return self.do_request(rt, home, request),
+            Ok(Typed::List(prefix)) => self.shell.list(prefix),
+            Ok(Typed::Help) => tell_text(self.output, HELP)?,
+            Ok(Typed::Quit) => self.shell.quit(),
+            Ok(Typed::Nothing) => {}
+            Err(fault) => print(self.output, "fault ", fault)?,
+        }
+        Ok(Done::Answered)
+    }
+
+    /// Ends a shell. Behind a prompt that has no line a line is ended.
+    fn do_over(&mut self) -> Result<Done, Miss> {
+        if self.manner == Manner::Prompted && !self.shell.is_over() {
+            tell_text(self.output, "\n")?;
+        }
+        Ok(Done::End)
+    }
+
     /// Does what the next line asks for. What is no request is answered too.
     fn do_next<R: System>(&mut self, rt: &R, home: &mut Home) -> Result<Done, Miss>
         requires { IsReady home.old holding }
         ensures { IsReady home.new holding }
     {
         self.is_receipt = false;
-        match self.next_asked()? {
+        match self.next_asked(rt.alloc())? {
             Asked::Command(command) => {
                 self.is_receipt = command.is_receipt();
                 self.do_command(rt, home, command)
@@ -372,6 +462,9 @@ impl<I: Read + Drop, O: Write, W: Watch> Script<'_, I, O, W> {
                 print(self.output, "fault ", fault)?;
                 Ok(Done::Answered)
             }
+            Asked::Ahead(request) => self.do_ahead(rt, home, request),
+            Asked::Typed(typed) => self.do_typed(rt, home, typed),
+            Asked::Over => self.do_over(),
             Asked::Nothing => Ok(Done::End),
         }
     }
@@ -437,6 +530,7 @@ impl<I: Read + Drop, O: Write, W: Watch> Script<'_, I, O, W> {
             }
             (None, Manner::Requests) => print_ready(self.output, last),
             (None, Manner::Script | Manner::Taking) => print_found(self.output, home.found()),
+            (None, Manner::Shell | Manner::Prompted) => Ok(()),
         }
     }
 
@@ -460,6 +554,7 @@ impl<I: Read + Drop, O: Write, W: Watch> Script<'_, I, O, W> {
             self.note_answer(answer);
         } else if let (true, Some(fault)) = (self.is_again, added.refused) {
             self.is_again = false;
+            self.shell.note_asked(true);
             let answer = refuse(self.output, Refusal::from(fault));
             self.note_answer(answer);
         }
@@ -572,6 +667,7 @@ fn run_lines<R: System, I: Read + Drop, O: Write, W: Watch>(
         ended: None,
         done: None,
         is_again: false,
+        shell: Shell::new(),
         taken: 0,
         is_receipt: false,
         end: Ok(Met::NOTHING),

@@ -6,12 +6,12 @@
 ghost use Rattle.bw_home.specs.Ready.{IsReady};
 
 use crate::answers::Answer;
-use crate::calls::{answer, durable};
+use crate::calls::{Decided, answer, decided, durable};
 use bw_core::StoreFault;
 use bw_home::Home;
 use bw_keys::Admission;
 use bw_ring::Group;
-use bw_words::{Command, Miss, Options, Refusal, Request, System};
+use bw_words::{Command, Condition, Miss, Options, Refusal, Request, System};
 
 /// How a store is tended.
 #[derive(Debug, Clone, Copy)]
@@ -225,7 +225,7 @@ impl Tending {
         requires { IsReady home.old holding }
         ensures { IsReady home.new holding }
     {
-        if group_in(&request).is_some() {
+        if group_in(&request).is_some() || matches!(request, Request::If(_)) {
             return Err(Miss::from(StoreFault::Failed));
         }
         self.answered(rt, home, request)
@@ -265,6 +265,29 @@ impl Tending {
         if self.take_waiting(rt, home, &request)? {
             return Ok(Served::Room);
         }
-        self.served(rt, home, request)
+        match request {
+            Request::If(condition) => self.served_if(rt, home, condition),
+            request => self.served(rt, home, request),
+        }
+    }
+
+    /// The answer of a put that hangs on its key, behind a take of all that was put before.
+    fn served_if<R: System>(
+        &mut self,
+        rt: &R,
+        home: &mut Home,
+        condition: Condition,
+    ) -> Result<Served, Miss>
+        requires { IsReady home.old holding }
+        ensures { IsReady home.new holding }
+    {
+        let (group, told) = match decided(rt.alloc(), home, condition)? {
+            Decided::Put(group, told) => (group, told),
+            Decided::Answer(answer) => return Ok(Served::Answer(answer)),
+        };
+        match self.served(rt, home, Request::Do(Command::Put(0, group)))? {
+            Served::Answer(Answer::Put(true)) => Ok(Served::Answer(told)),
+            served => Ok(served),
+        }
     }
 }

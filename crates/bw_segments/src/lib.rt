@@ -8,6 +8,7 @@ mod heed;
 mod images;
 mod judged;
 mod looks;
+mod numbers;
 mod rescued;
 mod scanned;
 mod upgraded;

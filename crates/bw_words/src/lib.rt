@@ -15,6 +15,7 @@ mod script;
 mod stop;
 mod system;
 mod table;
+mod typed;
 
 pub use found::{print_found, write_found};
 pub use miss::Miss;
@@ -22,8 +23,9 @@ pub use mode::{Ends, LEASES, Manner, Mode, Options, Pace, View, leases_in};
 pub use options::{is_memory, mode_of};
 pub use printed::{print, write_dump, write_entry, write_pair_line, write_pairs, write_value};
 pub use refusal::Refusal;
-pub use request::{Request, parse_request};
+pub use request::{Condition, Request, parse_request, signed_of};
 pub use script::{Command, Fault, LONGEST, Reading, are_printable, parse, parse_group};
 pub use stop::{Met, Stop, missed, no_input, refuse};
 pub use system::{Host, System};
 pub use table::PROTOCOL;
+pub use typed::{NotTyped, Typed, parse_typed};

@@ -13,6 +13,17 @@ pub enum Manner {
     Taking,
     /// Requests of a program, over a store with one writer.
     Requests,
+    /// Lines that a person typed, over a store with one writer.
+    Shell,
+    /// The same, each behind a prompt.
+    Prompted,
+}
+
+impl Manner {
+    /// Whether its lines are those of a person.
+    pub fn is_shell(self) -> bool {
+        matches!(self, Manner::Shell | Manner::Prompted)
+    }
 }
 
 /// How segments are shown.
@@ -22,12 +33,14 @@ pub enum View {
     Print,
     /// By how much they have of each kind.
     Stats,
+    /// The same as an object of JSON.
+    Numbers,
     /// As a picture, of segments that have room for so many bytes.
     Picture(u64),
 }
 
 /// What the command line asks for.
-#[derive(Clone, Copy)]
+#[derive(Drop)]
 pub enum Mode<'a> {
     /// This is done with the keys of a folder.
     Keys(&'a str, Task<'a>),
@@ -78,6 +91,22 @@ impl Ends<'_> {
 }
 
 impl<'a> Mode<'a> {
+    /// The same on a terminal: a shell has a prompt there.
+    pub fn on_terminal(self) -> Mode<'a> {
+        match self {
+            Mode::Lines(options, Manner::Shell) => Mode::Lines(options, Manner::Prompted),
+            mode => mode,
+        }
+    }
+
+    /// In which manner it reads lines, if it does.
+    pub fn manner(&self) -> Option<Manner> {
+        match self {
+            Mode::Lines(_, manner) => Some(*manner),
+            _ => None,
+        }
+    }
+
     /// The folder of the segments.
     pub fn dir(&self) -> Option<&'a str> {
         match self {

@@ -57,6 +57,7 @@ fn named<'a>(alloc: Global, row: &Row) -> Arg<'a> {
     let option = Arg::new(alloc, row.name).help(row.help);
     match row.kind {
         Kind::Word => option,
+        Kind::Words | Kind::WordsOr(_) => option.num_args(1..),
         _ => option.long(row.name),
     }
 }
@@ -67,7 +68,7 @@ fn text_of<'a>(option: Arg<'a>, kind: Kind) -> Arg<'a> {
         Kind::Folder => option.value_name("FOLDER"),
         Kind::Needed => option.value_name("FOLDER").required(true),
         Kind::Text(name) => option.value_name(name),
-        Kind::Word => option.required(true),
+        Kind::Word | Kind::Words => option.required(true),
         Kind::Choice(names, default) => option.value_parser(names).default_value(default),
         _ => option,
     }
@@ -95,6 +96,10 @@ fn option_of<'a>(alloc: Global, row: &Row, room: Room) -> Result<Arg<'a>, AllocE
         ),
         Kind::Flag => Ok(option.action(ArgAction::SetTrue)),
         Kind::Either(other) => option.action(ArgAction::SetTrue).conflicts_with(other),
+        Kind::Alone(others) => option.action(ArgAction::SetTrue).conflicts_with_all(others),
+        Kind::WordsOr(others) => option
+            .required_unless_present_any(others)?
+            .conflicts_with_all(others),
         kind => Ok(text_of(option, kind)),
     }
 }
@@ -156,6 +161,21 @@ pub fn text_in<'a>(found: &ArgMatches<'a>, name: &str) -> Option<&'a str> {
         Some(words) => words.first().copied(),
         None => None,
     }
+}
+
+/// The texts that were given for this name.
+pub fn texts_in<'a>(
+    alloc: Global,
+    found: &ArgMatches<'a>,
+    name: &str,
+) -> Result<Vec<&'a str>, AllocError> {
+    let mut texts = Vec::new(alloc);
+    if let Some(words) = found.get_raw(name) {
+        for word in words {
+            texts.push(*word)?;
+        }
+    }
+    Ok(texts)
 }
 
 /// How large pages and segments are where nothing is said of them.
@@ -226,6 +246,26 @@ fn found_of<'a>(found: &ArgMatches<'a>, size: Size, most: u32) -> Options<'a> {
         most: number_in(found, "most-segments", most),
         gives_m: found.get_raw("m").is_some(),
         gives_f: found.get_raw("frame").is_some(),
+    }
+}
+
+/// What the words behind `shell` say: the store is as large as one that is served.
+fn shell_of<'a>(found: &ArgMatches<'a>) -> Options<'a> {
+    let other = bw_home::Options::default();
+    Options {
+        store: bw_home::Options {
+            queue_groups: 1_024,
+            pairs_a_page: LARGE.m,
+            frame_bytes: frame_in_folder(u64::from(LARGE.capacity)),
+            capacity: u64::from(LARGE.capacity),
+            ..other
+        },
+        dir: dir_of(found),
+        reuse: false,
+        reading: Reading::Words,
+        most: MAX_LEASES,
+        gives_m: false,
+        gives_f: false,
     }
 }
 
@@ -301,7 +341,11 @@ fn look_in<'a>(matches: &ArgMatches<'a>) -> Mode<'a> {
         return Mode::Look(View::Print, dir_of(found));
     }
     if let Some(found) = matches.subcommand_matches("stats") {
-        return Mode::Look(View::Stats, dir_of(found));
+        let view = match text_in(found, "format") {
+            Some("json") => View::Numbers,
+            _ => View::Stats,
+        };
+        return Mode::Look(view, dir_of(found));
     }
     if let Some(found) = matches.subcommand_matches("picture") {
         let none = dir_of(found).map_or(0, |_| LARGE.capacity);
@@ -315,16 +359,24 @@ fn look_in<'a>(matches: &ArgMatches<'a>) -> Mode<'a> {
 }
 
 /// The mode that was found, with what its words say.
-fn mode_in<'a>(matches: &ArgMatches<'a>) -> Mode<'a> {
-    if let Some(mode) = keys_in(matches) {
-        return mode;
+fn mode_in<'a>(alloc: Global, matches: &ArgMatches<'a>) -> Result<Mode<'a>, AllocError> {
+    match keys_in(alloc, matches)? {
+        Some(mode) => Ok(mode),
+        None => Ok(store_in(matches)),
     }
+}
+
+/// The mode over a store, or over its segments, that was found.
+fn store_in<'a>(matches: &ArgMatches<'a>) -> Mode<'a> {
     if let Some(found) = matches.subcommand_matches("replay") {
         return Mode::Lines(found_of(found, size_of(found), 0), manner_of(found));
     }
     if let Some(found) = matches.subcommand_matches("serve") {
         let most = dir_of(found).map_or(LEASES, |_| MAX_LEASES);
         return Mode::Lines(found_of(found, LARGE, most), Manner::Requests);
+    }
+    if let Some(found) = matches.subcommand_matches("shell") {
+        return Mode::Lines(shell_of(found), Manner::Shell);
     }
     if let Some(found) = matches.subcommand_matches("threads") {
         return Mode::Threads(found_of(found, size_of(found), 0), pace_of(found));
@@ -342,7 +394,7 @@ fn mode_in<'a>(matches: &ArgMatches<'a>) -> Mode<'a> {
 /// it, is clap's error, whose text is for the user. Segments in memory have narrower ranges.
 pub fn mode_of<'a>(alloc: Global, words: &'a [&'a str]) -> Result<Mode<'a>, Error> {
     let matches = command_of(alloc, Room::Anywhere)?.try_get_matches_from(words)?;
-    let mode = mode_in(&matches);
+    let mode = mode_in(alloc, &matches)?;
     if mode.is_in_memory() {
         let _ = command_of(alloc, Room::Memory)?.try_get_matches_from(words)?;
     }

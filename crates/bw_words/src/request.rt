@@ -9,13 +9,26 @@ use std::str;
 use std::str::SplitWhitespace;
 
 /// The most pairs that one answer has.
-const MOST_PAIRS: u32 = 1024;
+pub const MOST_PAIRS: u32 = 1024;
+
+/// A put that hangs on what its key has, as all that was put before leaves it.
+#[derive(Drop)]
+pub enum Condition {
+    /// The number at a key gets greater by so much. A key without a value has 0.
+    Incr(Key, i64),
+    /// A key gets the second value if it has the first.
+    Swap(Key, Value, Value),
+    /// A key gets a value if it has none.
+    Absent(Key, Value),
+}
 
 /// What a line asks for. There is one writer, so no request names one.
 #[derive(Drop)]
 pub enum Request {
     /// What a command of a script asks for, of the writer 0.
     Do(Command),
+    /// A put, if its key is as it says.
+    If(Condition),
     /// The first pair at or above a key.
     Next(Key),
     /// The last pair at or below a key.
@@ -55,7 +68,7 @@ impl Request {
         match self {
             Request::Do(command) => !matches!(command, Command::Clean | Command::Add),
             Request::Next(_) | Request::Prev(_) | Request::Below(_) => true,
-            Request::Scan(_, _) | Request::Backup(_) => true,
+            Request::Scan(_, _) | Request::Backup(_) | Request::If(_) => true,
             Request::Pages | Request::Count => true,
             _ => false,
         }
@@ -95,6 +108,43 @@ fn scan_of(words: &mut SplitWhitespace<'_>, reading: Reading) -> Result<Request,
     }
 }
 
+/// The number of a word or of a value: decimal digits, behind a hyphen if it is below 0.
+pub fn signed_of(text: &str) -> Result<i64, Fault> {
+    let digits = text.strip_prefix("-").unwrap_or(text);
+    if !digits.bytes().all(|byte| byte.is_ascii_digit()) {
+        return Err(Fault::BadNumber);
+    }
+    text.parse().map_err(|_| Fault::BadNumber)
+}
+
+/// The condition of a name that takes a key and one word.
+fn condition_of(name: &str, key: &str, word: &str, reading: Reading) -> Result<Condition, Fault> {
+    let key = key_of(reading, key)?;
+    match name {
+        "incr" => Ok(Condition::Incr(key, signed_of(word)?)),
+        _ => Ok(Condition::Absent(key, value_of(reading, word)?)),
+    }
+}
+
+/// The put that hangs on what its key has.
+fn if_of(name: &str, words: &mut SplitWhitespace<'_>, reading: Reading) -> Result<Request, Fault> {
+    let (Some(key), Some(word)) = (words.next(), words.next()) else {
+        return Err(Fault::WrongNumberOfWords);
+    };
+    if name != "cas" {
+        return match words.next() {
+            None => Ok(Request::If(condition_of(name, key, word, reading)?)),
+            Some(_) => Err(Fault::WrongNumberOfWords),
+        };
+    }
+    let new = single(words.next(), words.next())?;
+    Ok(Request::If(Condition::Swap(
+        key_of(reading, key)?,
+        value_of(reading, word)?,
+        value_of(reading, new)?,
+    )))
+}
+
 /// The request of a name that takes no word.
 fn plain_of(name: &str) -> Option<Request> {
     match name {
@@ -126,6 +176,7 @@ pub fn parse_request(line: &[u8], reading: Reading) -> Result<Request, Fault> {
             request_of(name, single(words.next(), words.next())?, reading)
         }
         "scan" => scan_of(&mut words, reading),
+        "incr" | "cas" | "setnx" => if_of(name, &mut words, reading),
         _ => alone(plain_of(name), words.next()),
     }
 }

@@ -30,12 +30,18 @@ pub enum Kind {
     Text(&'static str),
     /// Any text, which has to be given, without the name of an option before it.
     Word,
+    /// One such text, or more.
+    Words,
+    /// The same, where none of these options is given; and none where one is.
+    WordsOr(&'static [&'static str]),
     /// One of these texts, and which where none is given.
     Choice(&'static [&'static str], &'static str),
     /// Nothing.
     Flag,
-    /// Nothing, and another flag may not be given then.
+    /// Nothing, and another option may not be given then.
     Either(&'static str),
+    /// Nothing, and none of these options may be given then.
+    Alone(&'static [&'static str]),
 }
 
 /// An option: its name, what it takes, and the help.
@@ -112,6 +118,12 @@ const STORE_DIR: Row = Row {
         refused E13 then tells a lease",
 };
 
+const SHELL_DIR: Row = Row {
+    name: "dir",
+    kind: Kind::Needed,
+    help: "the folder of the store, which is made where it is missing",
+};
+
 const SCAN_DIR: Row = Row {
     name: "dir",
     kind: Kind::Folder,
@@ -123,6 +135,12 @@ const LOOK_DIR: Row = Row {
     name: "dir",
     kind: Kind::Folder,
     help: "a folder whose segments are looked at, in place of lines",
+};
+
+const STATS_FORMAT: Row = Row {
+    name: "format",
+    kind: Kind::Choice(&["lines", "json"], "lines"),
+    help: "lines of names and numbers, or one object of JSON",
 };
 
 const UPGRADE_DIR: Row = Row {
@@ -324,7 +342,7 @@ pub struct Form {
 }
 
 /// All of them.
-pub const FORMS: [Form; 12] = [
+pub const FORMS: [Form; 13] = [
     Form {
         name: "replay",
         about: "Runs a script from standard input",
@@ -336,6 +354,12 @@ pub const FORMS: [Form; 12] = [
         about: "Answers each line of standard input, a request, by one line: for other programs",
         options: &SERVE,
         example: "Example: printf 'put k v\\nflush\\nget k\\n' | bwlog serve --dir store",
+    },
+    Form {
+        name: "shell",
+        about: "Answers each line of standard input, as a person types it: help lists the commands",
+        options: &[SHELL_DIR],
+        example: "Example: bwlog shell --dir store",
     },
     Form {
         name: "threads",
@@ -358,7 +382,7 @@ pub const FORMS: [Form; 12] = [
     Form {
         name: "stats",
         about: "Counts what segments hold, and how much of each is still needed",
-        options: &[LOOK_DIR],
+        options: &[LOOK_DIR, STATS_FORMAT],
         example: "Example: bwlog stats --dir store",
     },
     Form {
