@@ -340,6 +340,28 @@ fn span_of(range: &Range<'_>) -> Result<Span, KeysFault> {
     })
 }
 
+/// The put of a key and a value, by their words on the command line.
+fn put_by<I: Read>(
+    alloc: Global,
+    key: &str,
+    value: &str,
+    is_raw: bool,
+    input: &mut I,
+) -> Result<Record, KeysFault> {
+    let key = put_key_by(key, is_raw)?;
+    Ok(Record::Put(key, value_by(alloc, value, is_raw, input)?))
+}
+
+/// How pairs are listed.
+fn order_of(listed: &Listed<'_>) -> Order {
+    Order {
+        style: listed.style,
+        limit: listed.limit,
+        last: listed.last,
+        reverse: listed.reverse,
+    }
+}
+
 /// The order in which pairs are exported, in this style.
 fn ascending(style: Style) -> Order {
     Order {
@@ -363,9 +385,8 @@ pub fn perform<R: System, I: Read, O: Write, W: Watch>(
 ) -> Result<Told, KeysFault> {
     match task {
         Task::Put(key, value, is_raw) => {
-            let key = put_key_by(*key, *is_raw)?;
-            let value = value_by(rt.alloc(), *value, *is_raw, input)?;
-            let _ = put(rt, dir, leases, Record::Put(key, value), watch)?;
+            let item = put_by(rt.alloc(), *key, *value, *is_raw, input)?;
+            let _ = put(rt, dir, leases, item, watch)?;
             Ok(Told::Done)
         }
         Task::Get(words, spelling) => {
@@ -378,14 +399,8 @@ pub fn perform<R: System, I: Read, O: Write, W: Watch>(
             Ok(Told::Changed(del_all(rt, dir, leases, span, watch)?))
         }
         Task::List(listed) => {
-            let order = Order {
-                style: listed.style,
-                limit: listed.limit,
-                last: listed.last,
-                reverse: listed.reverse,
-            };
             let span = span_of(&listed.range)?;
-            list(rt, dir, leases, &span, order, output, watch)
+            list(rt, dir, leases, &span, order_of(listed), output, watch)
         }
         Task::Count(range) => count(rt, dir, leases, &span_of(range)?, output, watch),
         Task::Import(wanted) => {

@@ -99,9 +99,6 @@ fn write_answer<O: Write>(out: &mut Printer<'_, O>, answer: &Answer) {
     match answer {
         Answer::Put(true) => out.text(b"ok\n"),
         Answer::Put(false) => out.text(b"full\n"),
-        Answer::Kept => out.text(b"kept\n"),
-        Answer::Fault(fault) => out.line("fault ", *fault),
-        Answer::Number(number) => out.line("value ", *number),
         Answer::Took(count) => out.line("took ", *count),
         Answer::Frame(Some(frame)) => out.line("frame ", *frame),
         Answer::Frame(None) => out.text(b"no frame\n"),
@@ -134,6 +131,16 @@ fn write_answer<O: Write>(out: &mut Printer<'_, O>, answer: &Answer) {
             write_word(out, folder.as_bytes());
             out.line(": ", *fault);
         }
+        answer => write_of_key(out, answer),
+    }
+}
+
+/// An answer of a put that hangs on its key.
+fn write_of_key<O: Write>(out: &mut Printer<'_, O>, answer: &Answer) {
+    match answer {
+        Answer::Kept => out.text(b"kept\n"),
+        Answer::Fault(fault) => out.line("fault ", *fault),
+        Answer::Number(number) => out.line("value ", *number),
         _ => {}
     }
 }
