@@ -66,6 +66,7 @@ test:
 	python3 tests/program/terminal.py
 	python3 tests/program/pages.py
 	python3 tests/program/growth.py
+	python3 tests/program/beside.py
 	python3 tools/refuse.py --every 5
 
 check:

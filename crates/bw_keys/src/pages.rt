@@ -2,6 +2,7 @@
 
 use crate::fault::KeysFault;
 use crate::span::Span;
+use bw_beside::Opened;
 use bw_care::recover;
 use bw_codec::limits::{HEADER_LEN, MAX_FRAME};
 use bw_codec::{Key, Leaf, Pair};
@@ -17,23 +18,24 @@ use std::io::ErrorKind;
 /// The least capacity of a copy, in bytes: a header and the longest frame.
 const LEAST: u64 = HEADER_LEN as u64 + MAX_FRAME as u64;
 
-/// Opens a folder for reading, and answers the leases of its files, one at least.
-fn opened<R: System>(rt: &R, path: &str) -> Result<(FolderReader, Vec<u32>), KeysFault> {
-    let reader = match FolderReader::open(rt, path) {
-        Ok(reader) => reader,
-        Err(fault) => return Err(KeysFault::from(HomeFault::from(fault))),
-    };
+/// The leases of the files of a folder that is open for reading, one at least.
+fn files_of<R: System>(rt: &R, reader: &FolderReader) -> Result<Vec<u32>, KeysFault> {
     match reader.leases(rt) {
         Ok(leases) if leases.is_empty() => Err(KeysFault::NoStore),
-        Ok(leases) => Ok((reader, leases)),
+        Ok(leases) => Ok(leases),
         Err(fault) => Err(KeysFault::from(HomeFault::from(fault))),
     }
 }
 
-/// Refuses a folder that is not there, or has no store.
+/// Refuses a folder that is not there, or has no store, or that somebody writes.
 pub fn check_store<R: System>(rt: &R, path: &str) -> Result<(), KeysFault> {
-    let _ = opened(rt, path)?;
-    Ok(())
+    match FolderReader::open(rt, path) {
+        Ok(reader) => {
+            let _ = files_of(rt, &reader)?;
+            Ok(())
+        }
+        Err(fault) => Err(KeysFault::from(HomeFault::from(fault))),
+    }
 }
 
 /// Copies of all segments of a folder, by a desk of so many leases. Each is the one of its lease, so
@@ -83,22 +85,39 @@ fn pages_in_copies(alloc: Global, copies: Vec<MemSegment>) -> Result<Option<Leav
     pages_of(alloc, boxes)
 }
 
+/// The pages of a folder in which nobody writes.
+fn pages_alone<R: System, W: Watch>(
+    rt: &R,
+    path: &str,
+    reader: &FolderReader,
+    leases: u32,
+    watch: &mut W,
+) -> Result<Option<Leaves>, KeysFault> {
+    let files = files_of(rt, reader)?;
+    let all = folder_bytes(rt, path, leases, watch);
+    let copies = copies_of(rt, reader, files.as_slice(), leases, all, watch)?;
+    watch.see(Work::Recovering, 0, all);
+    Ok(pages_in_copies(rt.alloc(), copies)?)
+}
+
 /// The pages of the store in a folder, which has to be there, and stays as it is; `None` where
-/// nothing was ever durable there. Other readers are no hindrance.
+/// nothing was ever durable there. Other readers are no hindrance. Where somebody writes it, they are
+/// those of one of its frames, as `bw_beside::open` has it.
 ///
 /// What recovery refuses is refused, a file above so many leases, and a folder without the file of
-/// any segment. It takes memory for a copy of all files, and the time of a recovery.
+/// any segment. It takes memory for a copy of all files, for two where somebody writes them, and the
+/// time of a recovery.
 pub fn pages_in<R: System, W: Watch>(
     rt: &R,
     path: &str,
     leases: u32,
     watch: &mut W,
 ) -> Result<Option<Leaves>, KeysFault> {
-    let (reader, files) = opened(rt, path)?;
-    let all = folder_bytes(rt, path, leases, watch);
-    let copies = copies_of(rt, &reader, files.as_slice(), leases, all, watch)?;
-    watch.see(Work::Recovering, 0, all);
-    Ok(pages_in_copies(rt.alloc(), copies)?)
+    match bw_beside::open(rt, path, watch) {
+        Ok(Opened::Alone(reader)) => pages_alone(rt, path, &reader, leases, watch),
+        Ok(Opened::Beside(stood)) => Ok(Some(stood.leaves)),
+        Err(fault) => Err(KeysFault::from(HomeFault::from(fault))),
+    }
 }
 
 /// Whether a folder was not opened since it is missing, or has no store.

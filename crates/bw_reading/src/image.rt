@@ -3,12 +3,15 @@
 //! Each pair is the key's length, the value's in two bytes, the lower first, the key and the value.
 //! Pairs stand in the order of their keys, one behind the other.
 
-ghost use Rattle.std.specs.Prelude.{◌≡◌, ◌++◌, [], drop, OnOk};
+ghost use Rattle.std.specs.Prelude.{◌≡◌, ◌++◌, [], ◌∷◌, drop, IfOk, OnOk};
+ghost use Rattle.bw_page.specs.Leaves.{union};
 ghost use Rattle.bw_reading.specs.Calls.{over, pair_bytes, key_at};
+ghost use Rattle.bw_reading.specs.Images.{image_bytes, end_at, AreAll, IsImage};
 
 use crate::answer::Fault;
-use bw_codec::{Key, Value};
+use bw_codec::{Key, Pair};
 use bw_page::Leaves;
+use bw_walks::share_stretch;
 use std::alloc::{AllocError, Global};
 
 /// An image that is being made, and how many pairs it has.
@@ -19,47 +22,21 @@ pub(crate) struct Image {
 }
 
 // The least key of all.
-fn least() -> Key {
+fn least() -> Key
+    ensures { result ≡ 0 ∷ [] }
+{
     match Key::new(&[0]) {
         Ok(key) => key,
         Err(_) => unreachable!(),
     }
 }
 
-// These bytes with the last of them greater by 1.
-fn raised(alloc: Global, front: &[u8]) -> Result<Option<Key>, AllocError> {
-    let mut next = Vec::from_slice(alloc, front)?;
-    if let Some(last) = next.pop() {
-        next.push(last.saturating_add(1))?;
-    }
-    Ok(Key::new(next.as_slice()).ok())
-}
-
-// The least key above this one: none lies between the two. None above the greatest.
-fn after(alloc: Global, key: &Key) -> Result<Option<Key>, AllocError> {
-    let bytes = key.as_slice();
-    if bytes.len() < 128 {
-        let mut next = Vec::from_slice(alloc, bytes)?;
-        next.push(0)?;
-        return Ok(Key::new(next.as_slice()).ok());
-    }
-    // No key is longer, so the last byte that can be raised is.
-    for back in 0..bytes.len() {
-        let len = bytes.len() - back;
-        if bytes[len - 1] < 255 {
-            return raised(alloc, &bytes[..len]);
-        }
-    }
-    Ok(None)
-}
-
 // Adds a pair to an image.
-fn add_pair(image: &mut Vec<u8>, key: &Key, value: &Value) -> Result<(), AllocError>
-    ensures { OnOk result (image.new.items
-        ≡ image.old.items ++ pair_bytes (key.now, value.now)) }
+fn add_pair(image: &mut Vec<u8>, pair: &Pair) -> Result<(), AllocError>
+    ensures { OnOk result (image.new.items ≡ image.old.items ++ pair_bytes pair.now) }
 {
-    let key = key.as_slice();
-    let value = value.as_slice();
+    let key = pair.key();
+    let value = pair.value();
     image.push(key.len() as u8)?;
     image.push((value.len() % 256) as u8)?;
     image.push((value.len() / 256) as u8)?;
@@ -68,33 +45,43 @@ fn add_pair(image: &mut Vec<u8>, key: &Key, value: &Value) -> Result<(), AllocEr
     Ok(())
 }
 
+// The image of these pairs.
+fn bytes_of(alloc: Global, pairs: &[Pair], room: usize) -> Result<Vec<u8>, AllocError>
+    ensures { IfOk result (λ image. image.items ≡ image_bytes pairs.now) }
+{
+    let mut image = Vec::with_capacity(alloc, room)?;
+    for pair in pairs {
+        add_pair(&mut image, pair)?;
+    }
+    Ok(image)
+}
+
+// All pairs of these pages, of which none is evicted, in the order of their keys.
+fn pairs_of(alloc: Global, leaves: &Leaves) -> Result<Vec<Pair>, Fault>
+    requires { leaves.now.evicted ≡ [] }
+    ensures { IfOk result (λ pairs. AreAll (union leaves.now.leaves) pairs.items) }
+{
+    let mut pairs = Vec::new(alloc);
+    share_stretch(leaves, &least(), usize::MAX, &mut pairs)?;
+    // No memory holds so many.
+    if pairs.len() == usize::MAX {
+        return Err(Fault::NoMemory);
+    }
+    Ok(pairs)
+}
+
 /// The image of all pairs of these pages, of which none is evicted.
 pub(crate) fn image_of(alloc: Global, leaves: &Leaves, room: usize) -> Result<Image, Fault>
     requires { leaves.now.evicted ≡ [] }
+    ensures { IfOk result
+        (λ image. IsImage (union leaves.now.leaves) image.bytes.items image.count) }
 {
-    let most = u64::from(leaves.count()) * 32;
-    let mut bytes = Vec::with_capacity(alloc, room)?;
-    let mut from = least();
-    for count in 0..most {
-        let Some((key, value)) = leaves.next_at(&from) else {
-            return Ok(Image { bytes, count });
-        };
-        add_pair(&mut bytes, &key, &value)?;
-        match after(alloc, &key)? {
-            Some(next) => from = next,
-            None => {
-                return Ok(Image {
-                    bytes,
-                    count: count + 1,
-                });
-            }
-        }
-    }
-    // There are no more pairs than pages have room for.
-    match leaves.next_at(&from) {
-        Some(_) => Err(Fault::Damaged),
-        None => Ok(Image { bytes, count: most }),
-    }
+    let pairs = pairs_of(alloc, leaves)?;
+    let bytes = bytes_of(alloc, pairs.as_slice(), room)?;
+    Ok(Image {
+        bytes,
+        count: pairs.len() as u64,
+    })
 }
 
 /// Writes as many of these bytes as there is room for.
@@ -123,12 +110,16 @@ pub(crate) fn key_of(image: &[u8], at: u64) -> &[u8]
     }
 }
 
-/// Where the pair ends that begins there, and the next one begins.
-pub(crate) fn end_of(image: &[u8], at: u64) -> u64 {
+/// Where the pair ends that begins there, and the next one begins; there, where none does.
+pub(crate) fn end_of(image: &[u8], at: u64) -> u64
+    ensures { result ≡ end_at image.now at }
+{
+    if at >= image.len() as u64 {
+        return at;
+    }
     match from_place(image, at) {
         [len, low, high, ..] => {
-            let size = 3 + u64::from(*len) + u64::from(*low) + 256 * u64::from(*high);
-            at.saturating_add(size)
+            at + (3 + u64::from(*len) + u64::from(*low) + 256 * u64::from(*high))
         }
         _ => at,
     }

@@ -7,18 +7,20 @@
 //! or above a key. These two take no memory, and read alone what C lends, so any number of threads
 //! may call. Nothing of Rattle's stays behind a call.
 //!
-//! What no clause says, and the tests of the program show: that the image has all pairs of the pages
-//! in the order of their keys, that the pages are those of the bytes that C handed in, and that the
-//! index is right. What an answer of `bw_first_at` means rests on keys that ascend.
+//! An image has all pairs of pages in the order of their keys, each once (`specs/Images.antt`), and
+//! its index goes from pair to pair by their lengths. What no clause says, and the tests of the program
+//! show: that the pages are those of the bytes that C handed in, and that the lengths in an image lead
+//! to where its pairs begin. What an answer of `bw_first_at` means rests on keys that ascend.
 //!
 //! `clients/c/hechdoram_read.c` has the part in C, and `include/hechdoram_read.h` the calls for a
 //! program.
 #![tactic(auto)]
 
-ghost use Rattle.std.specs.Prelude.{◌≡◌, ◌⊎◌, ◌≤◌, pos, length, true, false};
+ghost use Rattle.std.specs.Prelude.{◌≡◌, ◌⊎◌, ◌≤◌, pos, length, true, false, IfOk};
 ghost use Rattle.std.specs.List.Sorted.{IsPartitionedBy, IsPartitionPoint};
 ghost use Rattle.bw_reading.specs.Calls.{is_below_at};
 ghost use Rattle.bw_reading.specs.Answers.{IsRefusal};
+ghost use Rattle.bw_reading.specs.Images.{starts_from, IsImageOfPages, IsTold};
 
 mod answer;
 mod image;
@@ -37,7 +39,9 @@ fn image_in(
     sums: &[u8],
     parts: &[u64],
     room: usize,
-) -> Result<Image, Fault> {
+) -> Result<Image, Fault>
+    ensures { IfOk result (λ image. IsImageOfPages image.bytes.items image.count) }
+{
     let leaves = pages_in(alloc, bytes, sums, parts)?;
     image_of(alloc, &leaves, room)
 }
@@ -58,6 +62,7 @@ pub extern "C" fn bw_pairs_in(
     count: &mut u64,
 ) -> i32
     ensures told { (result ≡ pos 0) ⊎ IsRefusal result }
+    ensures written { result ≡ pos 0 → IsTold image.old image.new needed.new count.new }
     ensures image { IsRefusal result → image.new ≡ image.old }
     ensures needed { IsRefusal result → needed.new ≡ needed.old }
     ensures count { IsRefusal result → count.new ≡ count.old }
@@ -75,10 +80,12 @@ pub extern "C" fn bw_pairs_in(
 
 /// Notes where each pair of an image begins, as many as there is room for.
 #[unsafe(no_mangle)]
-pub extern "C" fn bw_index_of(image: &[u8], starts: &mut [u64]) {
+pub extern "C" fn bw_index_of(image: &[u8], starts: &mut [u64])
+    ensures { starts.new ≡ starts_from image.now (length starts.old) 0 }
+{
     let mut at = 0u64;
-    for start in starts {
-        *start = at;
+    for i in 0..starts.len() {
+        starts[i] = at;
         at = end_of(image, at);
     }
 }

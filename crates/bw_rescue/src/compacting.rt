@@ -3,9 +3,8 @@
 use crate::compared::{Wanted, leaves_of};
 use crate::copying::Copied;
 use crate::fault::RescueFault;
-use crate::judged::judge;
 use crate::load::load;
-use crate::reading::sound_images;
+use crate::reading::source;
 use crate::target::Target;
 use bw_codec::limits::HEADER_LEN;
 use bw_core::StoreFault;
@@ -35,10 +34,8 @@ pub fn compact<R: System, W: Watch>(
 ) -> Result<Copied, RescueFault> {
     with_room(options)?;
     let target = Target::of(rt, to)?;
-    let images = sound_images(rt, from, leases, watch)?;
-    let judged = judge(rt.alloc(), images.as_slice(), watch)?;
-    let leaves = leaves_of(rt.alloc(), &judged)?;
-    let pairs = pairs_of(rt.alloc(), leaves.as_slice())?;
+    let pages = source(rt, from, leases, watch)?.leaves;
+    let pairs = pairs_of(rt.alloc(), leaves_of(rt.alloc(), &pages)?.as_slice())?;
     let making = target.begin(rt)?;
     load(
         rt,

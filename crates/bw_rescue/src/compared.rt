@@ -16,10 +16,10 @@ pub(crate) enum Wanted<'a> {
 }
 
 /// The pages that were found.
-pub(crate) fn leaves_of(alloc: Global, judged: &Judged) -> Result<Vec<Leaf>, AllocError> {
+pub(crate) fn leaves_of(alloc: Global, pages: &Leaves) -> Result<Vec<Leaf>, AllocError> {
     let mut leaves = Vec::new(alloc);
-    for index in 0..judged.leaves.count() {
-        if let Some(leaf) = judged.leaves.page(index.saturating_add(1)) {
+    for index in 0..pages.count() {
+        if let Some(leaf) = pages.page(index.saturating_add(1)) {
             leaves.push(leaf.copy()?)?;
         }
     }
@@ -65,7 +65,7 @@ impl Wanted<'_> {
         match self {
             Wanted::Pages(leaves) => Ok(have_same_pages(leaves, &judged.leaves)),
             Wanted::Pairs(pairs) => {
-                let leaves = leaves_of(alloc, judged)?;
+                let leaves = leaves_of(alloc, &judged.leaves)?;
                 let found = pairs_of(alloc, leaves.as_slice())?;
                 Ok(are_same(pairs, found.as_slice()))
             }

@@ -2,8 +2,8 @@
 
 use crate::compared::Wanted;
 use crate::fault::RescueFault;
-use crate::judged::{Judged, judge};
-use crate::reading::sound_images;
+use crate::judged::Judged;
+use crate::reading::{Source, source};
 use crate::target::Target;
 use bw_codec::{HeaderRead, read_header};
 use bw_home::System;
@@ -47,8 +47,11 @@ fn live_of(images: Vec<Image>) -> Result<Vec<Image>, AllocError> {
 /// pieces. It opens as the store of that moment: its pages are compared with those of the other one
 /// before it gets its name. There are so many leases.
 ///
+/// The folder may be one that somebody writes: that moment is one of its frames then, as
+/// `bw_beside::open` has it.
+///
 /// Refused, and nothing is made: `Target` if the new folder is there already; `Source`, if the
-/// other one is locked for writing or damaged; `Recovery`, if it is no store. After `Partial`,
+/// other one is damaged, or somebody writes it and it was not read; `Recovery`, if it is no store. After `Partial`,
 /// `Unlike` and `Target` a part may stand under the name with `.partial` behind, which is no copy, and
 /// which the next one takes over.
 pub fn copy<R: System, W: Watch>(
@@ -59,10 +62,12 @@ pub fn copy<R: System, W: Watch>(
     watch: &mut W,
 ) -> Result<Copied, RescueFault> {
     let target = Target::of(rt, to)?;
-    let images = sound_images(rt, from, leases, watch)?;
-    let judged = judge(rt.alloc(), images.as_slice(), watch)?;
+    let Source {
+        images,
+        leaves: pages,
+    } = source(rt, from, leases, watch)?;
     let live = live_of(images)?;
     let making = target.begin(rt)?;
     making.write(rt, live.as_slice(), watch)?;
-    making.end(rt, leases, Wanted::Pages(&judged.leaves), watch)
+    making.end(rt, leases, Wanted::Pages(&pages), watch)
 }

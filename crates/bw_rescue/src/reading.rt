@@ -1,9 +1,12 @@
 //! The segments of a folder that is read, as bytes.
 
 use crate::fault::RescueFault;
+use crate::judged::judge;
+use bw_beside::{Opened, open};
 use bw_file::{FolderFault, FolderReader};
 use bw_home::System;
 use bw_look::Image;
+use bw_page::Leaves;
 use bw_watch::{Watch, Work, folder_bytes};
 
 /// The lease again, where it is below the number of leases.
@@ -15,15 +18,15 @@ pub(crate) fn allowed(lease: u32, leases: u32) -> Result<u32, RescueFault> {
     }
 }
 
-/// The segments of a folder, by their leases, of which there are so many. Refused where the bytes of
-/// one do not fit their digests.
-pub(crate) fn sound_images<R: System, W: Watch>(
+/// The segments of a folder that is open, by their leases, of which there are so many. Refused where
+/// the bytes of one do not fit their digests.
+fn images_of<R: System, W: Watch>(
     rt: &R,
     path: &str,
+    reader: &FolderReader,
     leases: u32,
     watch: &mut W,
 ) -> Result<Vec<Image>, RescueFault> {
-    let reader = FolderReader::open(rt, path)?;
     let all = folder_bytes(rt, path, leases, watch);
     let mut images = Vec::new(rt.alloc());
     let mut done = 0u64;
@@ -38,6 +41,46 @@ pub(crate) fn sound_images<R: System, W: Watch>(
         watch.see(Work::Reading, done, all);
     }
     Ok(images)
+}
+
+/// The same of a folder in which nobody writes.
+pub(crate) fn sound_images<R: System, W: Watch>(
+    rt: &R,
+    path: &str,
+    leases: u32,
+    watch: &mut W,
+) -> Result<Vec<Image>, RescueFault> {
+    let reader = FolderReader::open(rt, path)?;
+    images_of(rt, path, &reader, leases, watch)
+}
+
+/// The segments of a folder, and the pages that they hold.
+#[derive(Drop)]
+pub(crate) struct Source {
+    pub(crate) images: Vec<Image>,
+    pub(crate) leaves: Leaves,
+}
+
+/// The segments of a folder, by their leases, and their pages; as they stood at one of its frames,
+/// where somebody writes it.
+pub(crate) fn source<R: System, W: Watch>(
+    rt: &R,
+    path: &str,
+    leases: u32,
+    watch: &mut W,
+) -> Result<Source, RescueFault> {
+    let reader = match open(rt, path, watch)? {
+        Opened::Alone(reader) => reader,
+        Opened::Beside(stood) => {
+            return Ok(Source {
+                images: stood.images,
+                leaves: stood.leaves,
+            });
+        }
+    };
+    let images = images_of(rt, path, &reader, leases, watch)?;
+    let leaves = judge(rt.alloc(), images.as_slice(), watch)?.leaves;
+    Ok(Source { images, leaves })
 }
 
 /// A segment as it was read, be it damaged or not.

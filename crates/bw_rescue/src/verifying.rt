@@ -1,8 +1,9 @@
 //! A folder is verified: its digests first, and then by recovery.
 
 use crate::fault::RescueFault;
-use crate::judged::judge;
+use crate::judged::{bytes_of, judge};
 use crate::reading::allowed;
+use bw_beside::{Opened, Stood, open};
 use bw_codec::limits::HEADER_LEN;
 use bw_codec::{HeaderRead, read_header};
 use bw_file::{FolderFault, FolderReader};
@@ -124,14 +125,14 @@ impl Walk {
     }
 }
 
-/// Reads all files of a folder, of which there are so many at most.
+/// Reads all files of a folder that is open, of which there are so many at most.
 fn walked<R: System, W: Watch>(
     rt: &R,
     path: &str,
+    reader: &FolderReader,
     leases: u32,
     watch: &mut W,
 ) -> Result<Walk, RescueFault> {
-    let reader = FolderReader::open(rt, path)?;
     let all = folder_bytes(rt, path, leases, watch);
     let mut walk = Walk {
         images: Vec::new(rt.alloc()),
@@ -140,14 +141,30 @@ fn walked<R: System, W: Watch>(
         unsummed: 0,
     };
     for lease in &reader.leases(rt)? {
-        walk.look(rt, &reader, allowed(*lease, leases)?)?;
+        walk.look(rt, reader, allowed(*lease, leases)?)?;
         watch.see(Work::Reading, walk.bytes, all);
     }
     Ok(walk)
 }
 
+/// What a folder has that somebody writes, at one of its frames.
+fn verified_beside(stood: &Stood) -> Verified {
+    let live = stood.images.as_slice().iter().filter(|image| {
+        matches!(read_header(image.bytes.as_slice()), HeaderRead::Whole(_))
+    });
+    Verified {
+        segments: live.count() as u64,
+        frames: stood.last.saturating_sub(stood.first).saturating_add(1),
+        bytes: bytes_of(stood.images.as_slice()),
+        unsummed: stood.unsummed,
+    }
+}
+
 /// Verifies a folder, which is not changed: each file by its digests, and then frame by frame; and
 /// where none has a fault all of them by recovery. There are so many leases.
+///
+/// Where somebody writes it, that is told of one of its frames, as `bw_beside::open` has it; a fault
+/// is not told then, but that it is in use.
 ///
 /// `Source` where the folder, or a file of it, cannot be read; `Recovery` where each file is whole
 /// and all of them are no store, as where one is missing.
@@ -157,7 +174,11 @@ pub fn verify<R: System, W: Watch>(
     leases: u32,
     watch: &mut W,
 ) -> Result<Verdict, RescueFault> {
-    let walk = walked(rt, path, leases, watch)?;
+    let reader = match open(rt, path, watch)? {
+        Opened::Alone(reader) => reader,
+        Opened::Beside(stood) => return Ok(Verdict::Whole(verified_beside(&stood))),
+    };
+    let walk = walked(rt, path, &reader, leases, watch)?;
     if !walk.hurts.is_empty() {
         return Ok(Verdict::Hurt(walk.hurts));
     }

@@ -1,5 +1,6 @@
 //! Segments that are looked at, as bytes: the files of a folder, or lines in hex. None is changed.
 
+use bw_beside::{Opened, open};
 use bw_codec::limits::{HEADER_LEN, MAX_FRAME};
 use bw_device::{Desk, MAX_LEASES, MemSegment};
 use bw_file::FolderReader;
@@ -17,14 +18,14 @@ const LONGEST: u32 = 2_097_152;
 /// The least capacity of a copy, in bytes: a header and the longest frame.
 pub const LEAST: u64 = HEADER_LEN as u64 + MAX_FRAME as u64;
 
-/// The segments of a folder, by their leases. One whose bytes do not fit the sums beside it is
-/// refused.
-pub fn images_in<R: System, W: Watch>(
+/// The segments of a folder that is open, by their leases. One whose bytes do not fit the sums beside
+/// it is refused.
+fn images_under<R: System, W: Watch>(
     rt: &R,
     path: &str,
+    reader: &FolderReader,
     watch: &mut W,
 ) -> Result<Vec<Image>, Miss> {
-    let reader = FolderReader::open(rt, path)?;
     let all = folder_bytes(rt, path, MAX_LEASES, watch);
     let leases = reader.leases(rt)?;
     let mut images = Vec::new(rt.alloc());
@@ -39,6 +40,24 @@ pub fn images_in<R: System, W: Watch>(
         watch.see(Work::Reading, done, all);
     }
     Ok(images)
+}
+
+/// The same of a folder in which nobody writes.
+fn images_in<R: System, W: Watch>(rt: &R, path: &str, watch: &mut W) -> Result<Vec<Image>, Miss> {
+    let reader = FolderReader::open(rt, path)?;
+    images_under(rt, path, &reader, watch)
+}
+
+/// The same of a folder, as they stood at one of its frames where somebody writes it.
+pub fn images_stood<R: System, W: Watch>(
+    rt: &R,
+    path: &str,
+    watch: &mut W,
+) -> Result<Vec<Image>, Miss> {
+    match open(rt, path, watch)? {
+        Opened::Alone(reader) => images_under(rt, path, &reader, watch),
+        Opened::Beside(stood) => Ok(stood.images),
+    }
 }
 
 /// The bytes that a line stands for. The first fault in the order of the list is told.

@@ -1,7 +1,8 @@
 //! `bwlog print`, `stats` and `picture`: what segments hold, for people. Each reads the segments of a
-//! folder, or lines in hex, and changes none of them.
+//! folder, or lines in hex, and changes none of them. `print` shows them as they lie, so nobody may
+//! write them meanwhile; the others show those of one moment.
 
-use crate::images::{bytes_in, images};
+use crate::images::{bytes_in, images, images_stood};
 use crate::judged::{Judged, judge};
 use crate::numbers::write_numbers;
 use bw_care::RecoverCause;
@@ -9,7 +10,7 @@ use bw_codec::Leaf;
 use bw_look::{Counts, Image, Printer, Scene, Survey, write_counts, write_image, write_picture};
 use bw_page::Leaves;
 use bw_watch::{Watch, Work};
-use bw_words::{Met, Refusal, Stop, System, View, missed, refuse};
+use bw_words::{Met, Miss, Refusal, Stop, System, View, missed, refuse};
 use std::alloc::{AllocError, Global};
 use std::io::{Read, Write};
 
@@ -163,6 +164,22 @@ fn draw_images<O: Write>(
     Ok(Met::NOTHING)
 }
 
+/// The segments that are shown in this view, or the line that is none, and why.
+fn shown<R: System, I: Read, W: Watch>(
+    rt: &R,
+    view: View,
+    dir: Option<&str>,
+    input: &mut I,
+    watch: &mut W,
+) -> Result<Vec<Image>, (u64, Miss)> {
+    match dir {
+        Some(path) if !matches!(view, View::Print) => {
+            images_stood(rt, path, watch).map_err(|miss| (0, miss))
+        }
+        _ => images(rt, dir, input, watch),
+    }
+}
+
 /// Shows segments in this view.
 pub fn look<R: System, I: Read, O: Write, W: Watch>(
     rt: &R,
@@ -172,7 +189,7 @@ pub fn look<R: System, I: Read, O: Write, W: Watch>(
     output: &mut O,
     watch: &mut W,
 ) -> Result<Met, Stop> {
-    let images = match images(rt, dir, input, watch) {
+    let images = match shown(rt, view, dir, input, watch) {
         Ok(images) => images,
         Err((number, miss)) => return missed(output, number, miss),
     };

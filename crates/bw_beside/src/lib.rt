@@ -1,0 +1,20 @@
+//! A folder is read, also beside somebody who writes it: what is read stood there at one of its frames.
+//!
+//! `open` takes the lock beside other readers where nobody writes. Where somebody does, the files are
+//! read as they stand (`standing`), in an order by which no segment is missing unseen (`Row`), and
+//! recovery says whether they are those of one moment. If it refuses them, or a file became another
+//! one meanwhile, they are read once more. Why that is enough stands in `docs/FORMAT.md`, "A folder
+//! that is read while it is written". Nothing in the folder is made or written.
+#![tactic(auto)]
+
+mod files;
+mod found;
+mod host;
+mod miss;
+mod opened;
+mod row;
+mod standing;
+
+pub use host::Host;
+pub use opened::{Opened, open};
+pub use standing::Stood;

@@ -1,0 +1,45 @@
+//! A folder is opened to be read.
+
+use crate::host::Host;
+use crate::miss::Miss;
+use crate::standing::{Stood, standing};
+use bw_file::{FolderFault, FolderReader};
+use bw_watch::Watch;
+
+/// How often a folder that somebody writes is read at most.
+const TRIES: u32 = 10;
+
+/// A folder that is open to be read.
+#[derive(Drop)]
+pub enum Opened {
+    /// Nobody writes it as long as this stands.
+    Alone(FolderReader),
+    /// Somebody writes it. What was read of it stood there at a frame.
+    Beside(Stood),
+}
+
+/// Opens the folder of this path, which has to be there, beside other readers; where somebody writes
+/// it, reads it as it stands, up to ten times. Nothing in it is changed, and no writer is kept out in
+/// that case.
+///
+/// Of a folder that somebody writes, what is answered stood there at a frame that was the last when
+/// this began, or a later one. It may be one that is not durable yet.
+///
+/// `InUse` where somebody writes it, and none of ten readings gave that: as where nothing was ever
+/// durable there, it is damaged, or it is written faster than it is read. Else it is refused as
+/// `FolderReader::open` is.
+pub fn open<R: Host, W: Watch>(rt: &R, path: &str, watch: &mut W) -> Result<Opened, FolderFault> {
+    for _ in 0..TRIES {
+        match FolderReader::open(rt, path) {
+            Ok(reader) => return Ok(Opened::Alone(reader)),
+            Err(FolderFault::InUse) => {}
+            Err(fault) => return Err(fault),
+        }
+        match standing(rt, path, watch) {
+            Ok(stood) => return Ok(Opened::Beside(stood)),
+            Err(Miss::NoMemory) => return Err(FolderFault::NoMemory),
+            Err(Miss::Moved) => {}
+        }
+    }
+    Err(FolderFault::InUse)
+}

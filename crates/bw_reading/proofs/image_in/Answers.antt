@@ -1,0 +1,9 @@
+use Rattle.std.proofs.lemmas.Result.{IfOk-weaker}
+use Rattle.bw_page.specs.Leaves.{union}
+use Rattle.bw_reading.specs.Images.{IsImage, IsImageOfPages}
+use Rattle.bw_reading.proofs.image_in.Goals as goal
+
+pub returns : goal.returns
+returns c =
+    IfOk-weaker c.image_of.result (λ image. IsImage (union c.in_ok-leaves.leaves.leaves) image.bytes.items image.count)
+    (λ image. IsImageOfPages image.bytes.items image.count) (λ image is. record { pages = c.in_ok-leaves.leaves.leaves; its = is }) c.image_of.ensures
