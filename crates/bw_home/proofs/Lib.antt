@@ -1,3 +1,4 @@
 pub mod Readings
 pub mod Maps
+pub mod Cuts
 mod Reasons

@@ -52,7 +52,7 @@ all_taken es feeds one exactly writers =
     let first : of_writer 0 es ≡ first_of feeds = ap (λ (l : List (List Marked)). slice_index_or l 0 []) only in
     ap items (sym first) ∙ of_only es (subst (λ n. All (λ e. e.writer < n) es) one writers)
 
-set_first : (lists : List (List Marked)) (ms : List Marked) → length lists ≡ 1 → slice_index_or (slice_set lists 0 ms) 0 [] ≡ ms
+pub set_first : (lists : List (List Marked)) (ms : List Marked) → length lists ≡ 1 → slice_index_or (slice_set lists 0 ms) 0 [] ≡ ms
 set_first [] ms one = absurd (omega arith)
 set_first (l ∷ lists) ms one = refl
 

@@ -7,7 +7,7 @@ use Rattle.std.specs.declared.vec.Vec.{Vec}
 use Rattle.bw_device.specs.Holding.{Holding}
 use Rattle.bw_ring.specs.Ends.{ring_of_feed}
 use Rattle.bw_ring.specs.declared.feed.Feed.{Feed}
-use Rattle.bw_store.specs.Kept.{IsSound}
+use Rattle.bw_store.specs.Kept.{IsSound, Kept}
 use Rattle.bw_store.specs.Views.{kept_beside}
 use Rattle.bw_store.specs.declared.store.Store.{Store}
 use Rattle.bw_home.specs.declared.shared.SharedHome.{SharedHome}
@@ -23,3 +23,7 @@ module _ {I : Type 0} {H : I → Type 0} where
 
   abbrev pub IsShared : SharedHome I H → ((i : I) × H i → Holding) → Type 0
   IsShared h v = IsSharedBeside h (λ b. v (b.vtable, b.value))
+
+  -- what the store in a home with readers keeps
+  abbrev pub shared_in : SharedHome I H → ((i : I) × H i → Holding) → Kept
+  shared_in h v = kept_beside h.store (λ b. v (b.vtable, b.value))

@@ -24,25 +24,30 @@ impl From<HomeFault> for NotBegun {
     }
 }
 
-/// A new store where all boxes are new, with what was found before; and else the one that they
-/// hold. Where they have the beginning of a first frame alone, that is cleared.
+/// A new store if all boxes are new, with what was found before; and else the one that they hold. If
+/// they have only the beginning of a first frame, that is cleared. Nothing is written before the
+/// boxes are known to hold a store, or nothing.
 pub(crate) fn begin<R: System>(
     rt: &R,
     options: &Options,
     boxes: Vec<Box<dyn Segment>>,
     are_new: bool,
-    site: Site,
+    mut site: Site,
     found: Option<Found>,
 ) -> Result<Home, NotBegun>
     requires { Unit {0} }
     ensures { IfOk result (λ home. IsReadyBeside home holding) }
 {
+    let count = boxes.len();
     if are_new {
+        site.settle(rt, count)?;
         return Ok(Home::open(rt, options, boxes, site, found)?);
     }
-    let count = boxes.len();
     match recover(rt.alloc(), boxes) {
-        Ok(found) => Ok(Home::reopen(rt, options, found, site)?),
+        Ok(found) => {
+            site.settle(rt, count)?;
+            Ok(Home::reopen(rt, options, found, site)?)
+        }
         Err(fault) => {
             let cleared = clear(rt, &site, fault, count)?;
             Err(NotBegun::Cleared(cleared))

@@ -24,6 +24,7 @@ fn refusal_of(added: Result<(), (Box<dyn Segment>, StoreFault)>) -> Option<Store
 
 impl Home {
     ghost use Rattle.bw_core.specs.Views.{noted_of};
+    ghost use Rattle.bw_home.specs.Maps.{StaysMap};
     ghost use Rattle.bw_home.specs.Ready.{kept_in, IsReady, IsReadyBeside};
 
     /// Gives up the oldest segment, and empties its file. A new segment over a file without bytes
@@ -42,6 +43,7 @@ impl Home {
             (kept_in self.new holding) (noted_of self.new.store) }
         ensures each_cut { EachCutStands (kept_in self.new holding) }
         ensures follows { Continues (kept_in self.old holding) (kept_in self.new holding) }
+        ensures stays { StaysMap self.old self.new holding }
     {
         self.stock.renew(rt)?;
         let cleaned = self.give_up(rt)?;
@@ -64,6 +66,7 @@ impl Home {
             (kept_in self.new holding) (noted_of self.new.store) }
         ensures each_cut { EachCutStands (kept_in self.new holding) }
         ensures follows { Continues (kept_in self.old holding) (kept_in self.new holding) }
+        ensures stays { StaysMap self.old self.new holding }
     {
         self.stock.empty(rt)?;
         let cleaned = self.store.clean()?;
@@ -82,6 +85,7 @@ impl Home {
         ensures same { kept_in self.new holding ≡ kept_in self.old holding }
         ensures noted { noted_of self.new.store ≡ noted_of self.old.store }
         ensures refused { IfErr result IsOfSite }
+        ensures stays { StaysMap self.old self.new holding }
     {
         self.stock.empty(rt)
     }
@@ -98,6 +102,7 @@ impl Home {
         ensures same { kept_in self.new holding ≡ kept_in self.old holding }
         ensures noted { noted_of self.new.store ≡ noted_of self.old.store }
         ensures refused { IfErr result IsOfSite }
+        ensures stays { StaysMap self.old self.new holding }
     {
         self.stock.make_spare(rt)
     }
@@ -130,6 +135,7 @@ impl Home {
         ensures feeds { self.new.feeds ≡ self.old.feeds }
         ensures same { kept_in self.new holding ≡ kept_in self.old holding }
         ensures noted { noted_of self.new.store ≡ noted_of self.old.store }
+        ensures stays { StaysMap self.old self.new holding }
     {
         self.stock.leases(*self.feeds.allocator())
     }
@@ -143,6 +149,7 @@ impl Home {
         ensures feeds { self.new.feeds ≡ self.old.feeds }
         ensures same { kept_in self.new holding ≡ kept_in self.old holding }
         ensures noted { noted_of self.new.store ≡ noted_of self.old.store }
+        ensures stays { StaysMap self.old self.new holding }
     {
         let live = self.live_leases()?;
         self.stock.row(*self.feeds.allocator(), live)
@@ -157,6 +164,7 @@ impl Home {
         ensures feeds { self.new.feeds ≡ self.old.feeds }
         ensures same { kept_in self.new holding ≡ kept_in self.old holding }
         ensures noted { noted_of self.new.store ≡ noted_of self.old.store }
+        ensures stays { StaysMap self.old self.new holding }
     {
         self.stock.empty_row(rt, row)
     }

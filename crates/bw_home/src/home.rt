@@ -1,10 +1,11 @@
 //! A store with the feeds of its writers, and where its segments stand.
 
-ghost use Rattle.std.specs.Prelude.{◌≡◌, ◌<◌, ◌≤◌, Some, Err, true, length, map, slice_get, IfSome, IfOk, IfErr, OnOk, OnErr, MatchResult};
+ghost use Rattle.std.specs.Prelude.{◌≡◌, ◌<◌, ◌≤◌, Some, Err, false, true, length, map, slice_get, IfSome, IfOk, IfErr, OnOk, OnErr, MatchResult};
 ghost use Rattle.std.specs.FinMap as finite;
 ghost use Rattle.bw_page.specs.Ahead.{IsFirst, IsStretch};
-ghost use Rattle.bw_page.specs.Leaves.{plain};
+ghost use Rattle.bw_page.specs.Leaves.{home, plain};
 ghost use Rattle.bw_ring.specs.Ends.{accepted, ring_of_feed};
+ghost use Rattle.bw_log.specs.Reads.{HoldsPage};
 ghost use Rattle.bw_care.specs.Found.{IsRecovered};
 ghost use Rattle.bw_history.specs.Entries.{records};
 ghost use Rattle.bw_history.specs.Lanes.{AreDry};
@@ -13,9 +14,10 @@ ghost use Rattle.bw_walks.specs.Back.{IsLast, IsLastBelow};
 ghost use Rattle.bw_core.specs.Faults.{FlushAnswers, FlushLeaves, flush_refusal};
 ghost use Rattle.bw_core.specs.Following.{Follows, HasBoxes, RefusedAfter, TookInTurn, Turned, groups_since};
 ghost use Rattle.bw_core.specs.Goal.{Goal, SameFeeds, Sequel};
+ghost use Rattle.bw_core.specs.Heard.{IsOfFeeds};
 ghost use Rattle.bw_core.specs.Kept.{EachCutStands};
 ghost use Rattle.bw_core.specs.Machine.{machine_of, MayBeStopped};
-ghost use Rattle.bw_core.specs.Reading.{HasRead};
+ghost use Rattle.bw_core.specs.Reading.{HasRead, ReadLeaves, leaves_now};
 ghost use Rattle.bw_core.specs.Settled.{IsSettled};
 ghost use Rattle.bw_core.specs.Settling.{SettleRefuses};
 ghost use Rattle.bw_home.specs.Putting.{Added, AddedGroup};
@@ -67,7 +69,9 @@ fn first_of(group: Group) -> Record
 }
 
 impl Home {
-    ghost use Rattle.bw_core.specs.Views.{away_in, kept_by, lanes_of, noted_of, IsSound};
+    ghost use Rattle.bw_core.specs.Looking.{Walks};
+    ghost use Rattle.bw_core.specs.Views.{away_in, is_evicted, kept_by, lanes_of, noted_of, IsSound};
+    ghost use Rattle.bw_home.specs.Maps.{StaysMap};
     ghost use Rattle.bw_home.specs.Ready.{kept_in, IsReady, IsReadyBeside};
 
     // A store and its feeds, over a site of which new segments have this capacity.
@@ -265,6 +269,7 @@ impl Home {
             (λ _. Stops (machine_of (kept_in self.old holding))
             (machine_of (kept_in self.new holding))) }
         ensures may_leave { MayBeStopped (kept_in self.new holding) }
+        ensures stays { StaysMap self.old self.new holding }
     {
         self.store.flush()
     }
@@ -286,9 +291,11 @@ impl Home {
             (machine_of (kept_in self.new holding)))
             (λ _. TakesAndStops (machine_of (kept_in self.old holding))
             (machine_of (kept_in self.new holding))) }
+        ensures heard { IsOfFeeds self.new.feeds.items (kept_in self.new holding).entries }
         ensures feeds { SameFeeds self.old.feeds.items self.new.feeds.items }
         ensures sequel { Sequel (kept_in self.old holding) (kept_in self.new holding)
             (noted_of self.old.store) (noted_of self.new.store) }
+        ensures stays { StaysMap self.old self.new holding }
     {
         self.store.settle(&mut self.feeds)
     }
@@ -301,9 +308,15 @@ impl Home {
         ensures value { IfOk result (λ value. value
             ≡ finite.get (plain (kept_in self.old holding).start
             (records (kept_in self.old holding).entries)) key.now) }
+        ensures leaves { ReadLeaves (HoldsPage (kept_in self.old holding).log
+            (home key.now (leaves_now (kept_in self.old holding))).page)
+            (kept_in self.old holding) result (kept_in self.new holding) }
+        ensures memory { is_evicted (home key.now (leaves_now (kept_in self.old holding))).page
+            self.old.store ≡ false → IfErr result (λ fault. fault ≡ StoreFault.NoMemory) }
         ensures read { HasRead (kept_in self.old holding) (kept_in self.new holding) }
         ensures follows { Follows (kept_in self.old holding) (kept_in self.new holding) }
         ensures boxes { HasBoxes (kept_in self.old holding) (kept_in self.new holding) }
+        ensures stays { StaysMap self.old self.new holding }
     {
         self.store.get(key)
     }
@@ -316,9 +329,11 @@ impl Home {
         ensures feeds { self.new.feeds ≡ self.old.feeds }
         ensures value { IfOk result (λ pair. IsFirst (plain (kept_in self.old holding).start
             (records (kept_in self.old holding).entries)) key.now pair) }
+        ensures walks { Walks self.old.store result self.new.store holding }
         ensures read { HasRead (kept_in self.old holding) (kept_in self.new holding) }
         ensures follows { Follows (kept_in self.old holding) (kept_in self.new holding) }
         ensures boxes { HasBoxes (kept_in self.old holding) (kept_in self.new holding) }
+        ensures stays { StaysMap self.old self.new holding }
     {
         self.store.next_at(key)
     }
@@ -331,9 +346,11 @@ impl Home {
         ensures feeds { self.new.feeds ≡ self.old.feeds }
         ensures value { IfOk result (λ pair. IsLast (plain (kept_in self.old holding).start
             (records (kept_in self.old holding).entries)) key.now pair) }
+        ensures walks { Walks self.old.store result self.new.store holding }
         ensures read { HasRead (kept_in self.old holding) (kept_in self.new holding) }
         ensures follows { Follows (kept_in self.old holding) (kept_in self.new holding) }
         ensures boxes { HasBoxes (kept_in self.old holding) (kept_in self.new holding) }
+        ensures stays { StaysMap self.old self.new holding }
     {
         self.store.prev_at(key)
     }
@@ -345,9 +362,11 @@ impl Home {
         ensures feeds { self.new.feeds ≡ self.old.feeds }
         ensures value { IfOk result (λ pair. IsLastBelow (plain (kept_in self.old holding).start
             (records (kept_in self.old holding).entries)) key.now pair) }
+        ensures walks { Walks self.old.store result self.new.store holding }
         ensures read { HasRead (kept_in self.old holding) (kept_in self.new holding) }
         ensures follows { Follows (kept_in self.old holding) (kept_in self.new holding) }
         ensures boxes { HasBoxes (kept_in self.old holding) (kept_in self.new holding) }
+        ensures stays { StaysMap self.old self.new holding }
     {
         self.store.prev_below(key)
     }
@@ -365,9 +384,11 @@ impl Home {
         ensures feeds { self.new.feeds ≡ self.old.feeds }
         ensures value { OnOk result (IsStretch (plain (kept_in self.old holding).start
             (records (kept_in self.old holding).entries)) key.now most found.new.items) }
+        ensures walks { Walks self.old.store result self.new.store holding }
         ensures read { HasRead (kept_in self.old holding) (kept_in self.new holding) }
         ensures follows { Follows (kept_in self.old holding) (kept_in self.new holding) }
         ensures boxes { HasBoxes (kept_in self.old holding) (kept_in self.new holding) }
+        ensures stays { StaysMap self.old self.new holding }
     {
         self.store.scan(key, most, found)
     }
@@ -385,9 +406,11 @@ impl Home {
         ensures feeds { self.new.feeds ≡ self.old.feeds }
         ensures value { OnOk result (IsStretch (plain (kept_in self.old holding).start
             (records (kept_in self.old holding).entries)) key.now most found.new.items) }
+        ensures walks { Walks self.old.store result self.new.store holding }
         ensures read { HasRead (kept_in self.old holding) (kept_in self.new holding) }
         ensures follows { Follows (kept_in self.old holding) (kept_in self.new holding) }
         ensures boxes { HasBoxes (kept_in self.old holding) (kept_in self.new holding) }
+        ensures stays { StaysMap self.old self.new holding }
     {
         self.store.scan_shared(key, most, found)
     }

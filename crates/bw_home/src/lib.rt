@@ -8,7 +8,8 @@
 //! store, its feeds, and where its segments stand. The store is sound and the rings are those of
 //! the feeds (`specs/Ready.antt`), and the course has to leave them so: each call of `Home` does.
 //! With one writer a home is a map: `set`, `delete`, `get`, `next_at`, `scan`, and `keep`, which makes
-//! it durable (`specs/Maps.antt`).
+//! it durable (`specs/Maps.antt`). A stop leaves one of its *cuts*: the map that is kept, or one that
+//! a later group made; and the next opening begins with it (`specs/Cuts.antt`, `specs/Laws.antt`).
 #![tactic(auto)]
 
 mod begun;
@@ -16,6 +17,7 @@ mod cleaning;
 mod course;
 mod fault;
 mod home;
+mod laws;
 mod map;
 mod opened;
 mod options;
@@ -27,6 +29,7 @@ pub use bw_site::{Added, Found, HomeFault, System};
 pub use course::{Course, Legs};
 pub use fault::{GroupNotPut, MapFault, NotPut};
 pub use home::Home;
+pub use laws::{a_map_goes_on, a_stop_leaves_a_cut};
 pub use opened::{with_store, with_store_at, with_store_in_legs, with_store_in_memory};
 pub use options::Options;
 pub use segments::with_segments;

@@ -1,6 +1,6 @@
 //! A home with one writer as a map: what is set is seen at once, and kept by `keep`.
 
-ghost use Rattle.std.specs.Prelude.{◌≡◌, ◌↔◌, ◌<◌, length, map, IfErr, IfOk, IsErrOf, MatchResult, OnOk};
+ghost use Rattle.std.specs.Prelude.{◌≡◌, ◌↔◌, ◌<◌, length, map, IfErr, IfOk, IfSome, IsErrOf, MatchResult, OnErr, OnOk};
 ghost use Rattle.std.specs.FinMap as finite;
 ghost use Rattle.std.specs.List.{fold, AllByRecursion};
 ghost use Rattle.bw_leaf.specs.Changed.{changed_map};
@@ -9,19 +9,22 @@ ghost use Rattle.bw_history.specs.History.{streams};
 ghost use Rattle.bw_history.specs.Machine.{TakesAndStops, TakesMany};
 ghost use Rattle.bw_core.specs.Following.{Follows, groups_since, RefusedAt};
 ghost use Rattle.bw_core.specs.Goal.{SameFeeds, Sequel};
+ghost use Rattle.bw_core.specs.Heard.{IsOfFeeds};
 ghost use Rattle.bw_core.specs.Machine.{machine_of};
+ghost use Rattle.bw_home.specs.Cuts.{ChangedCuts};
 ghost use Rattle.bw_home.specs.Maps.{Has, Keeps, Refuses};
-ghost use Rattle.bw_home.specs.Reasons.{IsReason};
+ghost use Rattle.bw_home.specs.Putting.{AddedGroup};
+ghost use Rattle.bw_home.specs.Reasons.{IsReason, IsWaitRefused};
 
-use crate::fault::{GroupNotPut, MapFault};
+use crate::fault::MapFault;
 use crate::home::Home;
 use bw_codec::{Key, Record, Value};
 use bw_core::StoreFault;
-use bw_ring::Group;
+use bw_ring::{FullGroup, Group};
 
 impl Home {
     ghost use Rattle.bw_core.specs.Views.{away_in, lanes_of, noted_of};
-    ghost use Rattle.bw_home.specs.Maps.{maps_of};
+    ghost use Rattle.bw_home.specs.Maps.{maps_of, IsMapBy, StaysMap};
     ghost use Rattle.bw_home.specs.Ready.{kept_in, IsReady};
 
     /// Takes all that was put into the pages; answers how many records were taken since the store
@@ -43,9 +46,11 @@ impl Home {
             (machine_of (kept_in self.old holding)) (machine_of (kept_in self.new holding)))
             (λ _. TakesAndStops (machine_of (kept_in self.old holding))
             (machine_of (kept_in self.new holding))) }
+        ensures heard { IsOfFeeds self.new.feeds.items (kept_in self.new holding).entries }
         ensures feeds { SameFeeds self.old.feeds.items self.new.feeds.items }
         ensures sequel { Sequel (kept_in self.old holding) (kept_in self.new holding)
             (noted_of self.old.store) (noted_of self.new.store) }
+        ensures stays { StaysMap self.old self.new holding }
     {
         self.store.take_all(&mut self.feeds)
     }
@@ -65,6 +70,11 @@ impl Home {
             (maps_of self.new holding)) }
         ensures refused { IfErr result (λ fault. Refuses fault (maps_of self.old holding).put
             (finite.insert (maps_of self.old holding).put key value) (maps_of self.new holding)) }
+        ensures map { IsMapBy self.old holding → IsMapBy self.new holding }
+        ensures cuts { IsMapBy self.old holding → ChangedCuts result
+            (maps_of self.old holding).cuts
+            (finite.insert (maps_of self.old holding).put key value)
+            (maps_of self.new holding).cuts }
         ensures writers { IsErrOf result MapFault.Writers
             ↔ (length self.old.feeds.items ≡ 1 → ⊥) }
         ensures reason { IfErr result (λ fault. IsReason fault (kept_in self.old holding)
@@ -82,6 +92,11 @@ impl Home {
             (Has (finite.remove (maps_of self.old holding).put key) (maps_of self.new holding)) }
         ensures refused { IfErr result (λ fault. Refuses fault (maps_of self.old holding).put
             (finite.remove (maps_of self.old holding).put key) (maps_of self.new holding)) }
+        ensures map { IsMapBy self.old holding → IsMapBy self.new holding }
+        ensures cuts { IsMapBy self.old holding → ChangedCuts result
+            (maps_of self.old holding).cuts
+            (finite.remove (maps_of self.old holding).put key)
+            (maps_of self.new holding).cuts }
         ensures writers { IsErrOf result MapFault.Writers
             ↔ (length self.old.feeds.items ≡ 1 → ⊥) }
         ensures reason { IfErr result (λ fault. IsReason fault (kept_in self.old holding)
@@ -101,21 +116,55 @@ impl Home {
             (maps_of self.new holding)) }
         ensures refused { IfErr result (λ fault. Refuses fault (maps_of self.old holding).put
             (fold changed_map (maps_of self.old holding).put group) (maps_of self.new holding)) }
+        ensures map { IsMapBy self.old holding → IsMapBy self.new holding }
+        ensures cuts { IsMapBy self.old holding → ChangedCuts result
+            (maps_of self.old holding).cuts
+            (fold changed_map (maps_of self.old holding).put group)
+            (maps_of self.new holding).cuts }
         ensures writers { IsErrOf result MapFault.Writers
             ↔ (length self.old.feeds.items ≡ 1 → ⊥) }
         ensures reason { IfErr result (λ fault. IsReason fault (kept_in self.old holding)
             (lanes_of self.new.store) (away_in self.new.store) (kept_in self.new holding)) }
         ensures follows { Follows (kept_in self.old holding) (kept_in self.new holding) }
     {
+        let _ = group.as_slice(); // For the proof.
         if self.feeds.len() != 1 {
             return Err(MapFault::Writers);
         }
-        if let Err(GroupNotPut { cause, .. }) = self.put_group(0, group) {
+        if let Err(cause) = self.queue(group) {
             return Err(MapFault::NotPut(cause));
         }
         match self.take_all() {
             Ok(_) => Ok(()),
             Err(cause) => Err(MapFault::Waits(cause)),
+        }
+    }
+
+    // Puts a group into the queue of the only writer. If it is full, all that waits is taken before;
+    // a refusal says why that was not done, or nothing if the queue is full all the same.
+    fn queue(&mut self, group: Group) -> Result<(), Option<StoreFault>>
+        requires ready { IsReady self.old holding }
+        ensures ready { IsReady self.new holding }
+        ensures added { OnOk result (AddedGroup 0 group self.old.feeds.items self.new.feeds.items) }
+        ensures unchanged { OnErr result
+            (map accepted self.new.feeds.items ≡ map accepted self.old.feeds.items) }
+        ensures heard { OnErr result
+            (IsOfFeeds self.new.feeds.items (kept_in self.new holding).entries) }
+        ensures refused { IfErr result (λ cause. IfSome cause
+            (IsWaitRefused (kept_in self.old holding) (lanes_of self.new.store)
+            (away_in self.new.store) (kept_in self.new holding))) }
+        ensures follows { Follows (kept_in self.old holding) (kept_in self.new holding) }
+    {
+        let group = match self.offer(0, group) {
+            Ok(()) => return Ok(()),
+            Err(FullGroup(group)) => group,
+        };
+        if let Err(cause) = self.take_all() {
+            return Err(Some(cause));
+        }
+        match self.offer(0, group) {
+            Ok(()) => Ok(()),
+            Err(FullGroup(_)) => Err(None),
         }
     }
 
@@ -130,6 +179,7 @@ impl Home {
             (Keeps (maps_of self.old holding).put (maps_of self.new holding)) }
         ensures answer { IfOk result (λ n. n ≡ length (kept_in self.new holding).entries) }
         ensures put { (maps_of self.new holding).put ≡ (maps_of self.old holding).put }
+        ensures stays { StaysMap self.old self.new holding }
         ensures writers { IsErrOf result MapFault.Writers
             ↔ (length self.old.feeds.items ≡ 1 → ⊥) }
         ensures reason { IfErr result (λ fault. IsReason fault (kept_in self.old holding)

@@ -9,39 +9,106 @@ use bw_care::RecoverCause;
 use bw_device::{MAX_LEASES, Segment};
 use bw_site::{Found, HomeFault, Made, Site, System, look};
 
+/// How the folder of a store is opened.
+#[derive(Clone, Copy)]
+pub(crate) enum Way {
+    /// Over the files that are there, of which each is read once: nothing is written before
+    /// recovery has taken them. Only a folder that lacks nothing is opened so.
+    Again,
+    /// A copy of it is looked at before. Then what is missing is made.
+    Anew,
+}
+
+/// One of the attempts to open a store.
+#[derive(Clone, Copy)]
+pub(crate) struct Attempt {
+    pub(crate) way: Way,
+    /// What an attempt before found, and cleared.
+    pub(crate) found: Option<Found>,
+}
+
+impl Attempt {
+    /// The first one.
+    pub(crate) fn first(dir: Option<&str>) -> Attempt {
+        let way = match dir {
+            Some(_) => Way::Again,
+            None => Way::Anew,
+        };
+        Attempt { way, found: None }
+    }
+
+    /// The next one, after one that found more to be made or said.
+    pub(crate) fn anew(self) -> Attempt {
+        Attempt {
+            way: Way::Anew,
+            found: self.found,
+        }
+    }
+
+    /// The next one, after one that cleared this.
+    pub(crate) fn cleared(self, found: Found) -> Attempt {
+        Attempt {
+            way: Way::Anew,
+            found: Some(found),
+        }
+    }
+}
+
+/// A site, how many segments the store begins with, and how many bytes a new one has room for.
+type Place = (Site, u32, u64);
+
+// The folder of this path over the files that are there, if they are all that is wanted. Why they
+// are not is said by the other way.
+fn place_again<R: System>(rt: &R, path: &str, leases: u32, options: &Options) -> Option<Place> {
+    let Ok(site) = Site::open_again(rt, path, leases) else {
+        return None;
+    };
+    let Ok(present) = site.present(rt, options.segments) else {
+        return None;
+    };
+    let (count, longest) = present?;
+    Some((site, count, options.capacity_beside(longest)))
+}
+
 /// Where the segments of a store stand, how many it begins with, and how many bytes a new one has room
-/// for. A folder is looked at before: what would be refused is refused before anything is written
-/// there.
+/// for; none if the folder cannot be opened by this way. By the other way a folder is looked at
+/// before: what would be refused is refused before anything is written there.
 pub(crate) fn site_of<R: System>(
     rt: &R,
     dir: Option<&str>,
     leases: u32,
     options: &Options,
-) -> Result<(Site, u32, u64), HomeFault> {
-    let longest = match dir {
-        Some(path) => look(rt, path, leases, options.segments, options.capacity)?,
-        None => 0,
+    way: Way,
+) -> Result<Option<Place>, HomeFault> {
+    let longest = match (dir, way) {
+        (Some(path), Way::Again) => return Ok(place_again(rt, path, leases, options)),
+        (Some(path), Way::Anew) => look(rt, path, leases, options.segments, options.capacity)?,
+        (None, _) => 0,
     };
     let site = Site::open(rt, dir, leases)?;
     let count = site.count(rt, options.segments)?;
-    Ok((site, count, options.capacity_beside(longest)))
+    Ok(Some((site, count, options.capacity_beside(longest))))
 }
 
-// Opens a store, goes leg by leg over it, and ends it; `None` where its folder had the beginning of
-// a first frame alone, which was cleared, and is what was found by the next attempt. Boxes are made
-// here alone: a function that takes or gives a box, or a home, makes none.
+// Opens a store, goes leg by leg over it, and ends it; `None` if another attempt is to be made: the
+// folder cannot be opened by this way, or it had only the beginning of a first frame, which was
+// cleared. Boxes are made only here: a function that takes or gives a box, or a home, makes none.
 fn go<R: System, L: Legs<R>>(
     rt: &R,
     dir: Option<&str>,
     leases: u32,
     options: &Options,
-    found: &mut Option<Found>,
+    attempt: &mut Attempt,
     legs: &mut L,
 ) -> Result<Option<L::Answer>, HomeFault>
     ensures answer { IfOk result (λ went. IfSome went (λ answer. L.says legs.old answer)) }
     ensures anew { IfOk result (λ went. IsNone went → legs.new ≡ legs.old) }
 {
-    let (mut site, count, capacity) = site_of(rt, dir, leases, options)?;
+    let this = *attempt;
+    let Some((mut site, count, capacity)) = site_of(rt, dir, leases, options, this.way)? else {
+        *attempt = this.anew();
+        return Ok(None);
+    };
     let options = &Options {
         capacity,
         ..*options
@@ -49,7 +116,10 @@ fn go<R: System, L: Legs<R>>(
     let mut boxes: Vec<Box<dyn Segment>> = Vec::new(rt.alloc());
     let mut are_new = true;
     for _ in 0..count {
-        let made = site.segment(rt, options.capacity)?;
+        let Some(made) = site.segment(rt, options.capacity)? else {
+            *attempt = this.anew();
+            return Ok(None);
+        };
         are_new &= made.is_empty();
         let segment: Box<dyn Segment> = match made {
             Made::Memory(segment) => segment,
@@ -57,11 +127,11 @@ fn go<R: System, L: Legs<R>>(
         };
         boxes.push(segment)?;
     }
-    let mut home = match begin(rt, options, boxes, are_new, site, *found) {
+    let mut home = match begin(rt, options, boxes, are_new, site, this.found) {
         Ok(home) => home,
         Err(NotBegun::Fault(fault)) => return Err(fault),
         Err(NotBegun::Cleared(cleared)) => {
-            *found = Some(cleared);
+            *attempt = this.cleared(cleared);
             return Ok(None);
         }
     };
@@ -92,11 +162,14 @@ pub fn with_store_at<R: System, L: Legs<R>>(
 ) -> Result<L::Answer, HomeFault>
     ensures answer { IfOk result (λ answer. L.says legs.old answer) }
 {
-    let mut found = None;
-    if let Some(answer) = go(rt, dir, leases, options, &mut found, legs)? {
+    let mut attempt = Attempt::first(dir);
+    if let Some(answer) = go(rt, dir, leases, options, &mut attempt, legs)? {
         return Ok(answer);
     }
-    match go(rt, dir, leases, options, &mut found, legs)? {
+    if let Some(answer) = go(rt, dir, leases, options, &mut attempt, legs)? {
+        return Ok(answer);
+    }
+    match go(rt, dir, leases, options, &mut attempt, legs)? {
         Some(answer) => Ok(answer),
         // Only somebody else can have put such a beginning there once more.
         None => Err(HomeFault::Recovery(RecoverCause::Empty)),
@@ -119,8 +192,8 @@ pub fn with_store_in_legs<R: System, L: Legs<R>>(
 /// Opens the folder of this path, runs the course over the store in it, and ends the store: what
 /// was not flushed is gone then.
 ///
-/// The folder is looked at first, and what recovery refuses of it is refused, `Recovery`, and
-/// stays as it is. Then it is locked, and made where it is missing. A folder without bytes has a
+/// What recovery refuses of the folder is refused, `Recovery`, and stays as it is. It is locked, and
+/// made if it is missing. A folder without bytes has a
 /// new store, and so has one with nothing but the beginning of a first frame, which was never
 /// durable; any other goes on with what it holds, whatever the limits of pages and frames in the
 /// options are. Its new segments have room for as many bytes as the longest one has, at least, in
@@ -130,7 +203,9 @@ pub fn with_store_in_legs<R: System, L: Legs<R>>(
 /// `Store`: `BadConfig`, where a number of the options is out of its range. `Lease`: more than
 /// 4,096 segments. Files without bytes may have been made then, and no other is written.
 ///
-/// It takes memory for all files twice for a moment, and twice the time of a recovery.
+/// A folder that was open before, and lacks no file, is read once: it takes the time of a recovery,
+/// and memory for its files. Any other is looked at before anything is made in it: that takes memory
+/// for all files twice for a moment, and twice the time of a recovery.
 pub fn with_store<R: System, C: Course<R>>(
     rt: &R,
     path: &str,

@@ -1,12 +1,16 @@
 //! A store with readers: it is opened as one without, and shows what is durable to other threads.
 
-ghost use Rattle.std.specs.Prelude.{◌≡◌, map, IfOk, IfSome, IsNone, MatchOption};
+ghost use Rattle.std.specs.Prelude.{◌≡◌, map, IfErr, IfOk, IfSome, IsNone, MatchOption};
 ghost use Rattle.bw_ring.specs.Ends.{ring_of_feed};
 ghost use Rattle.bw_care.specs.Found.{IsRecovered};
+ghost use Rattle.bw_store.specs.Following.{Continues};
+ghost use Rattle.bw_store.specs.Kept.{EachCutStands};
+ghost use Rattle.bw_site.specs.Faults.{IsOfSite};
+ghost use Rattle.bw_home.specs.Renewing.{SharedCleans};
 ghost use Rattle.bw_home.specs.Sharing.{IsShared, IsSharedBeside};
 
 use crate::begun::NotBegun;
-use crate::opened::site_of;
+use crate::opened::{Attempt, site_of};
 use crate::options::Options;
 use bw_care::{RecoverCause, Recovered, recover};
 use bw_device::Segment;
@@ -41,7 +45,8 @@ pub trait SharedLegs<R>: Drop {
 }
 
 impl SharedHome {
-    ghost use Rattle.bw_store.specs.Views.{kept_by, IsSound};
+    ghost use Rattle.bw_store.specs.Views.{kept_by, noted_of, IsSound};
+    ghost use Rattle.bw_home.specs.Sharing.{shared_in};
 
     // A store and its feeds, over a site of which new segments have this capacity.
     fn of(
@@ -116,11 +121,16 @@ impl SharedHome {
         self.stock.found
     }
 
-    /// As `Home::clean`.
+    /// Gives up the oldest segment, and empties its file, as `Home::clean` does; what is durable then
+    /// is published. What the store says of its cleaning holds here, word for word.
     pub fn clean<R: System>(&mut self, rt: &R) -> Result<Cleaned, HomeFault>
         requires { IsShared self.old holding }
         ensures ready { IsShared self.new holding }
         ensures feeds { self.new.feeds ≡ self.old.feeds }
+        ensures cleans { SharedCleans (shared_in self.old holding) (noted_of self.old.store) result
+            (shared_in self.new holding) (noted_of self.new.store) }
+        ensures each_cut { EachCutStands (shared_in self.new holding) }
+        ensures follows { Continues (shared_in self.old holding) (shared_in self.new holding) }
     {
         self.stock.renew(rt)?;
         let cleaned = self.store.clean(rt)?;
@@ -135,6 +145,9 @@ impl SharedHome {
         requires { IsShared self.old holding }
         ensures ready { IsShared self.new holding }
         ensures feeds { self.new.feeds ≡ self.old.feeds }
+        ensures same { shared_in self.new holding ≡ shared_in self.old holding }
+        ensures noted { noted_of self.new.store ≡ noted_of self.old.store }
+        ensures refused { IfErr result IsOfSite }
     {
         self.stock.make_spare(rt)
     }
@@ -157,6 +170,8 @@ impl SharedHome {
         requires { IsShared self.old holding }
         ensures ready { IsShared self.new holding }
         ensures feeds { self.new.feeds ≡ self.old.feeds }
+        ensures same { shared_in self.new holding ≡ shared_in self.old holding }
+        ensures noted { noted_of self.new.store ≡ noted_of self.old.store }
     {
         let live = self.live_leases()?;
         self.stock.row(*self.feeds.allocator(), live)
@@ -167,6 +182,8 @@ impl SharedHome {
         requires { IsShared self.old holding }
         ensures ready { IsShared self.new holding }
         ensures feeds { self.new.feeds ≡ self.old.feeds }
+        ensures same { shared_in self.new holding ≡ shared_in self.old holding }
+        ensures noted { noted_of self.new.store ≡ noted_of self.old.store }
     {
         self.stock.empty_row(rt, row)
     }
@@ -205,18 +222,22 @@ fn begin<R: System>(
     readers: usize,
     boxes: Vec<Box<dyn Segment>>,
     are_new: bool,
-    site: Site,
+    mut site: Site,
     found: Option<Found>,
 ) -> Result<SharedHome, NotBegun>
     requires { Unit {0} }
     ensures { IfOk result (λ home. IsSharedBeside home holding) }
 {
+    let count = boxes.len();
     if are_new {
+        site.settle(rt, count)?;
         return Ok(SharedHome::open(rt, options, readers, boxes, site, found)?);
     }
-    let count = boxes.len();
     match recover(rt.alloc(), boxes) {
-        Ok(found) => Ok(SharedHome::reopen(rt, options, readers, found, site)?),
+        Ok(found) => {
+            site.settle(rt, count)?;
+            Ok(SharedHome::reopen(rt, options, readers, found, site)?)
+        }
         Err(fault) => {
             let cleared = clear(rt, &site, fault, count)?;
             Err(NotBegun::Cleared(cleared))
@@ -230,7 +251,7 @@ struct Opening<'a> {
     dir: Option<&'a str>,
     leases: u32,
     readers: usize,
-    found: Option<Found>,
+    attempt: Attempt,
 }
 
 // As `go` of a store without readers.
@@ -243,7 +264,18 @@ fn go<R: System, L: SharedLegs<R>>(
     ensures answer { IfOk result (λ went. IfSome went (λ answer. L.says legs.old answer)) }
     ensures anew { IfOk result (λ went. IsNone went → legs.new ≡ legs.old) }
 {
-    let (mut site, count, capacity) = site_of(rt, opening.dir, opening.leases, options)?;
+    let attempt = opening.attempt;
+    let Some((mut site, count, capacity)) = site_of(
+        rt,
+        opening.dir,
+        opening.leases,
+        options,
+        attempt.way,
+    )?
+    else {
+        opening.attempt = attempt.anew();
+        return Ok(None);
+    };
     let options = &Options {
         capacity,
         ..*options
@@ -251,7 +283,10 @@ fn go<R: System, L: SharedLegs<R>>(
     let mut boxes: Vec<Box<dyn Segment>> = Vec::new(rt.alloc());
     let mut are_new = true;
     for _ in 0..count {
-        let made = site.segment(rt, options.capacity)?;
+        let Some(made) = site.segment(rt, options.capacity)? else {
+            opening.attempt = attempt.anew();
+            return Ok(None);
+        };
         are_new &= made.is_empty();
         let segment: Box<dyn Segment> = match made {
             Made::Memory(segment) => segment,
@@ -266,12 +301,12 @@ fn go<R: System, L: SharedLegs<R>>(
         boxes,
         are_new,
         site,
-        opening.found,
+        attempt.found,
     ) {
         Ok(home) => home,
         Err(NotBegun::Fault(fault)) => return Err(fault),
         Err(NotBegun::Cleared(cleared)) => {
-            opening.found = Some(cleared);
+            opening.attempt = attempt.cleared(cleared);
             return Ok(None);
         }
     };
@@ -306,8 +341,11 @@ pub fn with_readers<R: System, L: SharedLegs<R>>(
         dir,
         leases,
         readers,
-        found: None,
+        attempt: Attempt::first(dir),
     };
+    if let Some(answer) = go(rt, &mut opening, options, legs)? {
+        return Ok(answer);
+    }
     if let Some(answer) = go(rt, &mut opening, options, legs)? {
         return Ok(answer);
     }

@@ -79,6 +79,8 @@ fn in_file(alloc: Global, opened: Result<FileSegment, NotOpened>) -> Result<Made
 pub struct Site {
     place: Place,
     desk: Desk,
+    /// Whether its files were there, and are still to be settled.
+    is_again: bool,
 }
 
 impl Site {
@@ -90,7 +92,37 @@ impl Site {
             Some(path) => Place::Folder(Folder::open(rt, path)?),
             None => Place::Memory,
         };
-        Ok(Site { place, desk })
+        Ok(Site {
+            place,
+            desk,
+            is_again: false,
+        })
+    }
+
+    /// The folder of this path, which was open before, over the files that are there: nothing is made
+    /// or written before `settle`.
+    pub fn open_again<R: System>(rt: &R, path: &str, leases: u32) -> Result<Site, HomeFault> {
+        let desk = desk_of(rt.alloc(), leases)?;
+        let place = Place::Folder(Folder::open_again(rt, path)?);
+        Ok(Site {
+            place,
+            desk,
+            is_again: true,
+        })
+    }
+
+    /// How many files of segments the folder has, and how many bytes the longest has, if there is one
+    /// for each of so many leases at least, and none is missing before the last.
+    pub fn present<R: System>(&self, rt: &R, least: u32) -> Result<Option<(u32, u64)>, HomeFault> {
+        let Place::Folder(folder) = &self.place else {
+            return Ok(None);
+        };
+        let leases = folder.leases(rt)?;
+        let count = count_over(&leases, least);
+        if leases.len() as u64 != count as u64 {
+            return Ok(None);
+        }
+        Ok(Some((count, folder.longest(rt, &leases)?)))
     }
 
     /// Memory, with leases of this desk.
@@ -98,6 +130,7 @@ impl Site {
         Site {
             place: Place::Memory,
             desk,
+            is_again: false,
         }
     }
 
@@ -110,13 +143,39 @@ impl Site {
         }
     }
 
-    /// The segment of the least lease that is free, with what its file has.
-    pub fn segment<R: System>(&mut self, rt: &R, capacity: u64) -> Result<Made, HomeFault> {
+    /// The segment of the least lease that is free, with what its file has. There is none if the
+    /// folder is open again, and its file cannot be taken as it is.
+    pub fn segment<R: System>(&mut self, rt: &R, capacity: u64) -> Result<Option<Made>, HomeFault> {
         let lease = taken(&mut self.desk)?;
         match &self.place {
-            Place::Memory => in_memory(rt.alloc(), lease, capacity),
-            Place::Folder(folder) => in_file(rt.alloc(), folder.segment(rt, lease, capacity)),
+            Place::Memory => Ok(Some(in_memory(rt.alloc(), lease, capacity)?)),
+            Place::Folder(folder) if self.is_again => {
+                match folder.segment_again(rt, lease, capacity) {
+                    Some(segment) => Ok(Some(Made::File(Box::new(rt.alloc(), segment)?))),
+                    None => Ok(None),
+                }
+            }
+            Place::Folder(folder) => {
+                let opened = folder.segment(rt, lease, capacity);
+                Ok(Some(in_file(rt.alloc(), opened)?))
+            }
         }
+    }
+
+    /// Brings so many files that were there to the disk, if that was not done: what recovery found
+    /// has to stand before anything follows it.
+    pub fn settle<R: System>(&mut self, rt: &R, count: usize) -> Result<(), HomeFault> {
+        if !self.is_again {
+            return Ok(());
+        }
+        if let Place::Folder(folder) = &self.place {
+            for lease in 0..u32::try_from(count).unwrap_or(MAX_LEASES) {
+                folder.settle_again(rt, lease)?;
+            }
+            folder.settle_names()?;
+        }
+        self.is_again = false;
+        Ok(())
     }
 
     /// A new segment of the least lease that is free, once those that came back are, over a file of
