@@ -4,7 +4,7 @@ use crate::compared::{Wanted, leaves_of};
 use crate::copying::Copied;
 use crate::fault::RescueFault;
 use crate::load::load;
-use crate::reading::source;
+use crate::reading::source_of;
 use crate::target::Target;
 use bw_codec::limits::HEADER_LEN;
 use bw_core::StoreFault;
@@ -34,7 +34,7 @@ pub fn compact<R: System, W: Watch>(
 ) -> Result<Copied, RescueFault> {
     with_room(options)?;
     let target = Target::of(rt, to)?;
-    let pages = source(rt, from, leases, watch)?.leaves;
+    let pages = source_of(rt, from, leases, watch)?.leaves;
     let pairs = pairs_of(rt.alloc(), leaves_of(rt.alloc(), &pages)?.as_slice())?;
     let making = target.begin(rt)?;
     load(

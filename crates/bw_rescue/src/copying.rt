@@ -3,7 +3,7 @@
 use crate::compared::Wanted;
 use crate::fault::RescueFault;
 use crate::judged::Judged;
-use crate::reading::{Source, source};
+use crate::reading::{Source, source_of};
 use crate::target::Target;
 use bw_codec::{HeaderRead, read_header};
 use bw_home::System;
@@ -65,7 +65,7 @@ pub fn copy<R: System, W: Watch>(
     let Source {
         images,
         leaves: pages,
-    } = source(rt, from, leases, watch)?;
+    } = source_of(rt, from, leases, watch)?;
     let live = live_of(images)?;
     let making = target.begin(rt)?;
     making.write(rt, live.as_slice(), watch)?;

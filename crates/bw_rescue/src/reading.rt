@@ -63,7 +63,7 @@ pub(crate) struct Source {
 
 /// The segments of a folder, by their leases, and their pages; as they stood at one of its frames,
 /// where somebody writes it.
-pub(crate) fn source<R: System, W: Watch>(
+pub(crate) fn source_of<R: System, W: Watch>(
     rt: &R,
     path: &str,
     leases: u32,
