@@ -359,7 +359,7 @@ fn has_value(home: &mut Home, key: &Key, value: &Value) -> Result<bool, Miss>
 }
 
 /// What a put that hangs on its key comes to, once all that was accepted before is taken.
-pub fn decided(alloc: Global, home: &mut Home, condition: Condition) -> Result<Decided, Miss>
+pub fn decide(alloc: Global, home: &mut Home, condition: Condition) -> Result<Decided, Miss>
     requires { IsReady home.old holding }
     ensures { IsReady home.new holding }
 {

@@ -6,7 +6,7 @@
 ghost use Rattle.bw_home.specs.Ready.{IsReady};
 
 use crate::answers::Answer;
-use crate::calls::{Decided, answer, decided, durable};
+use crate::calls::{Decided, answer, decide, durable};
 use bw_core::StoreFault;
 use bw_home::Home;
 use bw_keys::Admission;
@@ -281,7 +281,7 @@ impl Tending {
         requires { IsReady home.old holding }
         ensures { IsReady home.new holding }
     {
-        let (group, told) = match decided(rt.alloc(), home, condition)? {
+        let (group, told) = match decide(rt.alloc(), home, condition)? {
             Decided::Put(group, told) => (group, told),
             Decided::Answer(answer) => return Ok(Served::Answer(answer)),
         };

@@ -14,7 +14,7 @@ const KEY: Row = Row {
     help: "1 to 128 bytes; 0x and hex digits stand for any bytes",
 };
 
-const KEYS: Row = Row {
+const KEY_WORDS: Row = Row {
     kind: Kind::Words,
     help: "one or more, of 1 to 128 bytes; 0x and hex digits stand for any bytes",
     ..KEY
@@ -197,7 +197,7 @@ pub const FORMS: [Form; 7] = [
     Form {
         name: "get",
         about: "Prints the value of each key, a line each; where one has none, nothing, with exit status 1",
-        options: &[KEYS, DIR, RAW, HEX],
+        options: &[KEY_WORDS, DIR, RAW, HEX],
         example: "Example: bwlog get --dir store greeting",
     },
     Form {
