@@ -73,10 +73,11 @@ impl Records for Sweep {
         }
         self.part.clear();
         self.passed = 0;
-        if let Some(key) = self.next.take() {
-            home.scan_shared(&key, PART, &mut self.part)?;
-            self.next = self.part.last().and_then(|pair| above(pair.key()));
-        }
+        let Some(key) = self.next.take() else {
+            return Ok(());
+        };
+        home.scan_shared(&key, PART, &mut self.part)?;
+        self.next = self.part.last().and_then(|pair| above(pair.key()));
         Ok(())
     }
 
