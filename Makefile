@@ -2,7 +2,7 @@
 # make run    proves bwlog and all below it, crates side by side, builds it, and runs the same script
 # make test   the gate: the pages against the tests and the sources, every proof, the wrong bodies, the tests, the programs (from nothing, but for what this machine has
 #             passed); then the program that it built over the cases of tests/program/cases, over drawn scripts beside a map, over 500 hostile cases, under the
-#             clients of clients/, over the commands of docs/FIRST.md, over a million updates of a thousand keys, in logs that get full, and timed at several sizes; and the tests of refused memory with each allocation refused in turn, and the program with each fifth, by a shim that cc makes
+#             clients of clients/, over the commands of docs/FIRST.md and OPERATE.md, over a million updates of a thousand keys, in logs that get full, and timed at several sizes; and the tests of refused memory with each allocation refused in turn, and the program with each fifth, by a shim that cc makes
 # make lib    proves bw_reading and all below it, and makes out/libhechdoram_read.a and .so of it, for other languages, beside the client in C
 # make install PREFIX=/usr/local puts there what was made: the program with its manual page and completion, headers, libraries, files for pkg-config;
 #             make uninstall removes them. Nothing is proved by either
@@ -56,6 +56,8 @@ test:
 	python3 tests/program/drawn.py
 	python3 tests/program/fuzz.py --cases 500
 	python3 tests/program/waits.py
+	python3 tests/program/events.py
+	python3 tests/program/moments.py
 	python3 tests/program/clients.py
 	python3 tests/program/sums.py
 	python3 tests/program/rescue.py
@@ -67,6 +69,7 @@ test:
 	python3 tests/program/pages.py
 	python3 tests/program/growth.py
 	python3 tests/program/beside.py
+	python3 tests/program/follow.py
 	python3 tools/refuse.py --every 5
 
 check:

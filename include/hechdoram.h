@@ -133,9 +133,10 @@ int hechdoram_group(hechdoram *store, const hechdoram_change *changes, size_t co
  * them, a beginning is there. The first refusal ends the batch there. */
 int hechdoram_batch(hechdoram *store, const hechdoram_change *changes, size_t count);
 
-/* Makes many changes in one burst, each for itself. If some are refused the others are made, and
- * the first refusal is what is answered. A length that no pair may have is refused before anything
- * is sent. */
+/* Makes many changes in one burst. It is no step: puts that follow one another stand in lines of up
+ * to 64, and if one is refused those after it in its line are not made, and all others are. The
+ * first refusal is what is answered. A length that no pair may have is refused before anything is
+ * sent. */
 int hechdoram_change_many(hechdoram *store, const hechdoram_change *changes, size_t count);
 
 /* Writes as many of the value's bytes as there is room for, and to `value_len` how many it has.

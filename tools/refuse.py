@@ -113,6 +113,7 @@ CASES = [
          "".join("put k%d %s\n" % (it, "v" * 500) + "flush\n" * (it % 40 == 39) for it in range(160)) + "flush\nstats\n"),
     Case("a scan", ["scan"], "\n" + FIRST + "\n42574c\n"),
     Case("a print", ["print"], "\n" + FIRST + "\n42574c\n"),
+    Case("counts in JSON", ["stats", "--format=json"], "\n" + FIRST + "\n42574c\n"),
     Case("counts", ["stats"], "\n" + FIRST + "\n42574c\n"),
     Case("a picture", ["picture"], "\n" + FIRST + "\n42574c\n"),
     Case("an upgrade", ["upgrade"], "\n" + FIRST + "\n42574c\n"),
@@ -121,11 +122,20 @@ CASES = [
     Case("a value that is read", ["put", "--dir={}/store", "k", "-"], "v", tells=True),
     Case("a key that is deleted", ["del", "--dir={}/from", "k"], "", segment=FIRST, tells=True),
     Case("a key that is got", ["get", "--dir={}/from", "k"], "", segment=FIRST, tells=True),
+    Case("keys that are got", ["get", "--dir={}/from", "k", "k"], "", segment=FIRST, tells=True),
+    Case("keys that are deleted", ["del", "--dir={}/from", "k", "l"], "", segment=FIRST, tells=True),
+    Case("a stretch that is deleted", ["del", "--dir={}/from", "--prefix=k"], "", segment=FIRST, tells=True),
     Case("keys that are counted", ["count", "--dir={}/from"], "", segment=FIRST, tells=True),
     Case("a list", ["list", "--dir={}/from", "--from=a", "--to=z", "--prefix=k", "--reverse"], "", segment=FIRST, tells=True),
+    Case("the last of a list", ["list", "--dir={}/from", "--last=1", "--format=json"], "", segment=FIRST, tells=True),
     Case("an export", ["export", "--dir={}/from", "--format=print"], "", segment=FIRST, tells=True),
     Case("an import", ["import", "--dir={}/store", "--skip"], "a\t1\nb\nc\t0x32\n", tells=True),
     Case("an import in order", ["import", "--dir={}/store"], "".join("k%02d\t%d\n" % (it, it) for it in range(80)), tells=True),
+    Case("an import that only adds", ["import", "--dir={}/store", "--keep-old"], "a\t1\na\t2\n", tells=True),
+    Case("an import that deletes", ["import", "--dir={}/from", "--delete"], "k\nl\n", segment=FIRST, tells=True),
+    Case("what an import would do", ["import", "--dir={}/from", "--dry-run"], "k\tv\nl\t1\n", segment=FIRST, tells=True),
+    Case("an import of JSON", ["import", "--dir={}/store", "--format=json"], '{"key":"a","value":"1"}\n', tells=True),
+    Case("a shell", ["shell", "--dir={}/from"], "put l 'v w'\nget l\nlist\nscan a 1\nzap\ndel k\n", segment=FIRST),
     Case("an import of a dump", ["import", "--dir={}/store", "--format=dump"], "VERSION=3\nHEADER=END\n 61\n 31\nDATA=END\n", tells=True),
     Case("a folder as of a frame", ["restore", "--dir={}/from", "--to={}/to", "--frame=1"], "", segment=FIRST),
     Case("a folder that is verified", ["verify", "--dir={}/from"], "", segment=FIRST),
@@ -201,7 +211,7 @@ def is_answered(case, answer, whole):
         return True
     if case.tells:
         # An import says how much of it is durable.
-        told = re.sub(rb"^imported \d+ before that, which are durable\n", b"", told, flags=re.M)
+        told = re.sub(rb"^(imported|deleted) \d+ before that, which are durable\n", b"", told, flags=re.M)
         # (before the words are read no mode is known, and all is printed)
         return status == 5 and (told == REFUSED and whole[1].startswith(printed) or (printed, told) == (REFUSED, b""))
     if status != 5 or not whole[2].startswith(told):

@@ -129,6 +129,17 @@ ssize_t pwrite64(int file, const void *bytes, size_t count, off64_t at)
     return wrote(real(file, bytes, count, at), file, bytes, (uint64_t)at);
 }
 
+/* What is written without an offset goes to the end of a file below the folder. */
+ssize_t write(int file, const void *bytes, size_t count)
+{
+    REAL(ssize_t, "write", int, const void *, size_t);
+    char room[PATH_MAX];
+    struct stat about;
+    if (!name_of(file, room) || fstat(file, &about) != 0)
+        return real(file, bytes, count);
+    return wrote(real(file, bytes, count), file, bytes, (uint64_t)about.st_size);
+}
+
 /* Whether this cut is to fail. */
 static int cut_fails(int file)
 {

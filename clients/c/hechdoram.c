@@ -22,6 +22,7 @@ extern char **environ;
 
 enum {
     MAX_RECORDS = 4,        /* of one step */
+    MAX_KEYS = 64,          /* of one line, or pairs */
     MAX_LINE = 4096,        /* of a request */
     MAX_ANSWER = 1 << 21,   /* 1,024 pairs in hex have fewer bytes */
     MAX_SAID = 2048,
@@ -216,6 +217,34 @@ static void add_change(hechdoram *s, const hechdoram_change *change) {
     if (change->value) add_word(s, change->value, change->value_len);
 }
 
+/* A line of keys or pairs, if it was begun: how many it has, and where it begins. Before it stand
+ * others, with it so many. */
+typedef struct listed { size_t count, begin, lines; } listed;
+
+static void end_line(hechdoram *s, listed *all) {
+    if (all->count > 0) add(s, "\n", 1);
+    all->count = 0;
+}
+
+/* Adds a key, and a value if it is not null, to a line of this name, or to a new one if that is
+ * full. */
+static void add_listed(hechdoram *s, listed *all, const char *name, const hechdoram_change *one) {
+    size_t before = s->requests.len;
+    for (;;) {
+        if (all->count == 0) {
+            all->begin = s->requests.len;
+            all->lines++;
+            add_text(s, name);
+        }
+        add_word(s, one->key, one->key_len);
+        if (one->value) add_word(s, one->value, one->value_len);
+        if (all->count == 0 || s->requests.len - all->begin <= MAX_LINE) break;
+        s->requests.len = before;
+        end_line(s, all);
+    }
+    if (++all->count == MAX_KEYS) end_line(s, all);
+}
+
 static bool is_key(size_t len) { return 0 < len && len <= MAX_KEY; }
 
 /* Looks at changes before any is sent. A deletion of what can be no key is nothing. */
@@ -383,7 +412,8 @@ static bool is_ok(void *to, size_t index, char *line) {
 }
 
 static bool is_value(void *to, size_t index, char *line) {
-    hechdoram_value *value = (hechdoram_value *)to + index;
+    hechdoram_value *value = (hechdoram_value *)to;
+    (void)index;
     value->is_found = strcmp(line, "none") != 0;
     if (!value->is_found) return true;
     return !strncmp(line, "value ", 6) &&
@@ -589,31 +619,48 @@ int hechdoram_close(hechdoram **store) {
 
 /* ---- Changes */
 
+/* Makes one change. */
+static int change(hechdoram *s, const hechdoram_change *one) {
+    int got = begin(s);
+    if (got != HECHDORAM_OK) return got;
+    got = check(s, one, 1);
+    if (got != HECHDORAM_OK || !is_key(one->key_len)) return done(s, got);
+    add_change(s, one);
+    return done(s, ask(s, is_ok, NULL));
+}
+
 int hechdoram_put(hechdoram *s, const void *key, size_t key_len, const void *value,
                   size_t value_len) {
-    hechdoram_change change = {key, key_len, value, value_len};
-    if (!value && value_len == 0) change.value = "";
-    if (!change.value) return HECHDORAM_MISUSE;
-    return hechdoram_change_many(s, &change, 1);
+    hechdoram_change one = {key, key_len, value, value_len};
+    if (!value && value_len == 0) one.value = "";
+    if (!one.value) return HECHDORAM_MISUSE;
+    return change(s, &one);
 }
 
 int hechdoram_delete(hechdoram *s, const void *key, size_t key_len) {
-    const hechdoram_change change = {key, key_len, NULL, 0};
-    return hechdoram_change_many(s, &change, 1);
+    const hechdoram_change one = {key, key_len, NULL, 0};
+    return change(s, &one);
 }
 
 int hechdoram_change_many(hechdoram *s, const hechdoram_change *changes, size_t count) {
-    size_t asked = 0;
+    listed all = {0, 0, 0};
+    size_t deleted = 0;
     int got = begin(s);
     if (got != HECHDORAM_OK) return got;
     got = check(s, changes, count);
     for (size_t i = 0; got == HECHDORAM_OK && i < count; i++) {
         if (!is_key(changes[i].key_len)) continue;
+        if (changes[i].value) {
+            add_listed(s, &all, "puts", changes + i);
+            continue;
+        }
+        end_line(s, &all);
         add_change(s, changes + i);
         add(s, "\n", 1);
-        asked++;
+        deleted++;
     }
-    if (got == HECHDORAM_OK) got = exchange(s, asked, is_ok, NULL);
+    end_line(s, &all);
+    if (got == HECHDORAM_OK) got = exchange(s, all.lines + deleted, is_ok, NULL);
     return done(s, got);
 }
 
@@ -666,10 +713,14 @@ int hechdoram_batch(hechdoram *s, const hechdoram_change *changes, size_t count)
 
 int hechdoram_get(hechdoram *s, const void *key, size_t key_len, void *value, size_t room,
                   size_t *value_len) {
-    const hechdoram_key one = {key, key_len};
     hechdoram_value found;
-    if (!value && room > 0) return HECHDORAM_MISUSE;
-    int got = hechdoram_get_many(s, &one, 1, &found);
+    if ((!value && room > 0) || (!key && key_len > 0)) return HECHDORAM_MISUSE;
+    int got = begin(s);
+    if (got != HECHDORAM_OK) return got;
+    if (!is_key(key_len)) return done(s, HECHDORAM_NOT_FOUND);
+    add_text(s, "get");
+    add_word(s, key, key_len);
+    got = done(s, ask(s, is_value, &found));
     if (got != HECHDORAM_OK) return got;
     if (!found.is_found) return HECHDORAM_NOT_FOUND;
     if (room > 0) memcpy(value, found.bytes, found.len < room ? found.len : room);
@@ -677,39 +728,60 @@ int hechdoram_get(hechdoram *s, const void *key, size_t key_len, void *value, si
     return HECHDORAM_OK;
 }
 
-/* The values that answers fill in. A key that can be none is not asked for: request `asked` is
- * that of key `at`, or of the first after it that can be one. */
+/* The values that answers fill in. What is asked next begins at `asked`, and is of the key `at`, or
+ * of the first after it that can be one. So many answers were met. */
 typedef struct wanted {
+    const char *asked;
     const hechdoram_key *keys;
     hechdoram_value *values;
-    size_t at, asked;
+    size_t at, answers;
 } wanted;
 
+/* The place for the value of the next key of a request; null after its last one. */
+static hechdoram_value *next_wanted(wanted *all) {
+    while (*all->asked != ' ' && *all->asked != '\n') all->asked++;
+    if (*all->asked++ == '\n') return NULL;
+    while (!is_key(all->keys[all->at].len)) all->at++;
+    return all->values + all->at++;
+}
+
+/* Reads `values W W ..`: a word for each key, or `=`. */
 static bool are_values(void *to, size_t index, char *line) {
     wanted *all = (wanted *)to;
-    for (; all->asked < index || !is_key(all->keys[all->at].len); all->at++)
-        all->asked += is_key(all->keys[all->at].len) ? 1 : 0;
-    return is_value(all->values, all->at, line);
+    hechdoram_value *value;
+    for (; all->answers < index; all->answers++)
+        while (next_wanted(all)) continue; /* it was refused */
+    all->answers++;
+    if (strncmp(line, "values", 6) != 0) return false;
+    line += 6;
+    while ((value = next_wanted(all)) != NULL) {
+        if (*line++ != ' ') return false;
+        char *end = strchrnul(line, ' ');
+        value->is_found = end != line + 1 || *line != '=';
+        if (value->is_found && !read_word(line, end, value->bytes, MAX_VALUE, &value->len))
+            return false;
+        line = end;
+    }
+    return *line == 0;
 }
 
 int hechdoram_get_many(hechdoram *s, const hechdoram_key *keys, size_t count,
                        hechdoram_value *values) {
-    wanted all = {keys, values, 0, 0};
-    size_t asked = 0;
+    wanted all = {NULL, keys, values, 0, 0};
+    listed asked = {0, 0, 0};
     int got = begin(s);
     if (got != HECHDORAM_OK) return got;
     if (count > 0 && (!keys || !values)) return done(s, HECHDORAM_MISUSE);
     for (size_t i = 0; i < count; i++) {
-        if (!keys[i].bytes && keys[i].len > 0) return done(s, HECHDORAM_MISUSE);
+        const hechdoram_change one = {keys[i].bytes, keys[i].len, NULL, 0};
+        if (!one.key && one.key_len > 0) return done(s, HECHDORAM_MISUSE);
         values[i].is_found = 0;
         values[i].len = 0;
-        if (!is_key(keys[i].len)) continue;
-        add_text(s, "get");
-        add_word(s, keys[i].bytes, keys[i].len);
-        add(s, "\n", 1);
-        asked++;
+        if (is_key(one.key_len)) add_listed(s, &asked, "gets", &one);
     }
-    return done(s, exchange(s, asked, are_values, &all));
+    end_line(s, &asked);
+    all.asked = s->requests.bytes;
+    return done(s, exchange(s, asked.lines, are_values, &all));
 }
 
 /* ---- Keys in order */

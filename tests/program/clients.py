@@ -35,6 +35,12 @@ OUT = os.path.join(TOP, "out")
 SEED = 84
 # Keys whose requests are more than a pipe takes at once.
 MANY = " ".join("0x%02x%s" % (number, "00" * 127) for number in range(60))
+# Pairs of more than one line, by their number and by their bytes. One of seven is deleted again.
+VALUES = [b"", b"=", b"none", b"\x00" * 500, b"v" * 500, b"0x"]
+PAIRS = [("0x" + (b"n%03d" % number).hex(), "0x" + VALUES[number % 6].hex()) for number in range(400)]
+SOME = {"keys": " ".join(key for key, _ in PAIRS), "values": " ".join(value for _, value in PAIRS),
+        "pairs": " ".join(key + " " + value for key, value in PAIRS), "gone": " ".join("del " + key for key, _ in PAIRS[::7]),
+        "left": " ".join(value if at % 7 else "none" for at, (_, value) in enumerate(PAIRS)), "none60": " ".join(["none"] * 60)}
 # How long a client may take for a case.
 LIMIT = 300
 # Programs that say another first line, and then answer nothing.
@@ -42,11 +48,14 @@ OTHERS = {"other": "ready frame 0 protocol 2", "further": "ready frame 0 protoco
 # Programs that greet as they have to, and then answer as no store does: by a refusal among others, by no text, by too long a line, by
 # an answer to another request, by two, late, or never.
 FAKES = {
-    "mixed": 'while read verb key more; do case "$verb $key" in "get b" | "get 0x62") echo refused E6 Device lease 0;; "put b" | "put 0x62")'
-             ' echo refused E5 NoSegment;; "put c" | "put 0x63") echo refused E7 Failed;; get*) echo value 1;; *) echo ok;; esac; done',
+    "mixed": 'while read verb key more; do case "$verb $key" in get*" 0x0f"*) echo refused E6 Device lease 0;; get*" 0x1e"* | put*" 0x07"*) echo refused E7 Failed;;'
+             ' put*" 0x04"*) echo refused E5 NoSegment after 2;; gets*) printf "values ="; for word in $more; do printf " ="; done; echo;;'
+             ' get*) echo value 1;; *) echo ok;; esac; done',
+    "unfit": 'while read verb key more; do case "$key" in a) echo values =;; b) echo values = = =;; c) echo values = 0xz;; d) echo "values =  0x";; e) echo values;;'
+             ' *) echo value 1;; esac; done',
     "no_text": "read line; printf 'value \\377\\n'; while read line; do echo value v; done",
     "long": "read line; head -c 4000000 /dev/zero | tr '\\0' x; echo; exec cat > /dev/null",
-    "odd": "while read verb more; do case $verb in get) echo value 0xzz;; next) echo pair a;; scan) echo pairs 2 a=b;; count) echo count x;;"
+    "odd": "while read verb more; do case $verb in get | gets) echo value 0xzz;; next) echo pair a;; scan) echo pairs 2 a=b;; count) echo count x;;"
            " *) echo reopened frame 1;; esac; done",
     "wrong": "while read line; do echo ok; done",
     "twice": "while read line; do printf 'ok\\nok\\n'; done",
@@ -79,7 +88,7 @@ def calls_before(shim, room):
     """How many calls on the files of a folder the program made by the end of its first frame."""
     folder, count = os.path.join(room, "counted"), os.path.join(room, "count")
     os.mkdir(folder)
-    env = dict(os.environ, LD_PRELOAD=shim, FAILING=folder, FAILING_AT="0", FAILING_COUNT=count)
+    env = dict(os.environ, LD_PRELOAD=shim, FAILING=folder, FAILING_BUT="times", FAILING_AT="0", FAILING_COUNT=count)
     with subprocess.Popen([PROGRAM, "serve", "--dir=" + folder], stdin=subprocess.PIPE, stdout=subprocess.PIPE, env=env) as child:
         child.stdin.write(b"put a 1\nflush\n")
         child.stdin.flush()
@@ -95,7 +104,7 @@ def failing_in(room, folder):
     shim = shim_of("failing", room)
     at = calls_before(shim, room) + 1
     # The folder has to be there when the program begins.
-    return script_in(room, "failing", 'mkdir -p "%s"\nLD_PRELOAD="%s" FAILING="%s" FAILING_AT=%d exec "%s" "$@"' % (folder, shim, folder, at, PROGRAM))
+    return script_in(room, "failing", 'mkdir -p "%s"\nLD_PRELOAD="%s" FAILING="%s" FAILING_BUT=times FAILING_AT=%d exec "%s" "$@"' % (folder, shim, folder, at, PROGRAM))
 
 
 def damaged_in(room):
@@ -233,7 +242,7 @@ def compare(words, rows, env, name):
 
 def run_case(words, language, case, room, env):
     """Asks the requests of a case in a room of their own."""
-    names = {"folder": os.path.join(room, "store"), "program": PROGRAM, "many": MANY, **fakes_in(room), **damaged_in(room)}
+    names = {"folder": os.path.join(room, "store"), "program": PROGRAM, "many": MANY, **SOME, **fakes_in(room), **damaged_in(room)}
     if "{failing}" in case["lines"]:
         names["failing"] = failing_in(room, names["folder"])
     compare(words, rows_of(case, names), env, "%s, %s" % (language, case["name"]))

@@ -5,7 +5,7 @@ that the device is at fault.
 The program is run once for each call that it makes below its folders. It has to end by itself, and
 
 - a folder that is only read stays as it was, to the byte;
-- a new folder (`copy`, `copy --compact`, `salvage`, `restore`, `backup`) is not there, or holds what it holds where nothing fails; that of a salvage
+- a new folder (`copy`, `copy --compact`, `follow`, `salvage`, `restore`, `backup`) is not there, or holds what it holds where nothing fails; that of a salvage
   that told a file as not read holds nothing else, and that of a restore may be no store;
 - of a folder that is written each frame that was told is there, a further run goes on from it, and what it answers was put;
 - the answer is the one that is given where nothing fails, or it ends with the folder's fault, a refusal, or what a salvage lost.
@@ -145,6 +145,7 @@ MODES = [
     Reads("verify of a damaged folder", "verify", "--dir={}/from", damaged=True),
     Reads("copy", "copy", "--dir={}/from", "--to={}/to"),
     Reads("copy --compact", "copy", "--dir={}/from", "--to={}/to", "--compact"),
+    Reads("follow", "follow", "--dir={}/from", "--to={}/to", "--once"),
     Reads("salvage", "salvage", "--dir={}/from", "--to={}/to"),
     Reads("salvage of a damaged folder", "salvage", "--dir={}/from", "--to={}/to", damaged=True),
     Reads("restore", "restore", "--dir={}/from", "--to={}/to", "--frame=9"),

@@ -3,7 +3,8 @@
 
 Of each row: new keys are put until that is refused, `refused E5 NoSegment`. Then what was taken is flushed, a key is deleted, and the oldest
 segment is given up, each as it is asked; deletes go on, and in the end there is room for puts again. A second run over the folder finds each pair
-that was flushed, and no other. And updates of a few keys beside a set that never changes go on as long as they are asked."""
+that was flushed, and no other. A line of several puts says how many of them went in, and none goes in twice where room was made amid them. And updates of a few
+keys beside a set that never changes go on as long as they are asked."""
 
 import os
 import subprocess
@@ -64,6 +65,25 @@ def fill(run, at):
                 return at
             expect(answer, "ok", "put k%06d" % at)
             at += 1
+
+
+def fills_in_lines(folder, words):
+    """Fills a log by lines of seven puts: the one that is refused says how many of it went in, and each pair went in once."""
+    run, at = Run(folder, words), 0
+    while True:
+        keys = ["k%06d" % number for number in range(at, at + 7)]
+        answer = run.one(" ".join(["puts", *("%s %s" % (key, VALUE) for key in keys)]))
+        if answer != "ok":
+            break
+        at += 7
+    head, _, count = answer.partition(" after ")
+    expect(head, FULL, "a line of puts")
+    expect(run.one("gets " + " ".join(keys)), " ".join(["values", *[VALUE] * int(count), *["="] * (7 - int(count))]), "the line that was refused")
+    expect(run.one("count"), "count %d" % (at + int(count)), "how many pairs")
+    told = run.one("stats")
+    ask(told.startswith("history %d " % (at + int(count))), told)
+    run.end(4)
+    return "%d lines, and %s puts of the last one" % (at // 7, count)
 
 
 def delete(run, keys):
@@ -150,6 +170,12 @@ def main():
             except Wrong as other:
                 wrong, told = wrong + 1, "went otherwise: %s" % other
         print("full, %s: %s" % (" ".join(row), told), flush=True)
+        with tempfile.TemporaryDirectory(dir=FAST) as outer:
+            try:
+                told = fills_in_lines(os.path.join(outer, "store"), row)
+            except Wrong as other:
+                wrong, told = wrong + 1, "went otherwise: %s" % other
+        print("full by lines of puts, %s: %s" % (" ".join(row), told), flush=True)
     for words, cold, updates in BESIDE:
         with tempfile.TemporaryDirectory(dir=FAST) as outer:
             try:

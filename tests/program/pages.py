@@ -1,10 +1,10 @@
 #!/usr/bin/env python3
-"""Runs the commands of docs/FIRST.md, and compares what they print.
+"""Runs the commands of docs/FIRST.md and docs/OPERATE.md, and compares what they print.
 
     pages.py [PROGRAM]
 
 A command is a line that is indented by four blanks and begins with `$ `; what follows it, indented likewise, is what it writes to its standard output
-and error, to the last byte. All commands of the page run in one shell, in an empty folder, one after another. A command that prints otherwise
+and error, to the last byte. All commands of a page run in one shell, in an empty folder, one after another. A command that prints otherwise
 ends the whole with status 1."""
 
 import os
@@ -16,7 +16,7 @@ import tempfile
 from checks import BUILT, FAST, TOP, Wrong, ask
 
 PROGRAM = os.path.abspath(sys.argv[1]) if len(sys.argv) > 1 else BUILT
-PAGE = os.path.join(TOP, "docs", "FIRST.md")
+PAGES = ("FIRST.md", "OPERATE.md")
 LIMIT = 60
 # A line that no command prints.
 MARK = "---- the next command ----"
@@ -37,9 +37,9 @@ def commands_of(text):
     return [(command, "".join(line + "\n" for line in printed)) for command, printed in found]
 
 
-def main():
-    ask(os.path.exists(PROGRAM), PROGRAM + " is not built: make run")
-    with open(PAGE, encoding="utf-8") as page:
+def run_page(name):
+    """Runs the commands of a page; how many there are."""
+    with open(os.path.join(TOP, "docs", name), encoding="utf-8") as page:
         commands = commands_of(page.read())
     with tempfile.TemporaryDirectory(dir=FAST, prefix="bwlog-pages-") as room:
         os.mkdir(os.path.join(room, "bin"))
@@ -49,15 +49,21 @@ def main():
         script = "".join("%s\necho '%s'\n" % (command, MARK) for command, _ in commands)
         ran = subprocess.run(["sh"], input=script, cwd=os.path.join(room, "work"), env=env, timeout=LIMIT, check=False,
                              stdout=subprocess.PIPE, stderr=subprocess.STDOUT, text=True)
+    answers = ran.stdout.split(MARK + "\n")
+    ask(len(answers) == len(commands) + 1 and answers[-1] == "", name, "the shell ended early:", answers[-1])
+    for (command, wanted), printed in zip(commands, answers):
+        ask(printed == wanted, name, "$ %s\nprints %r\nand not %r" % (command, printed, wanted))
+    return len(commands)
+
+
+def main():
     try:
-        answers = ran.stdout.split(MARK + "\n")
-        ask(len(answers) == len(commands) + 1 and answers[-1] == "", "the shell ended early:", answers[-1])
-        for (command, wanted), printed in zip(commands, answers):
-            ask(printed == wanted, "$ %s\nprints %r\nand not %r" % (command, printed, wanted))
+        ask(os.path.exists(PROGRAM), PROGRAM + " is not built: make run")
+        count = sum(run_page(name) for name in PAGES)
     except Wrong as wrong:
         print(wrong)
         return 1
-    print("pages: %d commands print what the page says" % len(commands))
+    print("pages: %d commands print what the pages say" % count)
     return 0
 
 

@@ -4,13 +4,17 @@
     people.py [PROGRAM [NUMBER]]
 
 Without a program it takes the one that `make run` leaves. It makes 63,000 records as of a list of packages, and imports, counts, lists and
-exports them; they go to LMDB and to Berkeley DB and come back, where `mdb_load`, `mdb_dump`, `db_load` and `db_dump` are installed
+exports them, also as JSON and as CSV, which Python's own modules read and write; they go to LMDB and to Berkeley DB and come back, where `mdb_load`, `mdb_dump`, `db_load` and `db_dump` are installed
 (lmdb-utils and db-util), and any bytes go to them and come back too. Then: an output that nobody reads ends a list with status 0 and
 nothing told; updates of a few keys want no more segments; a full disk is
 told, where this process may mount a small one; and NUMBER pairs of 108 bytes are imported, a million where it is not given, with the
 time and the memory that it took. What is not tried is said."""
 
+import base64
 import contextlib
+import csv
+import io
+import json
 import os
 import random
 import resource
@@ -120,6 +124,59 @@ def pipes(program, pairs):
         expect(program.do("export", "--dir", folder), written, "export --format %s and back" % form)
     for key in random.Random(5).sample(sorted(pairs), 20):
         expect(program.do("get", "--dir", "by-lines", "--raw", "0x" + key.hex()), pairs[key], "get")
+
+
+def as_member(name, word):
+    """A member of an object: a text, or base64 where the bytes are no UTF-8."""
+    try:
+        return {name: word.decode()}
+    except UnicodeDecodeError:
+        return {name + "_base64": base64.b64encode(word).decode()}
+
+
+def from_object(line):
+    found = json.loads(line)
+    read = {name.removesuffix("_base64"): base64.b64decode(text, validate=True) if name.endswith("_base64") else text.encode() for name, text in found.items()}
+    expect((set(read), len(found)), ({"key", "value"}, 2), "the members of an object")
+    return read["key"], read["value"]
+
+
+def through_json(program, pairs):
+    """What goes out as JSON is that for Python's json, and what that writes comes in."""
+    out = program.do("export", "--dir", "by-lines", "--format", "json")
+    expect([from_object(line) for line in out.split(b"\n")[:-1]], sorted(pairs.items()), "an export of JSON")
+    for number, is_ascii in enumerate((False, True)):
+        lines = [json.dumps({**as_member("value", value), **as_member("key", key)}, ensure_ascii=is_ascii) for key, value in pairs.items()]
+        given = "".join(line + "\n" for line in lines if len(line.encode()) <= 4096).encode()
+        taken = {key: pairs[key] for line, key in zip(lines, pairs) if len(line.encode()) <= 4096}
+        folder = "by-json-%d" % number
+        expect(program.do("import", "--dir", folder, "--format", "json", given=given), b"imported %d\n" % len(taken), "import of JSON")
+        expect(program.do("list", "--dir", folder, "--hex"), in_hex(taken), "what came in as JSON")
+        shutil.rmtree(os.path.join(program.folder, folder))
+
+
+def from_field(field):
+    return bytes.fromhex(field[2:]) if field.startswith("0x") else field.encode()
+
+
+def through_csv(program, pairs):
+    """What goes out as CSV is that for Python's csv, and what that writes comes in: texts, between quotes where it likes."""
+    out = program.do("export", "--dir", "by-lines", "--format", "csv").decode()
+    expect([tuple(map(from_field, row)) for row in csv.reader(io.StringIO(out, newline=""))], sorted(pairs.items()), "an export of CSV")
+    texts = {}
+    for key, value in pairs.items():
+        with contextlib.suppress(UnicodeDecodeError):
+            if not (set(key) | set(value)) & {10, 13}:
+                texts[key.decode()] = value.decode()
+    for number, quoting in enumerate((csv.QUOTE_ALL, csv.QUOTE_MINIMAL)):
+        chosen = {key: value for key, value in texts.items() if number == 0 or not (key.startswith("0x") or value.startswith("0x"))}
+        given = io.StringIO(newline="")
+        csv.writer(given, quoting=quoting).writerows(chosen.items())
+        folder = "by-csv-%d" % number
+        expect(program.do("import", "--dir", folder, "--format", "csv", given=given.getvalue().encode()), b"imported %d\n" % len(chosen), "import of CSV")
+        wanted = {key.encode(): value.encode() for key, value in chosen.items()}
+        expect(program.do("list", "--dir", folder, "--hex"), in_hex(wanted), "what came in as CSV")
+        shutil.rmtree(os.path.join(program.folder, folder))
 
 
 def tool(*words, given=b""):
@@ -269,12 +326,12 @@ def served_on_a_full_disk(program):
             expect(answer, "refused E6 Device lease 0", "the flush that found the disk full")
             for line in ("put more 1", "del k000000", "group put a 1 del b", "flush"):
                 expect(one(line), "refused E7 Failed", line)
-            if not one("stats").endswith(" failed"):
+            if "failed" not in one("stats").split():
                 raise Wrong("stats does not say that the log failed")
             expect(one("get k000000"), "value " + "v" * 500, "get")
             subprocess.run(["mount", "-o", "remount,size=%d" % (16 << 20), folder], check=True)
             expect(one("reopen"), "reopened frame %d lost %d" % (last, put - flushed), "reopen")
-            if one("stats").endswith(" failed"):
+            if "failed" in one("stats").split():
                 raise Wrong("stats says that the log failed, and it was opened again")
             expect(one("count"), "count %d" % flushed, "how many pairs")
             expect(one("put more 1"), "ok", "a put behind it")
@@ -337,6 +394,8 @@ def main():
             with tempfile.TemporaryDirectory() as folder:
                 program = Program(path, folder)
                 pipes(program, pairs)
+                through_json(program, pairs)
+                through_csv(program, pairs)
                 print("%s: %d pairs go in and out" % (name, len(pairs)))
                 print(through_lmdb(program, pairs))
                 print(through_berkeley(program, pairs))

@@ -13,8 +13,9 @@ is what the calls of the system allow, and not a disk: a device that loses what 
 tried.
 
 The same is done of runs whose calls are told by a table (RUNS): an upgrade of a folder, `serve` with cleanings, `threads` with and without
-`--reuse`, each also with a cut of a file that fails, and then each later one; and of restores, whose folder has to be refused until all of it
-stands, and then holds the store as of its frame.
+`--reuse`, each also with a cut of a file that fails, and then each later one; of restores, whose folder has to be refused until all of it
+stands, and then holds the store as of its frame; and of `follow`, whose folder is never of an earlier frame than before, and is brought up to date by
+the next run.
 """
 
 import os
@@ -416,6 +417,43 @@ def restores(shim, room, draw):
     return seen
 
 
+# ---- a folder that follows another one
+
+
+def followed(shim, room, draw):
+    """A follower holds what the other folder held at some frame, behind each of its writes, and never less than before; the next run goes on."""
+    source, target, image, seen = os.path.join(room, "source"), os.path.join(room, "target"), os.path.join(room, "left"), 0
+    records, maps, words = drawn_records(draw, 150, 20), None, ["follow", "--dir", source, "--once", "--to"]
+    begun(source, None)
+    shutil.rmtree(target, ignore_errors=True)
+    for life, (begin, end) in enumerate(((0, 70), (70, 85), (85, 130), (130, 150))):
+        lines = []
+        for number, record in enumerate(records[begin:end], begin + 1):
+            lines += ["put 0 %s %s" % record, "flush"] + ["roll"] * (number % 8 == 0) + ["clean"] * (number % 12 == 0)
+        Watched(shim, room, source, ["replay", "--dir", source, "--m", "4", "--segments", "16", "--capacity", "65560", "--reuse"], "\n".join(lines) + "\n", None, (0, 4))
+        before = held_in(target) if life else {}
+        run = Watched(shim, room, target, [*words, target])
+        if life == 0:
+            # (its folder is made under another name)
+            maps = Maps(records)
+            maps.least = end
+            maps.ask(pairs_of(image, held_in(target)))
+            continue
+        ask(run.printed[0].startswith("followed "), "the round copies the whole:", run.printed)
+        for step, left in enumerate(states(Disk(before, 0), run.notes, draw)):
+            maps.ask(pairs_of(image, left))
+            seen += 1
+            if step % 5 == 0:
+                write(image, left)
+                ran = subprocess.run([PROGRAM, *words, image], capture_output=True, text=True, check=False)
+                ask(ran.returncode == 0, "the next run:", ran.stdout, ran.stderr)
+                found = pairs_of(room + "/again", held_in(image))
+                ask(found[1] == maps.maps[end], "the next run ends at frame", found[0])
+        maps.least = end
+        maps.ask(pairs_of(image, held_in(target)))
+    return seen
+
+
 def main():
     ask(os.path.exists(PROGRAM), PROGRAM + " is not built: make run")
     draw = random.Random(SEED)
@@ -424,7 +462,7 @@ def main():
         shim = shim_of("watch", room)
         end_again(shim, room)
         try:
-            beside = restores(shim, room, draw) + by_table(shim, room, draw)
+            beside = restores(shim, room, draw) + by_table(shim, room, draw) + followed(shim, room, draw)
         except Wrong as wrong:
             print("seed %d: %s" % (SEED, wrong))
             return 1

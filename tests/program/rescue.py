@@ -28,7 +28,7 @@ import tempfile
 # Its numbers are not those of sums.py, whose check of digests stands here too.
 WORDS, sys.argv[1:] = sys.argv[1:], []
 import sums as digests  # noqa: E402
-from checks import Wrong, ask, notes_of, shim_of  # noqa: E402
+from checks import Wrong, ask, expect, held_in, notes_of, shim_of  # noqa: E402
 
 HERE = os.path.dirname(os.path.abspath(__file__))
 PROGRAM = WORDS[0] if WORDS else os.path.join(HERE, "..", "..", "crates", "bwlog", "out", "bwlog")
@@ -443,7 +443,7 @@ def copies(room, files):
 
 
 def restores(room, files):
-    """Each frame before a fault is restored as if there was none."""
+    """Each frame before a fault is restored as if there was none. One that went with a segment is told by the page that is missing, where there is one."""
     path, names, count = os.path.join(room, "image"), segments_of(files), 0
     numbers = sorted(it[0] for name in names for it in frames(files[name], [])[0])
     first, last = numbers[0], numbers[-1]
@@ -455,7 +455,10 @@ def restores(room, files):
             to = fresh(room, "restored")
             status, out, errors = bwlog("restore", "--dir", path, "--to", to, "--frame", str(number))
             answers.append((status, out, errors.replace(path, ""), scan(to) if status == 0 else None))
-        if number < last:
+        if "cannot be restored" in answers[0][2]:
+            ask(answers[0][0] == 4 and answers[0][1] == "", "restore", number, answers[0])
+            ask(all(it == answers[0] or it[0] == 4 and it[1].startswith("refused E17 Unlawful page ") for it in answers[1:]), "restore", number, answers[1:])
+        elif number < last:
             ask(answers[0][:2] == answers[1][:2] and answers[0][3] == answers[1][3], "restore", number, answers[:2])
             ask(answers[0][0] != 0 or answers[0] == answers[2], "restore without digests", number, answers)
         else:
@@ -531,26 +534,49 @@ def killed(room, draw):
 
 
 def partials(room):
-    """What stands under the name that a new folder has meanwhile."""
+    """What stands under the name that a new folder has meanwhile: what is left of a copy is taken over, and anything else stays."""
     path, to = os.path.join(room, "large"), fresh(room, "partials")
     part, mark = to + ".partial", os.path.join(to + ".partial", "unfinished")
     words = ("copy", "--dir", path, "--to", to)
-    told = (6, "", "folder %s: entity already exists\nan earlier run that was stopped may have left %s: remove it, and run this again\n" % (part, part))
-    os.mkdir(part)
-    ask(bwlog(*words) == told and os.listdir(part) == [], "a folder without a mark:", bwlog(*words))
-    for name in ("unfinished", "segment-0000.bw", "segment-0007.sum", "lock"):
-        with open(os.path.join(part, name), "w") as file:
-            file.write("left")
-    with open(os.path.join(part, "mine"), "w"):
+    told = (6, "", "folder %s: entity already exists\nit is not what an earlier run left: give %s another name, and run this again\n" % (part, part))
+    left = {name: b"left" for name in ("segment-0000.bw", "segment-0007.sum", "lock")}
+
+    def stays(files, what):
+        digests.write(part, files)
+        expect(bwlog(*words), told, what)
+        expect(held_in(part), files, what + ": its files")
+
+    def goes(files, what):
+        digests.write(part, files)
+        ask(bwlog(*words)[0] == 0 and not os.path.exists(part), what, bwlog(*words))
+        ask(not {"unfinished", "finished"} & set(os.listdir(to)), what, "leaves a mark")
+        ask(bwlog("verify", "--dir", to)[0] == 0, what, "is no store")
+        shutil.rmtree(to)
+
+    stays(dict(left, mine=b""), "a folder with another file")
+    stays(dict(left, unfinished=b"", mine=b""), "a folder with a mark and another file")
+    stays(dict(left, finished=b"", **{"segment-notes.txt": b""}), "a folder with a mark and a file that is nearly a segment's")
+    stays(left, "a store that nobody marked")
+    os.mkdir(os.path.join(room, "inner"))
+    shutil.rmtree(part)
+    os.symlink(os.path.join(room, "inner"), part)
+    expect(bwlog(*words), told, "a link")
+    os.remove(part)
+    with open(part, "w"):
         pass
-    ask(bwlog(*words) == told and os.path.exists(os.path.join(part, "mine")), "a folder with another file:", bwlog(*words))
-    os.remove(os.path.join(part, "mine"))
-    with open(mark) as file:
-        fcntl.flock(file, fcntl.LOCK_EX)
-        ask(bwlog(*words) == (6, "", "folder %s: in use\n" % part), "a folder that somebody makes:", bwlog(*words))
-    ask(bwlog(*words)[0] == 0 and not os.path.exists(part) and not os.path.exists(os.path.join(to, "unfinished")), "what is left is taken over")
-    ask(bwlog("verify", "--dir", to)[0] == 0, "a copy over what was left")
-    return 4
+    expect(bwlog(*words), told, "a file")
+    os.remove(part)
+    for locked, files in ((mark, dict(left, unfinished=b"")), (os.path.join(part, "finished"), dict(left, finished=b"")), (os.path.join(part, "lock"), dict(left, unfinished=b""))):
+        digests.write(part, files)
+        with open(locked) as file:
+            fcntl.flock(file, fcntl.LOCK_EX)
+            expect(bwlog(*words), (6, "", "folder %s: in use\n" % part), "a folder that somebody has: " + locked)
+        ask(files.items() <= held_in(part).items(), "a folder that somebody has is changed")
+    goes({}, "an empty folder")
+    goes(dict(left, unfinished=b""), "what a copy left that was stopped")
+    goes(dict(left, finished=b""), "what a copy left that was whole but for its name")
+    goes(dict(left, finished=b"", unfinished=b""), "what was left of a copy that took one over")
+    return 13
 
 
 def synced(room, files):

@@ -235,6 +235,11 @@ def states_of(notes, disk, draw, many, image):
 # ---- changed bits
 
 
+def is_beside(name):
+    """Whether a file says nothing of a segment's bytes by itself: the digests, and the times of frames."""
+    return name.endswith(".sum") or name == "times"
+
+
 def with_bit(data, bit):
     return data[: bit // 8] + bytes([data[bit // 8] ^ 1 << bit % 8]) + data[bit // 8 + 1 :]
 
@@ -250,7 +255,7 @@ def flipped(files, image, draw):
         bit = draw.randrange(8 * len(files[name]))
         write(image, {**files, name: with_bit(files[name], bit)})
         after = scan(image)
-        if name.endswith(".sum"):
+        if is_beside(name):
             ask(after == before, "bit", bit, "of", name, "changes what is told:", after)
             continue
         begins = [begin for begin, end, _ in pieces(files[name], sums_of(files, name)) if begin <= bit // 8 < end]
@@ -303,7 +308,7 @@ def changes_of(data):
 
 def told_of(image, files, name, data):
     """What has to be told of a folder whose file has this in place of its bytes; nothing, if that is what was told before."""
-    if name.endswith(".sum"):
+    if is_beside(name):
         return None
     sums = sums_of(files, name)
     if not sums:

@@ -205,6 +205,46 @@ def check_typed(folder):
         ask(told == ("reading the terminal, up to an end of input (Ctrl-D)\r\n" if begins else ""), words[0], "told", repr(told))
 
 
+def check_shell(folder):
+    """A shell on a terminal has a prompt there, and what serve waits for on one is told to be no shell."""
+    words, store = [PROGRAM, "shell", "--dir", os.path.join(folder, "shell")], os.path.join(folder, "shell")
+    ours, theirs = pty.openpty()
+    told = []
+    reader = threading.Thread(target=read_all, args=(ours, told))
+    child = subprocess.Popen(words, stdin=theirs, stdout=theirs, stderr=theirs)
+    os.close(theirs)
+    reader.start()
+    for line in (b"put k v\n", b"get k\n", b"\x04"):
+        deadline = time.time() + 60
+        while not b"".join(told).endswith(b"bwlog> ") and time.time() < deadline:
+            time.sleep(0.02)
+        os.write(ours, line)
+        time.sleep(0.2)
+    status = child.wait(timeout=60)
+    reader.join(timeout=30)
+    os.close(ours)
+    lines = b"".join(told).decode().replace("\r\n", "\n")
+    wanted = "help lists the commands; quit, or Ctrl-D, ends\nbwlog> put k v\nok\nbwlog> get k\nv\nbwlog> \n"
+    ask((status, lines) == (0, wanted), "a shell told", repr(lines), status)
+    ran = subprocess.run([PROGRAM, "get", "--dir", store, "k"], capture_output=True, check=False)
+    ask((ran.returncode, ran.stdout) == (0, b"v\n"), "behind a shell", ran)
+    # What was put is kept before the next line is waited for, so a kill takes none of it.
+    child = subprocess.Popen(words, stdin=subprocess.PIPE, stdout=subprocess.PIPE)
+    child.stdin.write(b"put k w\n")
+    child.stdin.flush()
+    said = child.stdout.readline()
+    child.kill()
+    child.communicate()
+    ran = subprocess.run([PROGRAM, "get", "--dir", store, "k"], capture_output=True, check=False)
+    ask((said, ran.returncode, ran.stdout) == (b"ok\n", 0, b"w\n"), "behind a shell that was killed", said, ran)
+    ours, theirs = pty.openpty()
+    os.write(ours, b"quit\n\x04")
+    _, told = on_terminal(["serve"], source=theirs)
+    os.close(ours)
+    os.close(theirs)
+    ask("these are the requests of a program; for people there is bwlog shell\r\n" in told, "serve told", repr(told))
+
+
 def check_proving(_folder):
     """What tools/shown.py says of a run that proves: the lines and the exit status are the run's."""
     lines = "rt: bw_record is kept: an earlier run proved it\nrt: bw_lows is kept: an earlier run proved it\n1 passed, 1 failed\n"
@@ -222,7 +262,7 @@ def check_proving(_folder):
 def main():
     with tempfile.TemporaryDirectory(dir=FAST) as folder:
         try:
-            for check in (check_proving, check_typed, check_slow, check_silent, check_added, check_large):
+            for check in (check_proving, check_typed, check_shell, check_slow, check_silent, check_added, check_large):
                 check(folder)
         except Wrong as wrong:
             print("terminal: %s" % wrong)

@@ -17,8 +17,6 @@ PROTOCOL = "1"
 LEFT = "a call has no answer: it was left before that was read, or goes on"
 CLOSED = "the store was closed"
 FORKED = "the store is of the process that this one was forked from"
-# A pipe that can be written takes as many bytes at once.
-AT_ONCE = 4096
 # No answer is longer: 1,024 pairs in hex have fewer bytes.
 LONGEST = 1 << 21
 
@@ -55,6 +53,8 @@ class Child:
         pipe = subprocess.PIPE
         self._process = subprocess.Popen(words, stdin=pipe, stdout=pipe, stderr=pipe, bufsize=0)
         self._input = there(self._process.stdin)
+        # A pipe that is full is left, so that answers are read; the child's own end still waits.
+        os.set_blocking(self._input.fileno(), False)
         self._output = there(self._process.stdout)
         self._errors = there(self._process.stderr)
         try:
@@ -133,9 +133,11 @@ class Child:
         return Ended(why)
 
     def _write(self, requests: memoryview) -> memoryview:
-        """Writes some of the requests, and gives the others."""
+        """Writes as many of the requests as the pipe takes, and gives the others."""
         try:
-            return requests[os.write(self._input.fileno(), requests[:AT_ONCE]) :]
+            return requests[os.write(self._input.fileno(), requests) :]
+        except BlockingIOError:
+            return requests
         except BrokenPipeError:
             return requests[:0]  # who reads the answers finds their end
 

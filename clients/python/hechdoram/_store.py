@@ -5,7 +5,7 @@ from __future__ import annotations
 import os
 from collections.abc import Iterable, Iterator, Mapping, MutableMapping
 from contextlib import contextmanager
-from itertools import islice
+from itertools import chain, islice
 from types import TracebackType
 from typing import Any, NamedTuple, TypeVar, Union
 
@@ -30,10 +30,10 @@ PathLike = Union[str, bytes, "os.PathLike[str]", "os.PathLike[bytes]"]
 # A key, and its value, or None if the key is deleted.
 Change = tuple[bytes, Union[bytes, None]]
 
-# The most records of one step, and the most bytes of a line.
-MOST_RECORDS, MOST_BYTES = 4, 4096
-# How many requests are sent in one burst.
-BURST = 1024
+# The most records of one step, the most keys of one line, or pairs, and the most bytes of a line.
+MOST_RECORDS, MOST_KEYS, MOST_BYTES = 4, 64, 4096
+# How many keys, or pairs, are sent in one burst.
+BURST = 16384
 # How many pairs a walk asks for at once, at first and at most.
 FIRST_PAIRS, MOST_PAIRS = 8, 512
 
@@ -87,8 +87,26 @@ class Batch:
         self._changes[key] = value
 
 
+def pair_words(pair: tuple[object, object]) -> bytes:
+    """The two words of a pair that is put."""
+    return b"%s %s" % (word_of(key_in(pair[0])), word_of(value_in(pair[1])))
+
+
 def put_line(pair: tuple[object, object]) -> bytes:
-    return b"put %s %s" % (word_of(key_in(pair[0])), word_of(value_in(pair[1])))
+    return b"put " + pair_words(pair)
+
+
+def lines_of(name: bytes, words: Iterable[bytes]) -> Iterator[bytes]:
+    """The lines of keys, or pairs, in their order, each with as many as it holds."""
+    line, length = [name], len(name)
+    for word in words:
+        length += 1 + len(word)
+        if len(line) > MOST_KEYS or (length > MOST_BYTES and len(line) > 1):
+            yield b" ".join(line)
+            line, length = [name], len(name) + 1 + len(word)
+        line.append(word)
+    if len(line) > 1:
+        yield b" ".join(line)
 
 
 def op_of(key: bytes, value: bytes | None) -> bytes:
@@ -228,18 +246,20 @@ class Store(Pairs, MutableMapping[bytes, bytes]):
         found, asked = iter(keys), []
         values: list[bytes | None] = []
         while asked := [bytes_in("key", key) for key in islice(found, BURST)]:
-            lines = [b"get " + word_of(key) for key in asked if is_key(key)]
-            answers = iter(unrefused(self._child.ask_all(lines)))
-            values += [self._value_in(next(answers)) if is_key(key) else None for key in asked]
+            lines = list(lines_of(b"gets", [word_of(key) for key in asked if is_key(key)]))
+            answers = unrefused(self._child.ask_all(lines))
+            there = chain.from_iterable(map(self._values_in, lines, answers))
+            values += [next(there) if is_key(key) else None for key in asked]
         return values
 
     def put_many(self, pairs: Mapping[bytes, bytes] | Iterable[Pair]) -> None:
-        """Puts many pairs, sent in bursts of 1,024. It is no step: if a pair is refused, others
-        of its burst are put all the same, and the first refusal is raised. A length that no pair
-        may have is refused before its burst is sent."""
+        """Puts many pairs, sent in bursts of 16,384, in lines of up to 64. It is no step: if a
+        pair is refused those after it in its line are not put, the other lines of its burst are,
+        and the first refusal is raised. A length that no pair may have is refused before its burst
+        is sent."""
         found = iter(pairs.items() if isinstance(pairs, Mapping) else pairs)
-        while lines := [put_line(pair) for pair in islice(found, BURST)]:
-            self._child.ask_for(lines, "ok")
+        while words := [pair_words(pair) for pair in islice(found, BURST)]:
+            self._child.ask_for(list(lines_of(b"puts", words)), "ok")
 
     def group(self, changes: Mapping[bytes, bytes | None] | Iterable[Change]) -> None:
         """Makes one to four changes in one step: whatever happens, all are there or none. A value
@@ -348,6 +368,16 @@ class Store(Pairs, MutableMapping[bytes, bytes]):
         try:
             if name == "value":
                 return bytes_of(word)
+        except ValueError:
+            pass
+        raise self._child.no_answer(answer)
+
+    def _values_in(self, line: bytes, answer: str) -> list[bytes | None]:
+        """The values that an answer to many keys says: a word for each, or `=`."""
+        name, *words = answer.split(" ")
+        try:
+            if name == "values" and len(words) == line.count(b" "):
+                return [None if word == "=" else bytes_of(word) for word in words]
         except ValueError:
             pass
         raise self._child.no_answer(answer)

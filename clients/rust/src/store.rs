@@ -4,6 +4,7 @@ use crate::child::Child;
 use crate::span::lowest;
 use crate::words::{
     check, is_key, line_of, number_in, pair_in, pairs_in, push_change, push_word, value_in,
+    values_in,
 };
 use crate::{Error, Kind, Pair, Result, Scan, Span, MAX_KEY};
 use std::ffi::OsString;
@@ -16,8 +17,9 @@ use std::sync::{Mutex, MutexGuard, PoisonError};
 const MOST_RECORDS: usize = 4;
 const MOST_BYTES: usize = 4096;
 const LONG_GROUP: &str = "a group has one to four records, in a line of at most 4096 bytes";
-/// How many requests are sent in one burst.
-const BURST: usize = 1024;
+/// The most keys of one line, or pairs, and how many are sent in one burst.
+const MOST_KEYS: usize = 64;
+const BURST: usize = 16384;
 /// The greatest key.
 const GREATEST: [u8; MAX_KEY] = [0xff; MAX_KEY];
 
@@ -137,6 +139,49 @@ impl Batch {
     }
 }
 
+/// Lines of keys, or of pairs, each with as many as it holds.
+struct Lines {
+    name: &'static [u8],
+    lines: Vec<Vec<u8>>,
+    /// How many each of them has.
+    counts: Vec<usize>,
+    /// How many all of them have.
+    total: usize,
+}
+
+impl Lines {
+    fn new(name: &'static [u8]) -> Lines {
+        Lines { name, lines: Vec::new(), counts: Vec::new(), total: 0 }
+    }
+
+    /// Adds a key, and its value if there is one.
+    fn push(&mut self, key: &[u8], value: Option<&[u8]>) {
+        self.total += 1;
+        if let (Some(line), Some(count)) = (self.lines.last_mut(), self.counts.last_mut()) {
+            let before = line.len();
+            if *count < MOST_KEYS {
+                push_words(line, key, value);
+                if line.len() <= MOST_BYTES {
+                    *count += 1;
+                    return;
+                }
+                line.truncate(before);
+            }
+        }
+        let mut line = self.name.to_vec();
+        push_words(&mut line, key, value);
+        self.lines.push(line);
+        self.counts.push(1);
+    }
+}
+
+fn push_words(line: &mut Vec<u8>, key: &[u8], value: Option<&[u8]>) {
+    push_word(line, key);
+    if let Some(value) = value {
+        push_word(line, value);
+    }
+}
+
 /// What `reopen` found.
 #[derive(Debug, Clone, Copy, PartialEq, Eq)]
 pub struct Reopened {
@@ -235,7 +280,11 @@ impl Store {
 
     /// The value of a key, if it has one.
     pub fn get(&self, key: impl AsRef<[u8]>) -> Result<Option<Vec<u8>>> {
-        Ok(self.get_many([key])?.pop().flatten())
+        if !is_key(key.as_ref()) {
+            self.burst(&mut self.child(), &[], ok_in)?; // a store that has ended says so
+            return Ok(None);
+        }
+        self.ask(&line_of("get", key.as_ref()), value_in)
     }
 
     /// The values of many keys, in their order, asked in bursts.
@@ -244,46 +293,57 @@ impl Store {
         I: IntoIterator,
         I::Item: AsRef<[u8]>,
     {
-        let (mut values, mut lines, mut places) = (Vec::new(), Vec::new(), Vec::new());
+        let (mut values, mut places, mut lines) = (Vec::new(), Vec::new(), Lines::new(b"gets"));
         for key in keys {
             if is_key(key.as_ref()) {
                 places.push(values.len());
-                lines.push(line_of("get", key.as_ref()));
+                lines.push(key.as_ref(), None);
             }
             values.push(None);
-        }
-        for (lines, places) in lines.chunks(BURST).zip(places.chunks(BURST)) {
-            for (at, value) in places.iter().zip(self.burst(&mut self.child(), lines, value_in)?) {
-                values[*at] = value;
+            if lines.total == BURST {
+                self.fill(&mut values, &std::mem::take(&mut places), &lines)?;
+                lines = Lines::new(b"gets");
             }
         }
-        if lines.is_empty() {
-            self.burst(&mut self.child(), &[], ok_in)?; // a store that has ended says so
-        }
+        self.fill(&mut values, &places, &lines)?;
         Ok(values)
     }
 
-    /// Puts many pairs, in bursts of 1,024. It is no step: if a pair is refused, others of its
-    /// burst are put all the same, and the first refusal is returned. A length that no pair may
-    /// have is refused before its burst is sent.
+    /// Asks for the values of keys, and notes each at its place.
+    fn fill(&self, values: &mut [Option<Vec<u8>>], places: &[usize], lines: &Lines) -> Result<()> {
+        let child = &mut self.child();
+        let answers = self.burst(child, &lines.lines, |answer| Some(answer.to_string()))?;
+        let mut places = places.iter();
+        for (answer, count) in answers.iter().zip(&lines.counts) {
+            let found = values_in(answer, *count).ok_or_else(|| child.no_answer(answer))?;
+            for (value, at) in found.into_iter().zip(&mut places) {
+                values[*at] = value;
+            }
+        }
+        Ok(())
+    }
+
+    /// Puts many pairs, in bursts of 16,384, in lines of up to 64. It is no step: if a pair is
+    /// refused those after it in its line are not put, the other lines of its burst are, and the
+    /// first refusal is returned. A length that no pair may have is refused before its burst is
+    /// sent.
     pub fn put_many<I, K, V>(&self, pairs: I) -> Result<()>
     where
         I: IntoIterator<Item = (K, V)>,
         K: AsRef<[u8]>,
         V: AsRef<[u8]>,
     {
-        let mut lines = Vec::new();
+        let mut lines = Lines::new(b"puts");
         for (key, value) in pairs {
             let (key, value) = (key.as_ref(), value.as_ref());
             check(key, value)?;
-            let mut line = Vec::new();
-            push_change(&mut line, key, Some(value));
-            lines.push(line);
-            if lines.len() == BURST {
-                self.burst(&mut self.child(), &std::mem::take(&mut lines), ok_in)?;
+            lines.push(key, Some(value));
+            if lines.total == BURST {
+                self.burst(&mut self.child(), &lines.lines, ok_in)?;
+                lines = Lines::new(b"puts");
             }
         }
-        self.burst(&mut self.child(), &lines, ok_in).map(|_| ())
+        self.burst(&mut self.child(), &lines.lines, ok_in).map(|_| ())
     }
 
     /// Makes one to four changes in one step: whatever happens, all are there or none. More are

@@ -71,6 +71,17 @@ pub(crate) fn value_in(answer: &str) -> Option<Option<Vec<u8>>> {
     answer.strip_prefix("value ").and_then(bytes_of).map(Some)
 }
 
+/// The values of an answer to so many keys: a word for each, or `=` of one that has none; `None` of
+/// what is no answer to that.
+pub(crate) fn values_in(answer: &str, count: usize) -> Option<Vec<Option<Vec<u8>>>> {
+    let mut words = answer.strip_prefix("values ")?.split(' ');
+    let mut values = Vec::with_capacity(count);
+    for word in words.by_ref().take(count) {
+        values.push(if word == "=" { None } else { Some(bytes_of(word)?) });
+    }
+    (values.len() == count && words.next().is_none()).then_some(values)
+}
+
 /// The pair of a word `k=v`.
 fn pair_of(word: &str) -> Option<Pair> {
     let (key, value) = word.split_once('=')?;

@@ -27,7 +27,7 @@ pub struct Walk {
 }
 
 impl Walk {
-    ghost use Rattle.bw_home.specs.Maps.{maps_of};
+    ghost use Rattle.bw_home.specs.Maps.{maps_of, StaysMap};
     ghost use Rattle.bw_home.specs.Ready.{kept_in, IsReady};
 
     /// A walk over all pairs.
@@ -79,6 +79,7 @@ impl Walk {
         self.place = after(&key);
         Some((key, value))
     }
+
     /// The first pair ahead, as `Home::next_at` reads it; `None` where there is none. The walk is
     /// then behind that pair, or at its end, from where it reads no more.
     ///
@@ -98,6 +99,7 @@ impl Walk {
         ensures read { HasRead (kept_in home.old holding) (kept_in home.new holding) }
         ensures follows { Follows (kept_in home.old holding) (kept_in home.new holding) }
         ensures boxes { HasBoxes (kept_in home.old holding) (kept_in home.new holding) }
+        ensures stays { StaysMap home.old home.new holding }
     {
         let Some(place) = &self.place else {
             return Ok(None);

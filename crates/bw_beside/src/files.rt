@@ -3,7 +3,7 @@
 use crate::host::Host;
 use crate::miss::Miss;
 use bw_codec::limits::HEADER_LEN;
-use bw_codec::{HeaderRead, read_header};
+use bw_codec::{Header, HeaderRead, read_header};
 use bw_device::{MAX_CAPACITY, MAX_LEASES};
 use std::alloc::Global;
 use std::fs::{self, File, OpenFile};
@@ -86,23 +86,72 @@ pub(crate) fn number_of(bytes: &[u8]) -> Option<u64> {
     }
 }
 
-/// The number of the segment in the file of a lease, if it begins with a whole header.
-pub(crate) fn number_in<R: Host>(rt: &R, folder: &str, lease: u32) -> Result<Option<u64>, Miss> {
+/// The header of the segment in the file of a lease, if it is whole.
+pub fn header_in<R: Host>(rt: &R, folder: &str, lease: u32) -> Result<Option<Header>, Miss> {
     let front = front_in(rt, folder, lease, HEADER_LEN as u64)?;
-    Ok(number_of(front.as_slice()))
+    match read_header(front.as_slice()) {
+        HeaderRead::Whole(header) => Ok(Some(header)),
+        _ => Ok(None),
+    }
 }
 
 /// All bytes of the file of a lease.
-pub(crate) fn bytes_in<R: Host>(rt: &R, folder: &str, lease: u32) -> Result<Vec<u8>, Miss> {
+pub fn bytes_in<R: Host>(rt: &R, folder: &str, lease: u32) -> Result<Vec<u8>, Miss> {
     front_in(rt, folder, lease, MAX_CAPACITY)
 }
 
 /// The bytes of the sums beside it; none where there are no sums.
-pub(crate) fn sums_in<R: Host>(rt: &R, folder: &str, lease: u32) -> Result<Vec<u8>, Miss> {
+pub fn sums_in<R: Host>(rt: &R, folder: &str, lease: u32) -> Result<Vec<u8>, Miss> {
     let name = format!(in rt.alloc(); "segment-{lease:04}.sum")?;
     if !is_there(rt, folder, name.as_str())? {
         return Ok(Vec::new(rt.alloc()));
     }
     let path = format!(in rt.alloc(); "{folder}/{name}")?;
     front_of(rt.alloc(), &plain(rt, path.as_str())?, MAX_CAPACITY)
+}
+
+/// The bytes of the file of a lease from one offset on up to another. Refused where it has fewer.
+pub fn stretch_in<R: Host>(
+    rt: &R,
+    folder: &str,
+    lease: u32,
+    from: u64,
+    to: u64,
+) -> Result<Vec<u8>, Miss> {
+    let name = format!(in rt.alloc(); "{folder}/segment-{lease:04}.bw")?;
+    let len = to.saturating_sub(from);
+    if len > MAX_CAPACITY {
+        return Err(Miss::Moved);
+    }
+    let mut bytes = vec![in rt.alloc(); 0u8; len as usize]?;
+    plain(rt, name.as_str())?.read_exact_at(&mut bytes, from)?;
+    Ok(bytes)
+}
+
+/// The bytes of the sums beside the file of a lease from an offset on; none where they end before, or
+/// there are no sums.
+pub fn sums_from<R: Host>(rt: &R, folder: &str, lease: u32, from: u64) -> Result<Vec<u8>, Miss> {
+    let name = format!(in rt.alloc(); "segment-{lease:04}.sum")?;
+    if !is_there(rt, folder, name.as_str())? {
+        return Ok(Vec::new(rt.alloc()));
+    }
+    let path = format!(in rt.alloc(); "{folder}/{name}")?;
+    let file = plain(rt, path.as_str())?;
+    let len = file.metadata()?.len().saturating_sub(from);
+    if len > MAX_CAPACITY {
+        return Err(Miss::Moved);
+    }
+    let mut bytes = vec![in rt.alloc(); 0u8; len as usize]?;
+    file.read_exact_at(&mut bytes, from)?;
+    Ok(bytes)
+}
+
+/// How many bytes the sums beside the file of a lease have; 0 where there are none.
+pub fn sums_length<R: Host>(rt: &R, folder: &str, lease: u32) -> Result<u64, Miss> {
+    let name = format!(in rt.alloc(); "{folder}/segment-{lease:04}.sum")?;
+    match fs::symlink_metadata(rt, name.as_str()) {
+        Ok(found) => Ok(found.len()),
+        Err(error) if error.kind() == ErrorKind::NotFound => Ok(0),
+        Err(error) => Err(Miss::from(error)),
+    }
 }

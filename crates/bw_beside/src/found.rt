@@ -40,8 +40,8 @@ fn found_boxes(alloc: Global, boxes: Vec<Box<dyn Segment>>) -> Result<Found, Mis
     }
 }
 
-// The same of copies of segments. Their boxes are made only here: a function that takes or gives a
-// box makes none.
+// What recovery finds in copies of segments. Their boxes are made only here: a function that takes
+// or gives a box makes none.
 fn found_copies(alloc: Global, copies: Vec<MemSegment>) -> Result<Found, Miss> {
     let mut boxes: Vec<Box<dyn Segment>> = Vec::new(alloc);
     for copy in copies {

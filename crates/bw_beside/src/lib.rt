@@ -5,6 +5,9 @@
 //! recovery says whether they are those of one moment. If it refuses them, or a file became another
 //! one meanwhile, they are read once more. Why that is enough stands in `docs/FORMAT.md`, "A folder
 //! that is read while it is written". Nothing in the folder is made or written.
+//!
+//! Who goes on reading what is added (`bw_follow`) looks at the live segments by a `Row` too, and reads
+//! single files.
 #![tactic(auto)]
 
 mod files;
@@ -15,6 +18,9 @@ mod opened;
 mod row;
 mod standing;
 
+pub use files::{bytes_in, header_in, stretch_in, sums_from, sums_in, sums_length};
 pub use host::Host;
-pub use opened::{Opened, open};
-pub use standing::Stood;
+pub use miss::Miss;
+pub use opened::{Opened, TRIES, open};
+pub use row::{Live, Row};
+pub use standing::{Stood, is_unfinished};

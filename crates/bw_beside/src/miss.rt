@@ -7,7 +7,7 @@ use std::io::{self, ErrorKind};
 
 /// Why files were not read as of one moment.
 #[derive(Debug, Clone, Copy, PartialEq, Eq)]
-pub(crate) enum Miss {
+pub enum Miss {
     /// A growth was refused.
     NoMemory,
     /// They are not those of one moment, or could not be read. They may be the next time.

@@ -7,7 +7,7 @@ use bw_file::{FolderFault, FolderReader};
 use bw_watch::Watch;
 
 /// How often a folder that somebody writes is read at most.
-const TRIES: u32 = 10;
+pub const TRIES: u32 = 10;
 
 /// A folder that is open to be read.
 #[derive(Drop)]

@@ -1,7 +1,7 @@
 //! The live segments of a folder that somebody writes, as they are seen before any is read, and the
 //! order in which their files are read then.
 
-use crate::files::{leases_in, number_in};
+use crate::files::{header_in, leases_in};
 use crate::host::Host;
 use crate::miss::Miss;
 use std::alloc::{AllocError, Global};
@@ -9,15 +9,15 @@ use std::collections::BTreeMap;
 
 /// A live segment: its number, and the lease of its file.
 #[derive(Debug, Clone, Copy, PartialEq, Eq)]
-struct Live {
-    number: u64,
-    lease: u32,
+pub struct Live {
+    pub number: u64,
+    pub lease: u32,
 }
 
 /// The live segments of a folder as two looks in a row saw them, by their numbers. There is one at
 /// least.
 #[derive(Drop)]
-pub(crate) struct Row {
+pub struct Row {
     live: Vec<Live>,
 }
 
@@ -25,8 +25,8 @@ pub(crate) struct Row {
 fn numbers_in<R: Host>(rt: &R, folder: &str) -> Result<BTreeMap<u64, u32>, Miss> {
     let mut numbers = BTreeMap::new(rt.alloc());
     for lease in &leases_in(rt, folder)? {
-        if let Some(number) = number_in(rt, folder, *lease)? {
-            if numbers.insert(number, *lease)?.is_some() {
+        if let Some(header) = header_in(rt, folder, *lease)? {
+            if numbers.insert(header.number, *lease)?.is_some() {
                 return Err(Miss::Moved);
             }
         }
@@ -49,13 +49,18 @@ fn look<R: Host>(rt: &R, folder: &str) -> Result<Vec<Live>, Miss> {
 impl Row {
     /// Looks twice. What both looks see was begun before the second one, so all that is older and was
     /// not seen had been given up when it ended. Refused where they do not agree, or see no segment.
-    pub(crate) fn of<R: Host>(rt: &R, folder: &str) -> Result<Row, Miss> {
+    pub fn of<R: Host>(rt: &R, folder: &str) -> Result<Row, Miss> {
         let before = look(rt, folder)?;
         let live = look(rt, folder)?;
         if live.is_empty() || before.as_slice() != live.as_slice() {
             return Err(Miss::Moved);
         }
         Ok(Row { live })
+    }
+
+    /// The live segments, the oldest first. There is one at least.
+    pub fn live(&self) -> &[Live] {
+        self.live.as_slice()
     }
 
     fn is_seen(&self, lease: u32) -> bool {

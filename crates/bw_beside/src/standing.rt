@@ -91,6 +91,11 @@ fn images_of(alloc: Global, files: BTreeMap<u32, Taken>) -> Result<(Vec<Image>, 
     Ok((images, unsummed))
 }
 
+/// Whether a folder is not made whole yet.
+pub fn is_unfinished<R: Host>(rt: &R, folder: &str) -> Result<bool, Miss> {
+    is_there(rt, folder, MARK)
+}
+
 /// The segments of a folder as they stood at one of its frames, if that is what a reading comes to.
 /// A folder that is not made whole yet has none.
 pub(crate) fn standing<R: Host, W: Watch>(
@@ -98,7 +103,7 @@ pub(crate) fn standing<R: Host, W: Watch>(
     folder: &str,
     watch: &mut W,
 ) -> Result<Stood, Miss> {
-    if is_there(rt, folder, MARK)? {
+    if is_unfinished(rt, folder)? {
         return Err(Miss::Moved);
     }
     let row = Row::of(rt, folder)?;

@@ -1,3 +1,6 @@
 pub mod PlainLaws
 pub mod CallLaws
+pub mod LeaveLaws
+pub mod NameLaws
+pub mod WalkLaws
 pub mod WayLaws

@@ -65,7 +65,7 @@ behind tables p new h g = subst (λ (t : Tables). IsTables t new) h.its g
 
 -- ---- one value
 
-some_is : (a b : Bytes) → ◌≡◌ {A = Option Bytes} (Some a) (Some b) → a ≡ b
+pub some_is : (a b : Bytes) → ◌≡◌ {A = Option Bytes} (Some a) (Some b) → a ≡ b
 some_is a b e = ap (λ (o : Option Bytes). elim o as (λ _. Bytes) [ None ↦ a | Some x ↦ x ]) e
 
 got_by : (p : Plain) (t key : Bytes) (o : Option Bytes) → IsLawful p → option_map table_in o ≡ Some t

@@ -1,9 +1,9 @@
 -- What calls make of a plain map and its tables.
 
-use Rattle.std.specs.Prelude.{◌≡◌, true, false, IsTrue, nat_eq, Option, Some, None}
+use Rattle.std.specs.Prelude.{◌≡◌, ℕ, [], ◌∷◌, true, false, IsTrue, nat_eq, Option, Some, None}
 use Rattle.std.specs.List.{starts_with}
 use Rattle.std.specs.Option.{option_and_then}
-use Rattle.bw_rows.specs.Spelling.{Bytes, name_key, row_key}
+use Rattle.bw_rows.specs.Spelling.{Bytes, name_key, row_key, row_place}
 use Rattle.bw_rows.specs.Meaning.{Plain, Table, Tables, tables_of, with_value}
 use Rattle.bw_rows.specs.Law.{is_doomed}
 use Rattle.bw_rows.specs.Laws.{IsTables, HasNumber}
@@ -20,6 +20,19 @@ IsSet p t key value new = (name : Bytes) → HasNumber p name t → IsTables (wi
 pub record HasSame (p new : Plain) : Type 0 where
   pub names : (name : Bytes) → new (name_key name) ≡ p (name_key name)
   pub rows : (k : Bytes) → new (row_key k) ≡ p (row_key k)
+
+-- names are as they were
+pub record HasSameNames (p new : Plain) : Type 0 where
+  pub names : (name : Bytes) → new (name_key name) ≡ p (name_key name)
+
+-- no row has this number
+abbrev pub HasNoRow : Plain → Bytes → Type 0
+HasNoRow p t = (key : Bytes) → p (row_key (row_place t key)) ≡ None
+
+-- the first byte of a key
+abbrev pub kind_in : Bytes → ℕ
+kind_in [] = 0
+kind_in (kind ∷ rest) = kind
 
 -- the first pair whose key begins so, where there is one
 abbrev pub IsFirstOf : Plain → Bytes → Option (Bytes × Bytes) → Type 0

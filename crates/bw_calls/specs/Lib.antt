@@ -1,2 +1,6 @@
 pub mod Changes
+pub mod Laws
+pub mod Lives
+pub mod Names
 pub mod Standing
+pub mod Walks

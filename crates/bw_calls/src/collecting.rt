@@ -5,7 +5,8 @@ ghost use Rattle.bw_rows.specs.Law.{is_doomed};
 ghost use Rattle.bw_rows.specs.Laws.{HasNoChunk, IsLawful, IsTables};
 ghost use Rattle.bw_home.specs.Maps.{maps_of};
 ghost use Rattle.bw_home.specs.Ready.{IsReady};
-ghost use Rattle.bw_calls.specs.Changes.{IsClean, IsCollecting};
+ghost use Rattle.bw_calls.specs.Changes.{HasSameNames, IsClean, IsCollecting};
+ghost use Rattle.bw_calls.specs.Lives.{Reads, Stays};
 ghost use Rattle.bw_calls.specs.Standing.{plain_in, tables_in, waits};
 
 use crate::fault::TableFault;
@@ -20,13 +21,16 @@ use bw_tables::free_group;
 const MOST: u32 = 32_768;
 
 // The kind of keys that doom a number.
-const DOOMED: u8 = 2;
+pub(crate) const DOOMED: u8 = 2;
+
+// The kind of keys of chunks.
+pub(crate) const CHUNK: u8 = 7;
 
 // What the keys of a number's chunks begin with.
 fn front_of(number: Number) -> Key
     ensures { result ≡ 7 ∷ number.bytes }
 {
-    let mut bytes = [7; 9];
+    let mut bytes = [CHUNK; 9];
     bytes[1..].copy_from_slice(&number.bytes);
     ways::key_of(&bytes)
 }
@@ -59,6 +63,7 @@ fn first_left(home: &mut Home, number: Number) -> Result<Option<u32>, TableFault
     ensures none { IfOk result (λ left. left ≡ None
         → HasNoChunk (plain_in home.old holding) number.bytes) }
     ensures before { IfErr result (λ fault. waits fault ≡ false) }
+    ensures leaves { Reads home.old home.new holding }
 {
     match ways::first(home, front_of(number))? {
         None => Ok(None),
@@ -76,7 +81,11 @@ fn drop_chunk(home: &mut Home, number: Number, i: u32) -> Result<(), TableFault>
     ensures stays { IsLawful (plain_in home.old holding)
         → is_doomed (plain_in home.old holding) number.bytes ≡ true
         → IsCollecting (tables_in home.old holding) (plain_in home.new holding) number.bytes }
+    ensures names { HasSameNames (plain_in home.old holding) (plain_in home.new holding) }
     ensures before { IfErr result (λ fault. waits fault ≡ false) }
+    ensures leaves { IsLawful (plain_in home.old holding)
+        → is_doomed (plain_in home.old holding) number.bytes ≡ true
+        → Stays (tables_in home.old holding) home.old home.new holding }
 {
     ways::prepare(home, Group::one(Record::Del(chunk_key(number, i))))
 }
@@ -88,7 +97,11 @@ fn free(home: &mut Home, number: Number) -> Result<(), TableFault>
     ensures stays { IsLawful (plain_in home.old holding)
         → HasNoChunk (plain_in home.old holding) number.bytes
         → IsTables (tables_in home.old holding) (plain_in home.new holding) }
+    ensures names { HasSameNames (plain_in home.old holding) (plain_in home.new holding) }
     ensures before { IfErr result (λ fault. waits fault ≡ false) }
+    ensures leaves { IsLawful (plain_in home.old holding)
+        → HasNoChunk (plain_in home.old holding) number.bytes
+        → Stays (tables_in home.old holding) home.old home.new holding }
 {
     ways::prepare(home, free_group(number))
 }
@@ -100,7 +113,11 @@ fn collect_doomed(home: &mut Home, number: Number) -> Result<(), TableFault>
     ensures stays { IsLawful (plain_in home.old holding)
         → is_doomed (plain_in home.old holding) number.bytes ≡ true
         → IsTables (tables_in home.old holding) (plain_in home.new holding) }
+    ensures names { HasSameNames (plain_in home.old holding) (plain_in home.new holding) }
     ensures before { IfErr result (λ fault. waits fault ≡ false) }
+    ensures leaves { IsLawful (plain_in home.old holding)
+        → is_doomed (plain_in home.old holding) number.bytes ≡ true
+        → Stays (tables_in home.old holding) home.old home.new holding }
 {
     'chunks: for _ in 0..=MOST {
         match first_left(home, number)? {
@@ -117,7 +134,10 @@ pub(crate) fn collect(home: &mut Home, number: Number) -> Result<(), TableFault>
     ensures ready { IsReady home.new holding }
     ensures stays { IsLawful (plain_in home.old holding)
         → IsTables (tables_in home.old holding) (plain_in home.new holding) }
+    ensures names { HasSameNames (plain_in home.old holding) (plain_in home.new holding) }
     ensures before { IfErr result (λ fault. waits fault ≡ false) }
+    ensures leaves { IsLawful (plain_in home.old holding)
+        → Stays (tables_in home.old holding) home.old home.new holding }
 {
     match ways::get(home, &doomed_key(number))? {
         Some(_) => collect_doomed(home, number),
@@ -133,6 +153,7 @@ fn first_doomed(home: &mut Home) -> Result<Option<Number>, TableFault>
     ensures none { IfOk result (λ first. first ≡ None
         → IsClean (plain_in home.old holding)) }
     ensures before { IfErr result (λ fault. waits fault ≡ false) }
+    ensures leaves { Reads home.old home.new holding }
 {
     match ways::first(home, ways::key_of(&[DOOMED]))? {
         None => Ok(None),
@@ -143,17 +164,15 @@ fn first_doomed(home: &mut Home) -> Result<Option<Number>, TableFault>
     }
 }
 
-/// Finishes what a stop or a refusal left half done: all chunks of doomed numbers go away. Where
-/// nothing was left it is one search. The tables stay, whatever the answer.
-///
-/// Refused `NotRead` and `NotMade` as the store is, and `NotTables` where the store has other pairs
-/// than those of tables.
-pub fn open(home: &mut Home) -> Result<(), TableFault>
+/// The chunks of all doomed numbers go away.
+pub(crate) fn collect_all(home: &mut Home) -> Result<(), TableFault>
     requires { IsReady home.old holding }
     ensures ready { IsReady home.new holding }
     ensures stays { IsLawful (plain_in home.old holding)
         → IsTables (tables_in home.old holding) (plain_in home.new holding) }
     ensures clean { OnOk result (IsClean (plain_in home.new holding)) }
+    ensures leaves { IsLawful (plain_in home.old holding)
+        → Stays (tables_in home.old holding) home.old home.new holding }
 {
     'numbers: for _ in 0..u64::MAX {
         match first_doomed(home)? {

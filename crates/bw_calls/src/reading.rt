@@ -9,6 +9,7 @@ ghost use Rattle.bw_rows.specs.Laws.{IsLawful};
 ghost use Rattle.bw_tables.specs.Writing.{named};
 ghost use Rattle.bw_home.specs.Maps.{maps_of};
 ghost use Rattle.bw_home.specs.Ready.{IsReady};
+ghost use Rattle.bw_calls.specs.Lives.{Reads};
 ghost use Rattle.bw_calls.specs.Standing.{plain_in, tables_in, waits};
 ghost use Rattle.bw_calls.specs.Changes.{value_at};
 
@@ -18,6 +19,19 @@ use bw_home::Home;
 use bw_rows::limits::MAX_LEN;
 use bw_rows::{Head, Name, Number, RowKey, TableNumber, chunk_count, chunk_key, name_key, row_key};
 
+/// The number of a table, in what stands at its name.
+pub(crate) fn number_in(row: &[u8]) -> Result<TableNumber, TableFault>
+    ensures number { IfOk result (λ table. table.bytes ≡ table_in row.now) }
+    ensures before { IfErr result (λ fault. waits fault ≡ false) }
+{
+    match row {
+        [high, low, ..] => Ok(TableNumber {
+            bytes: [*high, *low],
+        }),
+        _ => Err(TableFault::NotTables),
+    }
+}
+
 /// The number of a table; `None` where no table has this name.
 pub(crate) fn number_of(home: &mut Home, name: &Name) -> Result<Option<TableNumber>, TableFault>
     requires { IsReady home.old holding }
@@ -26,16 +40,12 @@ pub(crate) fn number_of(home: &mut Home, name: &Name) -> Result<Option<TableNumb
     ensures number { IfOk result (λ number. option_map (λ t. t.bytes) number
         ≡ option_map table_in (plain_in home.old holding (spelling.name_key name.now))) }
     ensures before { IfErr result (λ fault. waits fault ≡ false) }
+    ensures leaves { Reads home.old home.new holding }
 {
     let Some(row) = ways::get(home, &name_key(name))? else {
         return Ok(None);
     };
-    match row.as_slice() {
-        [high, low, ..] => Ok(Some(TableNumber {
-            bytes: [*high, *low],
-        })),
-        _ => Err(TableFault::NotTables),
-    }
+    Ok(Some(number_in(row.as_slice())?))
 }
 
 /// What the row of a key names, where it names a long value.
@@ -50,6 +60,7 @@ pub(crate) fn head_of(
     ensures head { IfOk result (λ head. named head
         ≡ head_at (plain_in home.old holding) (spelling.row_place table.bytes key.now)) }
     ensures before { IfErr result (λ fault. waits fault ≡ false) }
+    ensures leaves { Reads home.old home.new holding }
 {
     match ways::get(home, &row_key(table, key))? {
         Some(row) => Ok(Head::read(row.as_slice())),
@@ -76,6 +87,7 @@ fn add_chunk(home: &mut Home, number: Number, i: u32, value: &mut Vec<u8>) -> Re
     ensures added { OnOk result (value.new.items ≡ value.old.items
         ++ or_nothing (chunks_of (plain_in home.old holding) number.bytes i)) }
     ensures before { IfErr result (λ fault. waits fault ≡ false) }
+    ensures leaves { Reads home.old home.new holding }
 {
     match ways::get(home, &chunk_key(number, i))? {
         Some(chunk) => add(value, chunk.as_slice()),
@@ -91,6 +103,7 @@ fn join(home: &mut Home, number: Number, count: u32) -> Result<Vec<u8>, TableFau
     ensures value { IfOk result (λ value. value.items
         ≡ joined (chunks_of (plain_in home.old holding) number.bytes) count) }
     ensures before { IfErr result (λ fault. waits fault ≡ false) }
+    ensures leaves { Reads home.old home.new holding }
 {
     let mut value = Vec::new(*home.feeds.allocator());
     'chunks: for i in 0..count {
@@ -112,14 +125,15 @@ fn itself(home: &Home, row: &[u8]) -> Result<Vec<u8>, TableFault>
     Ok(value)
 }
 
-// The value that a row stands for.
-fn value_of(home: &mut Home, row: &[u8]) -> Result<Vec<u8>, TableFault>
+/// The value that a row stands for.
+pub(crate) fn value_of(home: &mut Home, row: &[u8]) -> Result<Vec<u8>, TableFault>
     requires { IsReady home.old holding }
     ensures ready { IsReady home.new holding }
     ensures same { (maps_of home.new holding).put ≡ (maps_of home.old holding).put }
     ensures value { IfOk result (λ value. value.items
         ≡ value_of (plain_in home.old holding) row.now) }
     ensures before { IfErr result (λ fault. waits fault ≡ false) }
+    ensures leaves { Reads home.old home.new holding }
 {
     match Head::read(row) {
         None => itself(home, row),
@@ -142,6 +156,7 @@ pub fn get(home: &mut Home, name: &Name, key: &RowKey) -> Result<Option<Vec<u8>>
         → IfOk result (λ value. option_map (λ bytes. bytes.items) value
         ≡ value_at (tables_in home.old holding) name.now key.now) }
     ensures before { IfErr result (λ fault. waits fault ≡ false) }
+    ensures leaves { Reads home.old home.new holding }
 {
     let Some(table) = number_of(home, name)? else {
         return Ok(None);

@@ -3,9 +3,12 @@
 //! Each takes first what waits in the queue, so that what is read is all that was put.
 
 ghost use Rattle.std.specs.Prelude.{◌≡◌, ◌⊎◌, ◌<◌, ◌≤◌, false, cond, length, IfErr, IfOk, OnOk};
+ghost use Rattle.bw_page.specs.Ahead.{IsFirst};
+ghost use Rattle.bw_walks.specs.Back.{IsLastBelow};
 ghost use Rattle.bw_rows.specs.Steps.{after};
 ghost use Rattle.bw_home.specs.Maps.{maps_of};
 ghost use Rattle.bw_home.specs.Ready.{IsReady};
+ghost use Rattle.bw_calls.specs.Lives.{Reads, Writes};
 ghost use Rattle.bw_calls.specs.Standing.{is_waiting, plain_in, waits};
 ghost use Rattle.bw_calls.specs.Changes.{IsFirstOf};
 
@@ -22,6 +25,7 @@ fn take(home: &mut Home) -> Result<(), TableFault>
     ensures same { (maps_of home.new holding).put ≡ (maps_of home.old holding).put }
     ensures taken { OnOk result ((maps_of home.new holding).now ≡ (maps_of home.new holding).put) }
     ensures before { IfErr result (λ fault. waits fault ≡ false) }
+    ensures leaves { Reads home.old home.new holding }
 {
     if home.feeds.len() != 1 {
         return Err(TableFault::NotMade(MapFault::Writers));
@@ -39,6 +43,7 @@ pub(crate) fn get(home: &mut Home, key: &Key) -> Result<Option<Value>, TableFaul
     ensures same { (maps_of home.new holding).put ≡ (maps_of home.old holding).put }
     ensures value { IfOk result (λ value. value ≡ plain_in home.old holding key.now) }
     ensures before { IfErr result (λ fault. waits fault ≡ false) }
+    ensures leaves { Reads home.old home.new holding }
 {
     take(home)?;
     match home.get(key) {
@@ -66,6 +71,8 @@ pub(crate) fn step(home: &mut Home, group: Group) -> Result<(), TableFault>
     ensures refused { IfErr result (λ fault. plain_in home.new holding
         ≡ cond (waits fault) (after (plain_in home.old holding) group)
         (plain_in home.old holding)) }
+    ensures leaves { Writes (after (plain_in home.old holding) group)
+        home.old home.new holding }
 {
     match home.change(group) {
         Ok(()) => Ok(()),
@@ -83,6 +90,8 @@ pub(crate) fn prepare(home: &mut Home, group: Group) -> Result<(), TableFault>
         (plain_in home.new holding ≡ plain_in home.old holding)
         ⊎ (plain_in home.new holding ≡ after (plain_in home.old holding) group)) }
     ensures before { IfErr result (λ fault. waits fault ≡ false) }
+    ensures leaves { Writes (after (plain_in home.old holding) group)
+        home.old home.new holding }
 {
     match home.change(group) {
         Ok(()) => Ok(()),
@@ -97,6 +106,7 @@ pub(crate) fn first(home: &mut Home, prefix: Key) -> Result<Option<(Key, Value)>
     ensures same { (maps_of home.new holding).put ≡ (maps_of home.old holding).put }
     ensures value { IfOk result (λ pair. IsFirstOf (plain_in home.old holding) prefix pair) }
     ensures before { IfErr result (λ fault. waits fault ≡ false) }
+    ensures leaves { Reads home.old home.new holding }
 {
     take(home)?;
     let mut walk = Walk::over(prefix);
@@ -106,22 +116,35 @@ pub(crate) fn first(home: &mut Home, prefix: Key) -> Result<Option<(Key, Value)>
     }
 }
 
-// The key of a pair.
-fn key_in(pair: Option<(Key, Value)>) -> Option<Key> {
-    let (key, _) = pair?;
-    Some(key)
-}
-
-/// The last key below this one.
-pub(crate) fn below(home: &mut Home, key: &Key) -> Result<Option<Key>, TableFault>
+/// The first pair whose key is at or above this one.
+pub(crate) fn from(home: &mut Home, key: &Key) -> Result<Option<(Key, Value)>, TableFault>
     requires { IsReady home.old holding }
     ensures ready { IsReady home.new holding }
     ensures same { (maps_of home.new holding).put ≡ (maps_of home.old holding).put }
+    ensures value { IfOk result (λ pair. IsFirst (maps_of home.old holding).put key.now pair) }
     ensures before { IfErr result (λ fault. waits fault ≡ false) }
+    ensures leaves { Reads home.old home.new holding }
+{
+    take(home)?;
+    match home.next_at(key) {
+        Ok(pair) => Ok(pair),
+        Err(cause) => Err(TableFault::NotRead(cause)),
+    }
+}
+
+/// The last pair whose key is below this one.
+pub(crate) fn below(home: &mut Home, key: &Key) -> Result<Option<(Key, Value)>, TableFault>
+    requires { IsReady home.old holding }
+    ensures ready { IsReady home.new holding }
+    ensures same { (maps_of home.new holding).put ≡ (maps_of home.old holding).put }
+    ensures value { IfOk result (λ pair.
+        IsLastBelow (maps_of home.old holding).put key.now pair) }
+    ensures before { IfErr result (λ fault. waits fault ≡ false) }
+    ensures leaves { Reads home.old home.new holding }
 {
     take(home)?;
     match home.prev_below(key) {
-        Ok(pair) => Ok(key_in(pair)),
+        Ok(pair) => Ok(pair),
         Err(cause) => Err(TableFault::NotRead(cause)),
     }
 }

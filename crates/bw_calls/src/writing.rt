@@ -1,16 +1,17 @@
 //! Values come and go.
 
 ghost use Rattle.std.specs.Prelude.{◌≡◌, ◌+◌, ◌*◌, ◌<◌, ◌≤◌, false, Some, None, length, IfErr, IfOk, OnErr, OnOk};
-ghost use Rattle.bw_rows.specs.Spelling.{chunks_in};
+ghost use Rattle.bw_rows.specs.Spelling.{chunks_in, Bytes};
 ghost use Rattle.bw_rows.specs.Meaning.{Tables, with_value};
-ghost use Rattle.bw_rows.specs.Laws.{IsLawful, IsTables, IsUnnamed};
+ghost use Rattle.bw_rows.specs.Laws.{HasNumber, IsLawful, IsTables, IsUnnamed};
 ghost use Rattle.bw_tables.specs.Writing.{IsWriting};
 ghost use Rattle.bw_home.specs.Maps.{maps_of};
 ghost use Rattle.bw_home.specs.Ready.{IsReady};
+ghost use Rattle.bw_calls.specs.Lives.{Goes, Reads, Stays};
 ghost use Rattle.bw_calls.specs.Standing.{plain_in, tables_in, waits, IsLeftBy, IsNotSet};
 ghost use Rattle.bw_calls.specs.Changes.{HasSame, IsSet};
 
-use crate::collecting::collect;
+use crate::collecting::{CHUNK, DOOMED, collect};
 use crate::fault::TableFault;
 use crate::reading::{head_of, number_of};
 use crate::ways;
@@ -19,12 +20,8 @@ use bw_rows::limits::{MAX_LEN, MAX_WHOLE};
 use bw_rows::{Head, Name, Number, RowKey, TableNumber, chunk_count, chunk_key};
 use bw_tables::{chunk_group, delete_step, first_group, long_step, short_step};
 
-// The kinds of keys that have a value's number.
-const DOOMED: u8 = 2;
-
+// The kind of keys of numbers that are free.
 const FREE: u8 = 4;
-
-const CHUNK: u8 = 7;
 
 // The number behind the kind of a key.
 fn number_in(key: &[u8]) -> Option<Number> {
@@ -42,6 +39,7 @@ fn first_of(home: &mut Home, kind: u8) -> Result<Option<Number>, TableFault>
     ensures ready { IsReady home.new holding }
     ensures same { (maps_of home.new holding).put ≡ (maps_of home.old holding).put }
     ensures before { IfErr result (λ fault. waits fault ≡ false) }
+    ensures leaves { Reads home.old home.new holding }
 {
     match ways::first(home, ways::key_of(&[kind]))? {
         Some((key, _)) => Ok(number_in(key.as_slice())),
@@ -56,8 +54,9 @@ fn behind(home: &mut Home, kind: u8) -> Result<u64, TableFault>
     ensures ready { IsReady home.new holding }
     ensures same { (maps_of home.new holding).put ≡ (maps_of home.old holding).put }
     ensures before { IfErr result (λ fault. waits fault ≡ false) }
+    ensures leaves { Reads home.old home.new holding }
 {
-    let Some(key) = ways::below(home, &ways::key_of(&[kind + 1]))? else {
+    let Some((key, _)) = ways::below(home, &ways::key_of(&[kind + 1]))? else {
         return Ok(0);
     };
     if !key.as_slice().starts_with(&[kind]) {
@@ -69,6 +68,18 @@ fn behind(home: &mut Home, kind: u8) -> Result<u64, TableFault>
     }
 }
 
+// A number above all that have chunks, and no less than this one.
+fn above(home: &mut Home, doomed: u64) -> Result<Number, TableFault>
+    requires { IsReady home.old holding }
+    ensures ready { IsReady home.new holding }
+    ensures same { (maps_of home.new holding).put ≡ (maps_of home.old holding).put }
+    ensures before { IfErr result (λ fault. waits fault ≡ false) }
+    ensures leaves { Reads home.old home.new holding }
+{
+    let taken = behind(home, CHUNK)?;
+    Ok(Number::of(doomed.max(taken)))
+}
+
 // A number that is to be taken next: the least one that may be taken again, or one above all that
 // are taken.
 fn candidate(home: &mut Home) -> Result<Number, TableFault>
@@ -76,13 +87,13 @@ fn candidate(home: &mut Home) -> Result<Number, TableFault>
     ensures ready { IsReady home.new holding }
     ensures same { (maps_of home.new holding).put ≡ (maps_of home.old holding).put }
     ensures before { IfErr result (λ fault. waits fault ≡ false) }
+    ensures leaves { Reads home.old home.new holding }
 {
     if let Some(number) = first_of(home, FREE)? {
         return Ok(number);
     }
     let doomed = behind(home, DOOMED)?;
-    let taken = behind(home, CHUNK)?;
-    Ok(Number::of(doomed.max(taken)))
+    above(home, doomed)
 }
 
 // A number that no row names, since its first chunk is not there.
@@ -93,6 +104,7 @@ fn fresh(home: &mut Home) -> Result<Number, TableFault>
     ensures unnamed { IsLawful (plain_in home.old holding)
         → IfOk result (λ number. IsUnnamed (plain_in home.old holding) number.bytes) }
     ensures before { IfErr result (λ fault. waits fault ≡ false) }
+    ensures leaves { Reads home.old home.new holding }
 {
     let number = candidate(home)?;
     match ways::get(home, &chunk_key(number, 0))? {
@@ -116,6 +128,9 @@ fn begin(home: &mut Home, number: Number, value: &[u8], to: u32) -> Result<(), T
         → IsUnnamed (plain_in home.old holding) number.bytes
         → OnErr result (IsTables (tables_in home.old holding) (plain_in home.new holding)) }
     ensures before { IfErr result (λ fault. waits fault ≡ false) }
+    ensures leaves { IsLawful (plain_in home.old holding)
+        → IsUnnamed (plain_in home.old holding) number.bytes
+        → Stays (tables_in home.old holding) home.old home.new holding }
 {
     ways::prepare(home, first_group(number, value, to))
 }
@@ -135,6 +150,9 @@ fn add(home: &mut Home, number: Number, value: &[u8], from: u32, to: u32) -> Res
         → IsWriting tables (plain_in home.old holding) number.bytes value.now from
         → OnErr result (IsTables tables (plain_in home.new holding)) }
     ensures before { IfErr result (λ fault. waits fault ≡ false) }
+    ensures leaves { (tables : Tables)
+        → IsWriting tables (plain_in home.old holding) number.bytes value.now from
+        → Stays tables home.old home.new holding }
 {
     ways::prepare(home, chunk_group(number, value, from, to))
 }
@@ -167,6 +185,9 @@ fn add_all(
         → IsWriting tables (plain_in home.old holding) number.bytes value.now from
         → OnErr result (IsTables tables (plain_in home.new holding)) }
     ensures before { IfErr result (λ fault. waits fault ≡ false) }
+    ensures leaves { (tables : Tables)
+        → IsWriting tables (plain_in home.old holding) number.bytes value.now from
+        → Stays tables home.old home.new holding }
 {
     let mut at = from;
     'groups: while at < to {
@@ -196,6 +217,8 @@ fn write(home: &mut Home, value: &[u8]) -> Result<Number, TableFault>
     ensures stays { IsLawful (plain_in home.old holding)
         → OnErr result (IsTables (tables_in home.old holding) (plain_in home.new holding)) }
     ensures before { IfErr result (λ fault. waits fault ≡ false) }
+    ensures leaves { IsLawful (plain_in home.old holding)
+        → Stays (tables_in home.old holding) home.old home.new holding }
 {
     let number = fresh(home)?;
     let count = chunk_count(value.len() as u64) as u32;
@@ -212,6 +235,8 @@ fn collect_old(home: &mut Home, old: Option<Head>)
     ensures ready { IsReady home.new holding }
     ensures stays { IsLawful (plain_in home.old holding)
         → IsTables (tables_in home.old holding) (plain_in home.new holding) }
+    ensures leaves { IsLawful (plain_in home.old holding)
+        → Stays (tables_in home.old holding) home.old home.new holding }
 {
     if let Some(head) = old {
         let _ = collect(home, head.number);
@@ -234,6 +259,10 @@ fn put_short(
     ensures refused { IsLawful (plain_in home.old holding)
         → IfErr result (λ fault. IsNotSet fault (plain_in home.old holding)
         table.bytes key.now (Some value.now) (plain_in home.new holding)) }
+    ensures leaves { IsLawful (plain_in home.old holding) → (name : Bytes)
+        → HasNumber (plain_in home.old holding) name table.bytes
+        → Goes (tables_in home.old holding)
+        (with_value (tables_in home.old holding) name key.now (Some value.now)) home.old home.new holding }
 {
     let old = head_of(home, table, key)?;
     match ways::step(home, short_step(table, key, value, old)) {
@@ -262,6 +291,10 @@ fn put_long(
     ensures refused { IsLawful (plain_in home.old holding)
         → IfErr result (λ fault. IsNotSet fault (plain_in home.old holding)
         table.bytes key.now (Some value.now) (plain_in home.new holding)) }
+    ensures leaves { IsLawful (plain_in home.old holding) → (name : Bytes)
+        → HasNumber (plain_in home.old holding) name table.bytes
+        → Goes (tables_in home.old holding)
+        (with_value (tables_in home.old holding) name key.now (Some value.now)) home.old home.new holding }
 {
     let number = write(home, value)?;
     let old = head_of(home, table, key)?;
@@ -285,6 +318,10 @@ fn put_at(home: &mut Home, table: TableNumber, key: &RowKey, value: &[u8]) -> Re
     ensures refused { IsLawful (plain_in home.old holding)
         → IfErr result (λ fault. IsNotSet fault (plain_in home.old holding)
         table.bytes key.now (Some value.now) (plain_in home.new holding)) }
+    ensures leaves { IsLawful (plain_in home.old holding) → (name : Bytes)
+        → HasNumber (plain_in home.old holding) name table.bytes
+        → Goes (tables_in home.old holding)
+        (with_value (tables_in home.old holding) name key.now (Some value.now)) home.old home.new holding }
 {
     if value.len() <= MAX_WHOLE {
         put_short(home, table, key, value)
@@ -309,6 +346,9 @@ pub fn put(home: &mut Home, name: &Name, key: &RowKey, value: &[u8]) -> Result<(
         → IfErr result (λ fault. IsLeftBy fault (tables_in home.old holding)
         (with_value (tables_in home.old holding) name.now key.now (Some value.now))
         (plain_in home.new holding)) }
+    ensures leaves { IsLawful (plain_in home.old holding)
+        → Goes (tables_in home.old holding)
+        (with_value (tables_in home.old holding) name.now key.now (Some value.now)) home.old home.new holding }
 {
     if value.len() > MAX_LEN {
         return Err(TableFault::TooLong);
@@ -329,6 +369,10 @@ fn delete_at(home: &mut Home, table: TableNumber, key: &RowKey) -> Result<(), Ta
     ensures refused { IsLawful (plain_in home.old holding)
         → IfErr result (λ fault. IsNotSet fault (plain_in home.old holding)
         table.bytes key.now None (plain_in home.new holding)) }
+    ensures leaves { IsLawful (plain_in home.old holding) → (name : Bytes)
+        → HasNumber (plain_in home.old holding) name table.bytes
+        → Goes (tables_in home.old holding)
+        (with_value (tables_in home.old holding) name key.now None) home.old home.new holding }
 {
     let old = head_of(home, table, key)?;
     match ways::step(home, delete_step(table, key, old)) {
@@ -351,6 +395,9 @@ pub fn delete(home: &mut Home, name: &Name, key: &RowKey) -> Result<(), TableFau
         → IfErr result (λ fault. IsLeftBy fault (tables_in home.old holding)
         (with_value (tables_in home.old holding) name.now key.now None)
         (plain_in home.new holding)) }
+    ensures leaves { IsLawful (plain_in home.old holding)
+        → Goes (tables_in home.old holding)
+        (with_value (tables_in home.old holding) name.now key.now None) home.old home.new holding }
 {
     match number_of(home, name)? {
         Some(table) => delete_at(home, table, key),

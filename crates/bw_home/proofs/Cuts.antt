@@ -5,7 +5,6 @@ use Rattle.std.specs.Prelude.{◌==◌, ◌&&◌, not, if◌then◌else◌, slic
 use Rattle.std.specs.declared.alloc.Global.{Global}
 use Rattle.std.specs.declared.vec.Vec.{Vec}
 use Rattle.std.specs.List.{AllByRecursion as All, fold}
-use Rattle.std.proofs.lemmas.Bool.{eq-eqb}
 use Rattle.std.proofs.lemmas.List.{length-map, length-drop, length-append, map-append, take-map, take-append-le, drop-append-le, take-append-drop, drop-drop}
 use Rattle.std.proofs.lemmas.List.Sums.{fold-append}
 use Rattle.bw_device.specs.Holding.{Holding}
@@ -18,7 +17,7 @@ use Rattle.bw_ring.specs.Marks.{Marked, marked}
 use Rattle.bw_ring.specs.declared.feed.Feed.{Feed}
 use Rattle.bw_history.specs.declared.entry.Entry.{Entry}
 use Rattle.bw_history.specs.Entries.{records}
-use Rattle.bw_history.specs.History.{AreCuts, cut, is_grouped, of_writer, streams}
+use Rattle.bw_history.specs.History.{AreCuts, cut, is_grouped, streams}
 use Rattle.bw_history.specs.Machine.{IsMachine, Machine, MayLeave, Stops, keeps}
 use Rattle.bw_terms.specs.declared.fault.StoreFault.{StoreFault}
 use Rattle.bw_core.specs.Following.{Continues}
@@ -35,7 +34,7 @@ use Rattle.bw_home.specs.Cuts.{IsAmong, IsLater, IsMap, cuts_from, maps_after, w
 use Rattle.bw_home.specs.Maps.{accepted_in, cuts_by, map_of, maps_of, IsMapBy, StaysMap}
 use Rattle.bw_home.specs.Ready.{kept_in}
 use Rattle.bw_home.specs.declared.home.Home.{Home}
-use Rattle.bw_home.proofs.Maps.{all_taken, first_of, items, same_count, set_first}
+use Rattle.bw_home.proofs.Maps.{all_taken, first_of, items, items_marks, mark, marks_of, own_marks, same_count, set_first}
 
 -- ---- maps one after the other
 
@@ -95,16 +94,6 @@ later_at m xs (suc n) lt c = (let e = end_at m xs n lt c in let k = e.1 in (suc 
 
 -- ---- entries of the only writer
 
-abbrev mark : Entry → Marked
-mark e = record { item = e.item; more = e.more }
-
-abbrev marks_of : List Entry → List Marked
-marks_of es = map mark es
-
-items_marks : (es : List Entry) → items (marks_of es) ≡ records es
-items_marks [] = refl
-items_marks (e ∷ es) = ap (λ (l : List Record). e.item ∷ l) (items_marks es)
-
 second : (a b : Bool) → (a && b) ≡ true → b ≡ true
 second true b e = e
 second false b e = absurd cc
@@ -114,18 +103,6 @@ closed_marks [] g = refl
 closed_marks (e ∷ []) g = g
 closed_marks (e ∷ f ∷ es) g =
     closed_marks (f ∷ es) (second (if e.more then f.writer == e.writer else true) (is_grouped (f ∷ es)) g)
-
-own : (e : Entry) (es : List Entry) (b : Bool) → b ≡ true
-    → (if b then record { item = e.item; more = e.more } ∷ of_writer 0 es else of_writer 0 es) ≡ record { item = e.item; more = e.more } ∷ of_writer 0 es
-own e es true is = refl
-own e es false is = absurd cc
-
-own_marks : (es : List Entry) → All (λ e. e.writer < 1) es → of_writer 0 es ≡ marks_of es
-own_marks [] all = refl
-own_marks (e ∷ es) all =
-    let below = all.0 in
-    own e es (e.writer == 0) (eq-eqb e.writer 0 (omega arith))
-    ∙ ap (λ (l : List Marked). record { item = e.item; more = e.more } ∷ l) (own_marks es all.1)
 
 -- these entries begin what was put
 abbrev pub Begin : List Entry → List Marked → Type 0

@@ -30,17 +30,33 @@ items_marked [] = refl
 items_marked (r ∷ []) = refl
 items_marked (r ∷ s ∷ rs) = ap (λ (l : List Record). r ∷ l) (items_marked (s ∷ rs))
 
--- the only writer's records are all records
+-- ---- entries of the only writer
+
+abbrev pub mark : Entry → Marked
+mark e = record { item = e.item; more = e.more }
+
+abbrev pub marks_of : List Entry → List Marked
+marks_of es = map mark es
+
+pub items_marks : (es : List Entry) → items (marks_of es) ≡ records es
+items_marks [] = refl
+items_marks (e ∷ es) = ap (λ (l : List Record). e.item ∷ l) (items_marks es)
+
 own : (e : Entry) (es : List Entry) (b : Bool) → b ≡ true
-    → items (if b then record { item = e.item; more = e.more } ∷ of_writer 0 es else of_writer 0 es) ≡ e.item ∷ items (of_writer 0 es)
+    → (if b then record { item = e.item; more = e.more } ∷ of_writer 0 es else of_writer 0 es) ≡ record { item = e.item; more = e.more } ∷ of_writer 0 es
 own e es true is = refl
 own e es false is = absurd cc
 
-of_only : (es : List Entry) → All (λ e. e.writer < 1) es → items (of_writer 0 es) ≡ records es
-of_only [] all = refl
-of_only (e ∷ es) all =
+pub own_marks : (es : List Entry) → All (λ e. e.writer < 1) es → of_writer 0 es ≡ marks_of es
+own_marks [] all = refl
+own_marks (e ∷ es) all =
     let below = all.0 in
-    own e es (e.writer == 0) (eq-eqb e.writer 0 (omega arith)) ∙ ap (λ (l : List Record). e.item ∷ l) (of_only es all.1)
+    own e es (e.writer == 0) (eq-eqb e.writer 0 (omega arith))
+    ∙ ap (λ (l : List Marked). record { item = e.item; more = e.more } ∷ l) (own_marks es all.1)
+
+-- the only writer's records are all records
+of_only : (es : List Entry) → All (λ e. e.writer < 1) es → items (of_writer 0 es) ≡ records es
+of_only es all = ap items (own_marks es all) ∙ items_marks es
 
 -- ---- what was put, and what was taken
 

@@ -44,8 +44,8 @@ abbrev pub ChangedCuts : Result (Unit {0}) MapFault → List Map → Map → Lis
 ChangedCuts (Ok x) old changed new = IsLater (old ++ changed ∷ []) new
 ChangedCuts (Err fault) old changed new = RefusedCuts fault old changed new
 
--- a map: there is one writer, and nothing was taken but what its feed accepted, in that order. A home that was just opened with one writer
--- is a map, and each of its calls leaves it one
+-- a map: there is one writer, and nothing was taken but what its feed accepted, in that order. `take_all` and `settle` make sure of the second,
+-- and each call whose contract says `map` or `stays` leaves it so
 pub record IsMap (feeds : List Feed) (s : Kept) : Type 0 where
   pub one : length feeds ≡ 1
   pub heard : IsOfFeeds feeds s.entries

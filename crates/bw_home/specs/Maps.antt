@@ -23,16 +23,16 @@ pub record Maps : Type 0 where
   pub put : Map
   -- as all that was taken leaves it: this is what `get` looks at
   pub now : Map
-  -- as what is durable leaves it: every stop leaves this at least
+  -- as what is durable leaves it
   pub kept : Map
-  -- the kept map, and each that a group made since, in turn, up to what was put: a stop leaves one of these
+  -- the kept map, and each that a group made since, in turn, up to what was put: if the home is a map, a stop leaves one of these
   pub cuts : List Map
 
 -- as these entries leave it
 abbrev pub map_of : Kept → List Entry → Map
 map_of s entries = plain s.start (records entries)
 
--- the maps that a stop may leave, if this was put
+-- the maps that a stop may leave, if this was put and nothing else was taken
 abbrev pub cuts_by : Kept → List Marked → List Map
 cuts_by s put = cuts_from (map_of s (take (machine_of s).durable s.entries)) (machine_of s).durable put
 
@@ -73,7 +73,7 @@ pub record Keeps (map : Map) (m : Maps) : Type 0 where
   pub kept : m.kept ≡ map
   pub cuts : m.cuts ≡ map ∷ []
 
--- where a call was refused: nothing was put; or the change was, and waits in the queue
+-- if a call was refused: nothing was put; or the change was, and waits in the queue
 abbrev pub Refuses : MapFault → Map → Map → Maps → Type 0
 Refuses Writers was changed m = m.put ≡ was
 Refuses (NotPut cause) was changed m = m.put ≡ was

@@ -25,8 +25,8 @@ impl From<HomeFault> for NotBegun {
 }
 
 /// A new store if all boxes are new, with what was found before; and else the one that they hold. If
-/// they have only the beginning of a first frame, that is cleared. Nothing is written before the
-/// boxes are known to hold a store, or nothing.
+/// they have only the beginning of a first frame, that is cleared. What was opened again is settled
+/// once recovery took it, or there was nothing to take: nothing is written before.
 pub(crate) fn begin<R: System>(
     rt: &R,
     options: &Options,

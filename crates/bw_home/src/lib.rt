@@ -9,7 +9,8 @@
 //! the feeds (`specs/Ready.antt`), and the course has to leave them so: each call of `Home` does.
 //! With one writer a home is a map: `set`, `delete`, `get`, `next_at`, `scan`, and `keep`, which makes
 //! it durable (`specs/Maps.antt`). A stop leaves one of its *cuts*: the map that is kept, or one that
-//! a later group made; and the next opening begins with it (`specs/Cuts.antt`, `specs/Laws.antt`).
+//! a later group made, and a store that begins over its segments has that map (`specs/Cuts.antt`,
+//! `specs/Laws.antt`).
 #![tactic(auto)]
 
 mod begun;

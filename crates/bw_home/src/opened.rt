@@ -204,8 +204,9 @@ pub fn with_store_in_legs<R: System, L: Legs<R>>(
 /// 4,096 segments. Files without bytes may have been made then, and no other is written.
 ///
 /// A folder that was open before, and lacks no file, is read once: it takes the time of a recovery,
-/// and memory for its files. Any other is looked at before anything is made in it: that takes memory
-/// for all files twice for a moment, and twice the time of a recovery.
+/// and memory for its files, for one of them twice for a moment. Any other is looked at before
+/// anything is made in it: that takes memory for all files twice for a moment, and twice the time of
+/// a recovery.
 pub fn with_store<R: System, C: Course<R>>(
     rt: &R,
     path: &str,

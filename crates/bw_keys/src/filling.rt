@@ -7,6 +7,7 @@
 use crate::fault::KeysFault;
 use crate::records::Records;
 use bw_codec::{Key, Record};
+use bw_home::Home;
 use std::alloc::{AllocError, Global};
 use std::collections::VecDeque;
 
@@ -151,6 +152,10 @@ impl<S: Records> Filling<S> {
 }
 
 impl<S: Records> Records for Filling<S> {
+    fn look(&mut self, home: &mut Home) -> Result<(), KeysFault> {
+        self.records.look(home)
+    }
+
     fn next_record(&mut self) -> Result<Option<Record>, KeysFault> {
         'records: for _ in 0..u64::MAX {
             if let Some(record) = self.take() {

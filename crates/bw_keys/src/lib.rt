@@ -1,11 +1,13 @@
-//! Keys and values of a folder for people and for pipes: one is put, got or deleted, all are listed
-//! and counted, and whole sets come in and go out as `bw_pairs` spells them.
+//! Keys and values of a folder for people and for pipes: one is put, some are got or deleted, all are
+//! listed and counted, and whole sets come in and go out as `bw_pairs` spells them.
 //!
 //! `perform` does one `Task` over a folder. What reads opens the folder beside other readers, or beside
 //! whoever writes it (`bw_beside`), looks at it as recovery does, and changes nothing; what writes
 //! opens it alone, by `bw_home`, makes room by itself (`Tending`), and ends with a flush.
 #![tactic(auto)]
 
+mod changes;
+mod deletes;
 mod fault;
 mod filling;
 mod full;
@@ -14,14 +16,18 @@ mod listing;
 mod load;
 mod measure;
 mod pages;
+mod plan;
 mod records;
 mod span;
 mod task;
 mod tending;
 
+pub use changes::{Changed, Effect, Import, Loaded};
 pub use fault::KeysFault;
 pub use full::Admission;
 pub use leases::{FEW, leases_of};
-pub use listing::Style;
-pub use task::{Import, Listed, Loaded, Range, Task, Told, perform};
+pub use listing::{Parts, Style};
+pub use plan::Plan;
+pub use span::above;
+pub use task::{Listed, Range, Task, Told, perform};
 pub use tending::Tending;

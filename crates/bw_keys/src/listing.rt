@@ -1,10 +1,14 @@
 //! Pairs that are written, in the order of their keys or against it.
 
 use crate::fault::KeysFault;
+use crate::pages::count_of;
 use crate::span::Span;
 use bw_codec::{Leaf, Pair};
 use bw_page::Leaves;
-use bw_pairs::{Letters, Spelling, write_dumped, write_end, write_header, write_pair, write_word};
+use bw_pairs::{
+    Letters, Spelling, write_csv, write_csv_field, write_dumped, write_end, write_header,
+    write_json, write_line, write_pair,
+};
 use bw_watch::{Watch, Work};
 use std::io::{self, Write};
 
@@ -17,8 +21,40 @@ pub enum Style {
     Keys(Spelling),
     /// A value a line.
     Values(Spelling),
+    /// An object of JSON a line.
+    Json(Parts),
+    /// A line of CSV.
+    Csv(Parts),
     /// A dump, with the size of the other store's map where that is given.
     Dump(Letters, Option<u64>),
+}
+
+/// What is written of a pair.
+#[derive(Debug, Clone, Copy, PartialEq, Eq)]
+pub enum Parts {
+    Both,
+    Keys,
+    Values,
+}
+
+impl Parts {
+    /// Writes an object of JSON.
+    fn write_json<O: Write>(self, output: &mut O, pair: &Pair) -> io::Result<()> {
+        match self {
+            Parts::Both => write_json(output, Some(pair.key()), Some(pair.value())),
+            Parts::Keys => write_json(output, Some(pair.key()), None),
+            Parts::Values => write_json(output, None, Some(pair.value())),
+        }
+    }
+
+    /// Writes a line of CSV.
+    fn write_csv<O: Write>(self, output: &mut O, pair: &Pair) -> io::Result<()> {
+        match self {
+            Parts::Both => write_csv(output, pair.key(), pair.value()),
+            Parts::Keys => write_csv_field(output, pair.key()),
+            Parts::Values => write_csv_field(output, pair.value()),
+        }
+    }
 }
 
 impl Style {
@@ -28,15 +64,11 @@ impl Style {
             Style::Tabs(spelling) => write_pair(output, spelling, pair.key(), pair.value()),
             Style::Keys(spelling) => write_line(output, spelling, pair.key()),
             Style::Values(spelling) => write_line(output, spelling, pair.value()),
+            Style::Json(parts) => parts.write_json(output, pair),
+            Style::Csv(parts) => parts.write_csv(output, pair),
             Style::Dump(letters, _) => write_dumped(output, letters, pair.key(), pair.value()),
         }
     }
-}
-
-/// Writes a word, and an end of line.
-fn write_line<O: Write>(output: &mut O, spelling: Spelling, word: &[u8]) -> io::Result<()> {
-    write_word(output, spelling, word)?;
-    output.write_all(b"\n")
 }
 
 /// Pairs that go out.
@@ -45,6 +77,8 @@ pub struct Listing<'a, O> {
     output: &'a mut O,
     style: Style,
     span: &'a Span,
+    /// How many are passed over before.
+    passed: u64,
     /// How many more are wanted.
     left: u64,
 }
@@ -56,8 +90,14 @@ impl<'a, O: Write> Listing<'a, O> {
             output,
             style,
             span,
+            passed: 0,
             left: most,
         }
+    }
+
+    /// Passes over all pairs of these pages but for so many with the greatest keys.
+    pub fn pass_all_but(&mut self, last: u64, leaves: &Leaves, pages: &[u32]) {
+        self.passed = count_of(leaves, pages, self.span).saturating_sub(last);
     }
 
     /// Writes what stands before the pairs.
@@ -82,6 +122,10 @@ impl<'a, O: Write> Listing<'a, O> {
     fn pair(&mut self, pair: &Pair) -> Result<(), KeysFault> {
         let key = pair.key();
         if self.left == 0 || !self.span.has(key) {
+            return Ok(());
+        }
+        if self.passed > 0 {
+            self.passed -= 1;
             return Ok(());
         }
         self.left -= 1;

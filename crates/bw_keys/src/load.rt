@@ -5,8 +5,10 @@ ghost use Rattle.bw_home.specs.Ready.{IsReady};
 
 use crate::fault::KeysFault;
 use crate::full::Admission;
+use crate::measure::last_frame;
 use crate::records::Records;
 use crate::tending::{Tending, forget};
+use bw_codec::Record;
 use bw_core::StoreFault;
 use bw_home::{Added, Home, HomeFault, Legs, System};
 use bw_ring::{FullGroup, Group};
@@ -23,10 +25,22 @@ enum Step {
     End,
 }
 
+/// Which of its records a load puts.
+#[derive(Debug, Clone, Copy, PartialEq, Eq)]
+pub enum Wanted {
+    /// All.
+    All,
+    /// Those of a key that has no value yet.
+    Absent,
+    /// Those of a key that has one.
+    Present,
+}
+
 /// Records that go into a store.
 #[derive(Drop)]
 pub struct Load<'a, S, W> {
     records: &'a mut S,
+    wanted: Wanted,
     /// How many bytes the input of the records has; 0 where that is not known.
     all: u64,
     watch: &'a mut W,
@@ -39,15 +53,25 @@ pub struct Load<'a, S, W> {
     fault: Option<KeysFault>,
     /// How many went in.
     count: u64,
+    /// How many were passed over, since they are not wanted.
+    passed: u64,
     /// How many of these are durable, once all has ended.
     durable: u64,
 }
 
 impl<'a, S: Records, W: Watch> Load<'a, S, W> {
-    /// These records, of an input of so many bytes, into a store that is tended so.
-    pub fn new(records: &'a mut S, all: u64, watch: &'a mut W, tending: Tending) -> Load<'a, S, W> {
+    /// Those of these records that are wanted, of an input of so many bytes, into a store that is
+    /// tended so.
+    pub fn new(
+        records: &'a mut S,
+        wanted: Wanted,
+        all: u64,
+        watch: &'a mut W,
+        tending: Tending,
+    ) -> Load<'a, S, W> {
         Load {
             records,
+            wanted,
             all,
             watch,
             tending,
@@ -55,8 +79,14 @@ impl<'a, S: Records, W: Watch> Load<'a, S, W> {
             is_over: false,
             fault: None,
             count: 0,
+            passed: 0,
             durable: 0,
         }
+    }
+
+    /// How many records were passed over, since they are not wanted.
+    pub fn passed(&self) -> u64 {
+        self.passed
     }
 
     /// How many records are durable, once all has ended.
@@ -64,12 +94,24 @@ impl<'a, S: Records, W: Watch> Load<'a, S, W> {
         self.durable
     }
 
+    /// The next record of the store, or of the input.
+    fn next_record(&mut self, home: &mut Home) -> Result<Option<Record>, KeysFault>
+        requires { IsReady home.old holding }
+        ensures { IsReady home.new holding }
+    {
+        self.records.look(home)?;
+        self.records.next_record()
+    }
+
     /// The next record: one that waits, or one that is read. What is at fault ends the records.
-    fn next_group(&mut self) -> Option<Group> {
+    fn next_group(&mut self, home: &mut Home) -> Option<Group>
+        requires { IsReady home.old holding }
+        ensures { IsReady home.new holding }
+    {
         if let Some(group) = self.waiting.take() {
             return Some(group);
         }
-        match self.records.next_record() {
+        match self.next_record(home) {
             Ok(Some(record)) => Some(Group::one(record)),
             Ok(None) => {
                 self.is_over = true;
@@ -94,6 +136,7 @@ impl<'a, S: Records, W: Watch> Load<'a, S, W> {
         forget(home);
         self.watch
             .see(Work::Importing, self.records.bytes(), self.all);
+        self.watch.durable(last_frame(home));
         Ok(Step::On)
     }
 
@@ -183,6 +226,39 @@ impl<'a, S: Records, W: Watch> Load<'a, S, W> {
         self.flush(rt, home)
     }
 
+    /// Whether a record is wanted, as all that was taken leaves its key.
+    fn wants(&self, home: &mut Home, group: &Group) -> Result<bool, KeysFault>
+        requires { IsReady home.old holding }
+        ensures { IsReady home.new holding }
+    {
+        let Some(item) = group.as_slice().first() else {
+            return Ok(false);
+        };
+        let has_value = home.get(item.key())?.is_some();
+        Ok(has_value == (self.wanted == Wanted::Present))
+    }
+
+    /// Puts a record, once all before it was taken, if it is wanted.
+    fn put_if_wanted<R: System>(
+        &mut self,
+        rt: &R,
+        home: &mut Home,
+        group: Group,
+    ) -> Result<Step, KeysFault>
+        requires { IsReady home.old holding }
+        ensures { IsReady home.new holding }
+    {
+        if self.take(rt, home)? == Step::Room {
+            self.waiting = Some(group);
+            return Ok(Step::Room);
+        }
+        if self.wants(home, &group)? {
+            return self.put(rt, home, group);
+        }
+        self.passed = self.passed.saturating_add(1);
+        Ok(Step::On)
+    }
+
     /// Does what comes next.
     fn step<R: System>(&mut self, rt: &R, home: &mut Home) -> Result<Step, KeysFault>
         requires { IsReady home.old holding }
@@ -191,8 +267,9 @@ impl<'a, S: Records, W: Watch> Load<'a, S, W> {
         if self.is_over {
             return self.close(rt, home);
         }
-        match self.next_group() {
-            Some(group) => self.put(rt, home, group),
+        match self.next_group(home) {
+            Some(group) if self.wanted == Wanted::All => self.put(rt, home, group),
+            Some(group) => self.put_if_wanted(rt, home, group),
             None => Ok(Step::On),
         }
     }
@@ -238,15 +315,18 @@ fn refused_spare(home: &Home) -> Result<(), KeysFault>
     }
 }
 
-impl<R: System, S: Records, W: Watch> Legs<R> for Load<'_, S, W> {
-    type Answer = Result<u64, KeysFault>;
-
-    fn leg(&mut self, rt: &R, home: &mut Home) -> Option<Result<u64, KeysFault>> {
+impl<S: Records, W: Watch> Load<'_, S, W> {
+    /// Goes on with the records in a leg; none is answered if another leg has to follow.
+    fn go_on<R: System>(&mut self, rt: &R, home: &mut Home) -> Option<Result<u64, KeysFault>>
+        requires { IsReady home.old holding }
+        ensures { IsReady home.new holding }
+    {
         if let Err(fault) = refused_spare(home) {
             self.durable = home.store.durable_of(0);
             return Some(Err(fault));
         }
         self.tell_added(home);
+        self.watch.durable(last_frame(home));
         match self.up_to_room(rt, home) {
             Ok(Step::End) => {
                 self.durable = self.count;
@@ -258,5 +338,17 @@ impl<R: System, S: Records, W: Watch> Legs<R> for Load<'_, S, W> {
                 Some(Err(fault))
             }
         }
+    }
+}
+
+impl<R: System, S: Records, W: Watch> Legs<R> for Load<'_, S, W> {
+    type Answer = Result<u64, KeysFault>;
+
+    fn leg(&mut self, rt: &R, home: &mut Home) -> Option<Result<u64, KeysFault>> {
+        let ended = self.go_on(rt, home);
+        if ended.is_some() {
+            self.watch.closing(last_frame(home));
+        }
+        ended
     }
 }

@@ -31,6 +31,16 @@ pub fn newest(home: &Home) -> (u64, u64)
     }
 }
 
+/// The number of the last frame that was appended, 0 before the first.
+pub fn last_frame(home: &Home) -> u64
+    requires { IsReady home.now holding }
+{
+    match home.store.next_frame() {
+        Some(next) => next.saturating_sub(1),
+        None => u64::MAX,
+    }
+}
+
 /// How many records were taken.
 pub fn taken(home: &Home) -> u64 {
     let kept = home.store.history().len() as u64;

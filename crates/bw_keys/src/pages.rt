@@ -7,12 +7,13 @@ use bw_care::recover;
 use bw_codec::limits::{HEADER_LEN, MAX_FRAME};
 use bw_codec::{Key, Leaf, Pair};
 use bw_device::{Desk, MemSegment, Segment};
-use bw_file::FolderReader;
+use bw_file::{FolderFault, FolderReader};
 use bw_home::{HomeFault, System};
 use bw_page::Leaves;
 use bw_site::{beginning_of, copy_of};
 use bw_watch::{Watch, Work, folder_bytes};
 use std::alloc::Global;
+use std::io::ErrorKind;
 
 /// The least capacity of a copy, in bytes: a header and the longest frame.
 const LEAST: u64 = HEADER_LEN as u64 + MAX_FRAME as u64;
@@ -116,6 +117,30 @@ pub fn pages_in<R: System, W: Watch>(
         Ok(Opened::Alone(reader)) => pages_alone(rt, path, &reader, leases, watch),
         Ok(Opened::Beside(stood)) => Ok(Some(stood.leaves)),
         Err(fault) => Err(KeysFault::from(HomeFault::from(fault))),
+    }
+}
+
+/// Whether a folder was not opened since it is missing, or has no store.
+fn is_missing(fault: &KeysFault) -> bool {
+    match fault {
+        KeysFault::NoStore => true,
+        KeysFault::Home(HomeFault::Folder(FolderFault::System(error))) => {
+            error.kind() == ErrorKind::NotFound
+        }
+        _ => false,
+    }
+}
+
+/// The pages of a folder, as `pages_in` has them; `None` also if it is missing, or has no store.
+pub fn pages_if_there<R: System, W: Watch>(
+    rt: &R,
+    path: &str,
+    leases: u32,
+    watch: &mut W,
+) -> Result<Option<Leaves>, KeysFault> {
+    match pages_in(rt, path, leases, watch) {
+        Err(fault) if is_missing(&fault) => Ok(None),
+        found => found,
     }
 }
 

@@ -1,12 +1,20 @@
 //! The records that go into a store, one after another.
 
+ghost use Rattle.bw_home.specs.Ready.{IsReady};
+
 use crate::fault::KeysFault;
 use bw_codec::Record;
+use bw_home::Home;
 use bw_pairs::Pairs;
 use std::io::Read;
 
 /// Records, one after another.
 pub trait Records: Drop {
+    /// Looks into the store for the next ones, where it is that which says what they are.
+    fn look(&mut self, home: &mut Home) -> Result<(), KeysFault>
+        requires { IsReady home.old holding }
+        ensures ready { IsReady home.new holding };
+
     /// The next one; `None` behind the last.
     fn next_record(&mut self) -> Result<Option<Record>, KeysFault>;
 
@@ -21,6 +29,10 @@ pub struct Single {
 }
 
 impl Records for Single {
+    fn look(&mut self, _home: &mut Home) -> Result<(), KeysFault> {
+        Ok(())
+    }
+
     fn next_record(&mut self) -> Result<Option<Record>, KeysFault> {
         Ok(self.record.take())
     }
@@ -31,8 +43,12 @@ impl Records for Single {
 }
 
 impl<I: Read + Drop> Records for Pairs<I> {
+    fn look(&mut self, _home: &mut Home) -> Result<(), KeysFault> {
+        Ok(())
+    }
+
     fn next_record(&mut self) -> Result<Option<Record>, KeysFault> {
-        Ok(self.next_put()?)
+        Ok(Pairs::next_record(self)?)
     }
 
     fn bytes(&self) -> u64 {

@@ -1,5 +1,7 @@
 //! Which keys are wanted.
 
+use arrayvec::ArrayVec;
+use bw_codec::limits::MAX_KEY;
 use bw_codec::{Key, is_before};
 
 /// A stretch of keys.
@@ -11,6 +13,26 @@ pub struct Span {
     pub to: Option<Key>,
     /// What each begins with.
     pub prefix: Option<Key>,
+}
+
+/// The least key above another one; `None` above the greatest of all.
+pub fn above(key: &[u8]) -> Option<Key> {
+    let mut bytes: ArrayVec<u8, MAX_KEY> = ArrayVec::new();
+    bytes.try_extend_from_slice(key).ok()?;
+    if bytes.try_push(0).is_ok() {
+        return Key::new(bytes.as_slice()).ok();
+    }
+    for _ in 0..MAX_KEY {
+        match bytes.pop() {
+            Some(u8::MAX) => {}
+            Some(last) => {
+                bytes.try_push(last.saturating_add(1)).ok()?;
+                break;
+            }
+            None => break,
+        }
+    }
+    Key::new(bytes.as_slice()).ok()
 }
 
 /// The least of all keys.

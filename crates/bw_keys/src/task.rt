@@ -1,24 +1,20 @@
 //! What is done with the keys of a folder.
 
+use crate::changes::{Changed, Import, del, del_all, import_pairs, put};
 use crate::fault::KeysFault;
-use crate::filling::Filling;
-use crate::leases::leases_of;
 use crate::listing::{Listing, Style};
-use crate::load::Load;
-use crate::pages::{check_store, count_of, pages_in, pages_over, pair_of};
-use crate::records::{Records, Single};
+use crate::pages::{count_of, pages_in, pages_over, pair_of};
 use crate::span::Span;
-use crate::tending::Tending;
 use bw_codec::limits::MAX_VALUE;
 use bw_codec::{Key, Record, Value};
-use bw_home::{Options, System, with_store_at};
-use bw_look::frame_in_folder;
+use bw_home::System;
+use bw_page::Leaves;
 use bw_pairs::{
-    LineFault, Pairs, PairsFault, Skipped, Source, Spelling, key_from, key_of, value_from,
-    value_of, write_word,
+    PairsFault, Spelling, key_from, key_of, value_from, value_of, write_line, write_word,
 };
-use bw_watch::{Watch, Work, folder_bytes, input_bytes};
+use bw_watch::Watch;
 use std::alloc::Global;
+use std::collections::VecDeque;
 use std::io::{Read, Write};
 
 /// A stretch of keys, by words of the command line.
@@ -36,30 +32,26 @@ pub struct Range<'a> {
 #[derive(Debug, Clone, Copy)]
 pub struct Listed<'a> {
     pub range: Range<'a>,
-    /// How many pairs at most.
+    /// How many pairs are printed at most.
     pub limit: u64,
+    /// Only so many with the greatest keys are meant.
+    pub last: u64,
     /// Whether the greatest key comes first.
     pub reverse: bool,
     pub style: Style,
 }
 
-/// How the pairs of an input go in.
-#[derive(Debug, Clone, Copy)]
-pub struct Import {
-    pub source: Source,
-    /// Whether bad pairs are read over; else the first one ends it.
-    pub skips: bool,
-    /// How many bytes new segments have room for, if that is said.
-    pub capacity: Option<u32>,
-}
-
 /// What is done with the keys of a folder, by words of the command line.
-#[derive(Debug, Clone, Copy)]
+#[derive(Debug, Drop)]
 pub enum Task<'a> {
     /// A value, or `-` for all bytes of the input; whether the words are their own bytes.
     Put(&'a str, &'a str, bool),
-    Get(&'a str, Spelling),
-    Del(&'a str),
+    /// The values of these keys.
+    Get(Vec<&'a str>, Spelling),
+    /// These keys are deleted.
+    Del(Vec<&'a str>),
+    /// All keys of a stretch are.
+    DelAll(Range<'a>),
     List(Listed<'a>),
     Count(Range<'a>),
     Import(Import),
@@ -77,40 +69,17 @@ impl Task<'_> {
     }
 }
 
-/// What an import came to.
-#[derive(Debug, Clone, Copy, PartialEq, Eq)]
-pub struct Loaded {
-    /// How many pairs went in.
-    pub count: u64,
-    /// How many were read over.
-    pub skipped: u64,
-    /// The line of the first of these, and what is wrong with it.
-    pub first: Option<(u64, LineFault)>,
-}
-
 /// What a task came to.
-#[derive(Debug, Clone, Copy)]
+#[derive(Debug, Drop)]
 pub enum Told {
     /// It is done.
     Done,
     /// The key has no value.
     NoValue,
-    Loaded(Loaded),
-    /// An import ended early, for this reason; so many pairs are durable.
-    Halted(KeysFault, u64),
-}
-
-/// A store that one writer puts into, with a queue that is long enough for batches. Its new segments
-/// have room for so many bytes, if that is said.
-fn options(capacity: Option<u32>) -> Options {
-    let other = Options::default();
-    let capacity = capacity.map_or(other.capacity, u64::from);
-    Options {
-        queue_groups: 1_024,
-        frame_bytes: frame_in_folder(capacity),
-        capacity,
-        ..other
-    }
+    /// The keys have no value whose words stand at these positions among those that were given.
+    NoValues(Vec<usize>),
+    /// What a change came to.
+    Changed(Changed),
 }
 
 /// A key by its word on the command line.
@@ -170,66 +139,32 @@ fn value_by<I: Read>(
     value.map_err(|fault| KeysFault::Word("VALUE", fault))
 }
 
-/// What came of records that went into a store.
-#[derive(Clone, Copy)]
-struct Stored {
-    /// How many these are, once they are durable; or why no more.
-    end: Result<u64, KeysFault>,
-    /// How many are durable.
-    durable: u64,
-}
-
-/// Puts records into the store in a folder, which is made by these options if it is missing.
-fn load<R: System, S: Records, W: Watch>(
-    rt: &R,
-    dir: &str,
-    leases: u32,
-    options: &Options,
-    records: &mut S,
-    all: u64,
-    watch: &mut W,
-) -> Stored {
-    let held = folder_bytes(rt, dir, leases, watch);
-    watch.see(Work::Opening, 0, held);
-    let leases = leases.min(leases_of(rt, dir));
-    let frame = u64::from(options.frame_bytes);
-    let tending = Tending::new(options.capacity, frame, leases);
-    let mut load = Load::new(&mut *records, all, &mut *watch, tending);
-    let end = match with_store_at(rt, Some(dir), leases, options, &mut load) {
-        Ok(answer) => answer,
-        Err(fault) => Err(KeysFault::from(fault)),
-    };
-    Stored {
-        end,
-        durable: load.durable(),
+/// The keys of words.
+fn keys_by(alloc: Global, words: &[&str]) -> Result<VecDeque<Key>, KeysFault> {
+    let mut keys = VecDeque::new(alloc);
+    for word in words {
+        keys.push_back(key_by("KEY", *word)?)?;
     }
+    Ok(keys)
 }
 
-/// Puts one record.
-fn put<R: System, W: Watch>(
-    rt: &R,
-    dir: &str,
-    leases: u32,
-    record: Record,
-    watch: &mut W,
-) -> Result<Told, KeysFault> {
-    let mut records = Single {
-        record: Some(record),
+/// Writes the value of a key, alone; whether it has one.
+fn write_value<O: Write>(
+    leaves: &Leaves,
+    key: &Key,
+    spelling: Spelling,
+    output: &mut O,
+) -> Result<bool, KeysFault> {
+    let Some(pair) = pair_of(leaves, key) else {
+        return Ok(false);
     };
-    let _ = load(rt, dir, leases, &options(None), &mut records, 0, watch).end?;
-    Ok(Told::Done)
-}
-
-/// Deletes a key from the store in a folder, which has to be there.
-fn del<R: System, W: Watch>(
-    rt: &R,
-    dir: &str,
-    leases: u32,
-    key: Key,
-    watch: &mut W,
-) -> Result<Told, KeysFault> {
-    check_store(rt, dir)?;
-    put(rt, dir, leases, Record::Del(key), watch)
+    let written = if spelling == Spelling::Raw {
+        write_word(output, spelling, pair.value())
+    } else {
+        write_line(output, spelling, pair.value())
+    };
+    written.map_err(KeysFault::of_output)?;
+    Ok(true)
 }
 
 /// Writes the value of a key.
@@ -246,14 +181,85 @@ fn get<R: System, O: Write, W: Watch>(
         return Ok(Told::NoValue);
     };
     watch.rest();
-    let Some(pair) = pair_of(&leaves, key) else {
-        return Ok(Told::NoValue);
-    };
-    write_word(output, spelling, pair.value()).map_err(KeysFault::of_output)?;
-    if spelling != Spelling::Raw {
-        output.write_all(b"\n").map_err(KeysFault::of_output)?;
+    if write_value(&leaves, key, spelling, output)? {
+        Ok(Told::Done)
+    } else {
+        Ok(Told::NoValue)
     }
-    Ok(Told::Done)
+}
+
+/// Writes the line of a key's value, where there are pages; whether it has one.
+fn write_value_line<O: Write>(
+    found: Option<&Leaves>,
+    key: &Key,
+    spelling: Spelling,
+    output: &mut O,
+) -> Result<bool, KeysFault> {
+    let pair = match found {
+        Some(leaves) => pair_of(leaves, key),
+        None => None,
+    };
+    match pair {
+        Some(pair) => {
+            write_line(output, spelling, pair.value()).map_err(KeysFault::of_output)?;
+            Ok(true)
+        }
+        None => Ok(false),
+    }
+}
+
+/// Writes a line for each of these keys that has a value, and answers the positions of the others.
+fn get_all<R: System, O: Write, W: Watch>(
+    rt: &R,
+    dir: &str,
+    leases: u32,
+    keys: &VecDeque<Key>,
+    spelling: Spelling,
+    output: &mut O,
+    watch: &mut W,
+) -> Result<Told, KeysFault> {
+    let found = pages_in(rt, dir, leases, watch)?;
+    watch.rest();
+    let mut missing = Vec::new(rt.alloc());
+    for (position, key) in keys.iter().enumerate() {
+        if !write_value_line(found.as_ref(), key, spelling, output)? {
+            missing.push(position)?;
+        }
+    }
+    Ok(Told::NoValues(missing))
+}
+
+/// Writes the values of the keys of these words. One alone is written as it is.
+fn get_words<R: System, O: Write, W: Watch>(
+    rt: &R,
+    dir: &str,
+    leases: u32,
+    words: &[&str],
+    spelling: Spelling,
+    output: &mut O,
+    watch: &mut W,
+) -> Result<Told, KeysFault> {
+    let keys = keys_by(rt.alloc(), words)?;
+    match keys.front() {
+        Some(key) if keys.len() == 1 => get(rt, dir, leases, key, spelling, output, watch),
+        _ => get_all(rt, dir, leases, &keys, spelling, output, watch),
+    }
+}
+
+/// Deletes the keys of these words. Of one alone it is not told whether it was there.
+fn del_words<R: System, W: Watch>(
+    rt: &R,
+    dir: &str,
+    leases: u32,
+    words: &[&str],
+    watch: &mut W,
+) -> Result<Told, KeysFault> {
+    let keys = keys_by(rt.alloc(), words)?;
+    let is_one = keys.len() == 1;
+    match del(rt, dir, leases, keys, watch)? {
+        Changed::Deleted(_) if is_one => Ok(Told::Done),
+        changed => Ok(Told::Changed(changed)),
+    }
 }
 
 /// Writes how many pairs a stretch of keys has.
@@ -282,7 +288,25 @@ fn count<R: System, O: Write, W: Watch>(
 struct Order {
     style: Style,
     limit: u64,
+    last: u64,
     reverse: bool,
+}
+
+/// Writes those pairs of these pages that are wanted.
+fn list_pages<O: Write, W: Watch>(
+    listing: &mut Listing<'_, O>,
+    leaves: &Leaves,
+    pages: &[u32],
+    order: Order,
+    watch: &mut W,
+) -> Result<(), KeysFault> {
+    if order.reverse {
+        return listing.all_down(leaves, pages, watch);
+    }
+    if order.last < u64::MAX {
+        listing.pass_all_but(order.last, leaves, pages);
+    }
+    listing.all_up(leaves, pages, watch)
 }
 
 /// Writes the pairs of a stretch of keys.
@@ -296,15 +320,12 @@ fn list<R: System, O: Write, W: Watch>(
     watch: &mut W,
 ) -> Result<Told, KeysFault> {
     let found = pages_in(rt, dir, leases, watch)?;
-    let mut listing = Listing::new(&mut *output, order.style, span, order.limit);
+    let most = order.limit.min(order.last);
+    let mut listing = Listing::new(&mut *output, order.style, span, most);
     listing.begin()?;
     if let Some(leaves) = found {
         let pages = pages_over(rt.alloc(), &leaves, span)?;
-        if order.reverse {
-            listing.all_down(&leaves, pages.as_slice(), watch)?;
-        } else {
-            listing.all_up(&leaves, pages.as_slice(), watch)?;
-        }
+        list_pages(&mut listing, &leaves, pages.as_slice(), order, watch)?;
     }
     listing.end()?;
     Ok(Told::Done)
@@ -319,33 +340,26 @@ fn span_of(range: &Range<'_>) -> Result<Span, KeysFault> {
     })
 }
 
-/// Puts the pairs of an input. Those that come in the order of their keys fill their pages.
-fn import_pairs<R: System, I: Read, W: Watch>(
-    rt: &R,
-    dir: &str,
-    leases: u32,
+/// The put of a key and a value, by their words on the command line.
+fn put_by<I: Read>(
+    alloc: Global,
+    key: &str,
+    value: &str,
+    is_raw: bool,
     input: &mut I,
-    wanted: Import,
-    watch: &mut W,
-) -> Result<Told, KeysFault> {
-    let all = input_bytes(rt, watch);
-    let options = options(wanted.capacity);
-    let pairs = Pairs::new(rt.alloc(), input, wanted.source, wanted.skips)?;
-    let mut records = Filling::new(rt.alloc(), pairs, options.pairs_a_page);
-    let Stored { end, durable } = load(rt, dir, leases, &options, &mut records, all, watch);
-    let count = match end {
-        Ok(count) => count,
-        Err(fault) => return Ok(Told::Halted(fault, durable)),
-    };
-    let Skipped {
-        count: skipped,
-        first,
-    } = records.into_records().skipped();
-    Ok(Told::Loaded(Loaded {
-        count,
-        skipped,
-        first,
-    }))
+) -> Result<Record, KeysFault> {
+    let key = put_key_by(key, is_raw)?;
+    Ok(Record::Put(key, value_by(alloc, value, is_raw, input)?))
+}
+
+/// How pairs are listed.
+fn order_of(listed: &Listed<'_>) -> Order {
+    Order {
+        style: listed.style,
+        limit: listed.limit,
+        last: listed.last,
+        reverse: listed.reverse,
+    }
 }
 
 /// The order in which pairs are exported, in this style.
@@ -353,6 +367,7 @@ fn ascending(style: Style) -> Order {
     Order {
         style,
         limit: u64::MAX,
+        last: u64::MAX,
         reverse: false,
     }
 }
@@ -370,26 +385,28 @@ pub fn perform<R: System, I: Read, O: Write, W: Watch>(
 ) -> Result<Told, KeysFault> {
     match task {
         Task::Put(key, value, is_raw) => {
-            let key = put_key_by(*key, *is_raw)?;
-            let value = value_by(rt.alloc(), *value, *is_raw, input)?;
-            put(rt, dir, leases, Record::Put(key, value), watch)
+            let item = put_by(rt.alloc(), *key, *value, *is_raw, input)?;
+            let _ = put(rt, dir, leases, item, watch)?;
+            Ok(Told::Done)
         }
-        Task::Get(key, spelling) => {
-            let key = key_by("KEY", *key)?;
-            get(rt, dir, leases, &key, *spelling, output, watch)
+        Task::Get(words, spelling) => {
+            let words = words.as_slice();
+            get_words(rt, dir, leases, words, *spelling, output, watch)
         }
-        Task::Del(key) => del(rt, dir, leases, key_by("KEY", *key)?, watch),
+        Task::Del(words) => del_words(rt, dir, leases, words.as_slice(), watch),
+        Task::DelAll(range) => {
+            let span = span_of(range)?;
+            Ok(Told::Changed(del_all(rt, dir, leases, span, watch)?))
+        }
         Task::List(listed) => {
-            let order = Order {
-                style: listed.style,
-                limit: listed.limit,
-                reverse: listed.reverse,
-            };
             let span = span_of(&listed.range)?;
-            list(rt, dir, leases, &span, order, output, watch)
+            list(rt, dir, leases, &span, order_of(listed), output, watch)
         }
         Task::Count(range) => count(rt, dir, leases, &span_of(range)?, output, watch),
-        Task::Import(wanted) => import_pairs(rt, dir, leases, input, *wanted, watch),
+        Task::Import(wanted) => {
+            let changed = import_pairs(rt, dir, leases, input, *wanted, watch)?;
+            Ok(Told::Changed(changed))
+        }
         Task::Export(range, style) => {
             let span = span_of(range)?;
             list(rt, dir, leases, &span, ascending(*style), output, watch)

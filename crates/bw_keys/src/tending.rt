@@ -9,7 +9,7 @@ ghost use Rattle.bw_home.specs.Ready.{IsReady};
 use crate::full::Full;
 use crate::measure::{Measure, needed_of_oldest, newest, taken};
 use bw_codec::Record;
-use bw_core::StoreFault;
+use bw_core::{Cleaned, StoreFault};
 use bw_device::NotTaken;
 use bw_home::{Home, HomeFault, System};
 use bw_ring::Group;
@@ -48,6 +48,8 @@ pub struct Tending {
     pub(crate) has_flushed: bool,
     /// Whether a further segment was made that `take_told_segment` did not tell yet.
     has_added: bool,
+    /// The last cleaning, if `take_told_cleaning` did not tell it yet.
+    cleaned: Option<Cleaned>,
     circle: Circle,
     /// What is known of the log where no room can be made.
     pub(crate) full: Option<Full>,
@@ -99,13 +101,13 @@ pub fn forget(home: &mut Home)
 }
 
 /// Gives up the oldest segment, and makes what stands in its place.
-fn renew<R: System>(rt: &R, home: &mut Home) -> Result<(), HomeFault>
+fn renew<R: System>(rt: &R, home: &mut Home) -> Result<Cleaned, HomeFault>
     requires { IsReady home.old holding }
     ensures { IsReady home.new holding }
 {
-    let _ = home.clean(rt)?;
+    let cleaned = home.clean(rt)?;
     forget(home);
-    Ok(())
+    Ok(cleaned)
 }
 
 impl Tending {
@@ -120,6 +122,7 @@ impl Tending {
             has_cleaned: false,
             has_flushed: false,
             has_added: false,
+            cleaned: None,
             circle: Circle {
                 taken: 0,
                 left: 0,
@@ -224,7 +227,10 @@ impl Tending {
         self.has_cleaned = true;
         self.seen = newest(home).0;
         match made {
-            Ok(()) => Ok(true),
+            Ok(cleaned) => {
+                self.cleaned = Some(cleaned);
+                Ok(true)
+            }
             Err(fault) if is_full(&fault) => Ok(false),
             Err(fault) => Err(fault),
         }
@@ -456,6 +462,12 @@ impl Tending {
         let has_added = self.has_added;
         self.has_added = false;
         has_added
+    }
+
+    /// Forgets the last cleaning, if there was one since this was called last, and tells it. One that
+    /// was refused behind what it gave up is not told.
+    pub fn take_told_cleaning(&mut self) -> Option<Cleaned> {
+        self.cleaned.take()
     }
 
     /// Forgets whether a cleaning made something durable since this was called last, and says so.

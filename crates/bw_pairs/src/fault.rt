@@ -46,6 +46,17 @@ pub enum LineFault {
     NoEnd,
     #[error("a second database in one dump")]
     Second,
+    /// A line of JSON is no object of texts, or has other members.
+    #[error("no JSON object with a key and a value")]
+    BadJson,
+    #[error("bad base64")]
+    BadBase64,
+    /// A line of CSV has one field, or more than two.
+    #[error("a line of CSV has a key and a value")]
+    BadCsv,
+    /// A quote of a line of CSV has no end there, or something stands behind it.
+    #[error("bad quotes")]
+    BadQuotes,
 }
 
 /// Why no pair was read.

@@ -1,9 +1,11 @@
 //! The pairs of an input, one after another.
 
+use crate::csv::{csv_del_of, csv_put_of};
 use crate::dump::{Header, Letters, key_in, value_in};
 use crate::fault::{LineFault, PairsFault};
+use crate::json::{json_del_of, json_put_of};
 use crate::lines::{Lines, READS};
-use crate::tabs::{put_of, raw_put_of};
+use crate::tabs::{del_of, put_of, raw_del_of, raw_put_of};
 use bw_codec::Record;
 use std::alloc::Global;
 use std::io::Read;
@@ -18,6 +20,10 @@ pub enum Source {
     Words,
     /// A pair a line, each word its own bytes, whatever these are.
     Raw,
+    /// An object of JSON a line.
+    Json,
+    /// A pair a line, with a comma between.
+    Csv,
     /// A dump.
     Dump,
 }
@@ -29,6 +35,10 @@ enum Form {
     Words,
     /// A pair a line, whose words are their own bytes.
     Raw,
+    /// An object of JSON a line.
+    Json,
+    /// A pair a line, with a comma between.
+    Csv,
     /// A dump, whose header comes next.
     Dump,
     /// A dump behind its header.
@@ -40,7 +50,7 @@ enum Form {
 /// What comes next.
 #[derive(Drop)]
 enum Next {
-    Put(Record),
+    One(Record),
     /// A pair that is none, for this reason, by the line that is at fault.
     Bad(u64, LineFault),
     End,
@@ -62,7 +72,29 @@ pub struct Pairs<I> {
     form: Form,
     /// Whether a bad pair is read over.
     skips: bool,
+    /// Whether its keys are deleted.
+    deletes: bool,
     skipped: Skipped,
+}
+
+/// The put of a line.
+fn line_put_of(form: Form, line: &[u8]) -> Result<Record, LineFault> {
+    match form {
+        Form::Raw => raw_put_of(line),
+        Form::Json => json_put_of(line),
+        Form::Csv => csv_put_of(line),
+        _ => put_of(line),
+    }
+}
+
+/// The delete of a line's key.
+fn line_del_of(form: Form, line: &[u8]) -> Result<Record, LineFault> {
+    match form {
+        Form::Raw => raw_del_of(line),
+        Form::Json => json_del_of(line),
+        Form::Csv => csv_del_of(line),
+        _ => del_of(line),
+    }
 }
 
 impl<I: Read + Drop> Pairs<I> {
@@ -79,14 +111,26 @@ impl<I: Read + Drop> Pairs<I> {
             form: match source {
                 Source::Words => Form::Words,
                 Source::Raw => Form::Raw,
+                Source::Json => Form::Json,
+                Source::Csv => Form::Csv,
                 Source::Dump => Form::Dump,
             },
             skips,
+            deletes: false,
             skipped: Skipped {
                 count: 0,
                 first: None,
             },
         })
+    }
+
+    /// The deletes of its keys in place of the puts. A line may be a key alone then, and of one that
+    /// is a pair the value is not read.
+    pub fn as_deletes(self) -> Pairs<I> {
+        Pairs {
+            deletes: true,
+            ..self
+        }
     }
 
     /// What was read over.
@@ -118,22 +162,23 @@ impl<I: Read + Drop> Pairs<I> {
         PairsFault::Line(self.lines.number(), fault)
     }
 
-    /// The pair of the next line.
-    fn next_tabs(&mut self) -> Result<Next, PairsFault> {
+    /// The record of the line that was read.
+    fn record(&self) -> Result<Record, LineFault> {
+        let line = self.line()?;
+        if self.deletes {
+            line_del_of(self.form, line)
+        } else {
+            line_put_of(self.form, line)
+        }
+    }
+
+    /// The record of the next line.
+    fn next_line(&mut self) -> Result<Next, PairsFault> {
         if !self.read_line()? {
             return Ok(Next::End);
         }
-        let is_raw = self.form == Form::Raw;
-        let put = match self.line() {
-            Ok(line) => if is_raw {
-                raw_put_of(line)
-            } else {
-                put_of(line)
-            },
-            Err(fault) => Err(fault),
-        };
-        match put {
-            Ok(put) => Ok(Next::Put(put)),
+        match self.record() {
+            Ok(record) => Ok(Next::One(record)),
             Err(fault) => Ok(Next::Bad(self.lines.number(), fault)),
         }
     }
@@ -189,7 +234,8 @@ impl<I: Read + Drop> Pairs<I> {
             Err(fault) => Err(fault),
         };
         match (key, value) {
-            (Ok(key), Ok(value)) => Ok(Next::Put(Record::Put(key, value))),
+            (Ok(key), Ok(_)) if self.deletes => Ok(Next::One(Record::Del(key))),
+            (Ok(key), Ok(value)) => Ok(Next::One(Record::Put(key, value))),
             (Err(fault), _) => Ok(Next::Bad(number, fault)),
             (_, Err(fault)) => Ok(Next::Bad(self.lines.number(), fault)),
         }
@@ -209,7 +255,7 @@ impl<I: Read + Drop> Pairs<I> {
             self.read_header()?;
         }
         match self.form {
-            Form::Words | Form::Raw => self.next_tabs(),
+            Form::Words | Form::Raw | Form::Json | Form::Csv => self.next_line(),
             Form::Data(letters) => self.next_data(letters),
             Form::Dump | Form::Ended => Ok(Next::End),
         }
@@ -225,11 +271,11 @@ impl<I: Read + Drop> Pairs<I> {
         Ok(())
     }
 
-    /// The put of the next pair; `None` behind the last.
-    pub fn next_put(&mut self) -> Result<Option<Record>, PairsFault> {
+    /// The put of the next pair, or the delete of its key; `None` behind the last.
+    pub fn next_record(&mut self) -> Result<Option<Record>, PairsFault> {
         for _ in 0..u64::MAX {
             match self.next()? {
-                Next::Put(record) => return Ok(Some(record)),
+                Next::One(record) => return Ok(Some(record)),
                 Next::Bad(number, fault) => self.note(number, fault)?,
                 Next::End => break,
             }

@@ -5,16 +5,20 @@
 //! takes any output.
 #![tactic(auto)]
 
+mod csv;
 mod dump;
 mod fault;
 mod input;
+mod json;
 mod lines;
 mod spelling;
 mod tabs;
 
+pub use csv::{write_csv, write_csv_field};
 pub use dump::{Letters, write_dumped, write_end, write_header};
 pub use fault::{LineFault, PairsFault};
 pub use input::{Pairs, Skipped, Source};
+pub use json::write_json;
 pub use lines::{Lines, READS};
-pub use spelling::{Spelling, key_from, key_of, value_from, value_of, write_word};
+pub use spelling::{Spelling, key_from, key_of, value_from, value_of, write_line, write_word};
 pub use tabs::write_pair;

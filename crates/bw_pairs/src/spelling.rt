@@ -18,7 +18,7 @@ pub enum Spelling {
 
 /// Whether bytes are written as they are: text without a control character, tab and end of line
 /// among these, that does not look like hex.
-fn is_text(bytes: &[u8]) -> bool {
+pub fn is_text(bytes: &[u8]) -> bool {
     if bytes.starts_with(b"0x") {
         return false;
     }
@@ -51,6 +51,12 @@ pub fn write_word<O: Write>(output: &mut O, spelling: Spelling, bytes: &[u8]) ->
     }
     output.write_all(b"0x")?;
     write_hex(output, bytes)
+}
+
+/// Writes a key or a value, and an end of line.
+pub fn write_line<O: Write>(output: &mut O, spelling: Spelling, bytes: &[u8]) -> io::Result<()> {
+    write_word(output, spelling, bytes)?;
+    output.write_all(b"\n")
 }
 
 /// The bytes of hex digits, at the front of `room`; `too_long` where there are more than it has

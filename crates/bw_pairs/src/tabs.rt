@@ -18,6 +18,14 @@ pub fn write_pair<O: Write>(
     output.write_all(b"\n")
 }
 
+/// What stands before the first tab of a line, or all of it.
+fn front_of(line: &[u8]) -> &[u8] {
+    match line.iter().position(|byte| *byte == b'\t') {
+        Some(at) => &line[..at],
+        None => line,
+    }
+}
+
 /// The put that a line stands for. The first tab parts its words: a word with a tab is written in
 /// hex.
 pub fn put_of(line: &[u8]) -> Result<Record, LineFault> {
@@ -33,4 +41,14 @@ pub fn raw_put_of(line: &[u8]) -> Result<Record, LineFault> {
         Some(at) => Ok(Record::Put(key_from(&line[..at])?, value_from(&line[at + 1..])?)),
         None => Err(LineFault::NoTab),
     }
+}
+
+/// The delete of a line's key: what stands before the first tab, or all of it.
+pub fn del_of(line: &[u8]) -> Result<Record, LineFault> {
+    Ok(Record::Del(key_of(front_of(line))?))
+}
+
+/// The delete of a line's key, if the words of the line are their own bytes.
+pub fn raw_del_of(line: &[u8]) -> Result<Record, LineFault> {
+    Ok(Record::Del(key_from(front_of(line))?))
 }

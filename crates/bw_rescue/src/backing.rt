@@ -65,5 +65,5 @@ pub fn backup<R: System>(
     let judged = judge(rt.alloc(), images.as_slice(), &mut Unseen)?;
     let making = target.begin(rt)?;
     making.write(rt, images.as_slice(), &mut Unseen)?;
-    making.end(rt, leases, Wanted::Pages(&judged.leaves), &mut Unseen)
+    making.end(rt, leases, Wanted::Pages(&judged.leaves), None, &mut Unseen)
 }

@@ -45,5 +45,5 @@ pub fn compact<R: System, W: Watch>(
         pairs.as_slice(),
         watch,
     )?;
-    making.end(rt, leases, Wanted::Pairs(pairs.as_slice()), watch)
+    making.end(rt, leases, Wanted::Pairs(pairs.as_slice()), None, watch)
 }

@@ -44,16 +44,16 @@ fn live_of(images: Vec<Image>) -> Result<Vec<Image>, AllocError> {
 }
 
 /// Copies the live segments of a folder, byte by byte, into a new one, with a digest for each of their
-/// pieces. It opens as the store of that moment: its pages are compared with those of the other one
-/// before it gets its name. There are so many leases.
+/// pieces, and the times that are noted of its frames. It opens as the store of that moment: its pages
+/// are compared with those of the other one before it gets its name. There are so many leases.
 ///
 /// The folder may be one that somebody writes: that moment is one of its frames then, as
 /// `bw_beside::open` has it.
 ///
 /// Refused, and nothing is made: `Target` if the new folder is there already; `Source`, if the
-/// other one is damaged, or somebody writes it and it was not read; `Recovery`, if it is no store. After `Partial`,
-/// `Unlike` and `Target` a part may stand under the name with `.partial` behind, which is no copy, and
-/// which the next one takes over.
+/// other one is damaged, or somebody writes it and it was not read; `Recovery`, if it is no store.
+/// After `Partial`, `Unlike` and `Target` a part may stand under the name with `.partial` behind,
+/// which is no copy, and which the next one takes over.
 pub fn copy<R: System, W: Watch>(
     rt: &R,
     from: &str,
@@ -69,5 +69,5 @@ pub fn copy<R: System, W: Watch>(
     let live = live_of(images)?;
     let making = target.begin(rt)?;
     making.write(rt, live.as_slice(), watch)?;
-    making.end(rt, leases, Wanted::Pages(&pages), watch)
+    making.end(rt, leases, Wanted::Pages(&pages), Some(from), watch)
 }

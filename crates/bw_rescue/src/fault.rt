@@ -6,7 +6,6 @@ use bw_file::FolderFault;
 use bw_home::HomeFault;
 use std::alloc::{AllocError, AllocFailed};
 use std::fmt::{self, Display, Formatter};
-use std::io::{self, ErrorKind};
 use thiserror::Error;
 
 /// Why a folder was not verified, copied, salvaged or restored.
@@ -32,6 +31,9 @@ pub enum RescueFault {
     Unlike,
     /// The log has the frames from the first to the last, and not the one that was asked for.
     NoFrame { first: u64, last: u64 },
+    /// What the log was at the frame that was asked for went with a segment that a cleaning gave up:
+    /// the second one is the oldest frame that can be restored.
+    GivenUp { frame: u64, oldest: u64 },
 }
 
 // By hand, since a derived one writes in each variant, which is dear to prove.
@@ -46,6 +48,7 @@ impl Display for RescueFault {
             RescueFault::Home(fault) => write!(f, "{fault}"),
             RescueFault::Unlike => f.write_str("it does not hold what was read"),
             RescueFault::NoFrame { first, last } => write!(f, "the frames are {first} to {last}"),
+            RescueFault::GivenUp { oldest, .. } => write!(f, "the oldest frame is {oldest}"),
         }
     }
 }
@@ -66,11 +69,6 @@ impl RescueFault {
             other => RescueFault::Partial(other),
         }
     }
-}
-
-/// What is told of a name that something has already.
-pub(crate) fn already_there() -> FolderFault {
-    FolderFault::System(io::Error::from(ErrorKind::AlreadyExists))
 }
 
 impl From<AllocError> for RescueFault {

@@ -16,8 +16,6 @@ mod fault;
 mod judged;
 mod load;
 mod locating;
-mod partial;
-mod pieces;
 mod reading;
 mod restoring;
 mod salvaging;

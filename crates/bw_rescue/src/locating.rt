@@ -1,13 +1,13 @@
 //! Where what recovery refuses of a folder stands: the files, as far as the bytes say.
 
 use crate::fault::RescueFault;
-use crate::pieces::frames_in;
 use crate::reading::allowed;
 use crate::verifying::{Hurt, Verdict, verify};
 use bw_care::RecoverCause;
 use bw_codec::{HeaderRead, read_header};
 use bw_file::FolderReader;
 use bw_home::System;
+use bw_partial::frames_in;
 use bw_watch::Unseen;
 use std::alloc::Global;
 use std::collections::BTreeMap;

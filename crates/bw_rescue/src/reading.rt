@@ -43,7 +43,7 @@ fn images_of<R: System, W: Watch>(
     Ok(images)
 }
 
-/// The same of a folder in which nobody writes.
+/// The segments of a folder in which nobody writes, by their leases.
 pub(crate) fn sound_images<R: System, W: Watch>(
     rt: &R,
     path: &str,

@@ -1,16 +1,18 @@
 //! A store as of an earlier frame, in another folder.
 
 use crate::copying::Copied;
-use crate::fault::{RescueFault, already_there};
+use crate::fault::RescueFault;
 use crate::judged::{Judged, judge};
-use crate::pieces::ends_of;
 use crate::reading::{Seen, seen_images};
 use bw_care::RecoverCause;
 use bw_file::{Folder, FolderFault};
 use bw_home::{Found, System};
-use bw_look::{Image, Survey, kept_bytes, pages_at};
+use bw_look::{BlockRow, Image, Kind, Survey, kept_bytes, pages_at};
+use bw_partial::{already_there, ends_of};
+use bw_times::carry;
 use bw_watch::Watch;
 use std::alloc::{AllocError, Global};
+use std::collections::BTreeMap;
 
 /// A log that was read.
 #[derive(Drop)]
@@ -103,6 +105,49 @@ struct Restored {
     then: Judged,
 }
 
+/// The page that a block sets, and from which frame on a log has to be kept for that: a Split makes its
+/// page, which was not there before.
+fn set_by(row: &BlockRow) -> Option<(u32, u64)> {
+    match row.kind {
+        Kind::Base => Some((row.page, row.frame)),
+        Kind::Delta => None,
+        Kind::Split => row.made.map(|made| (made, 0)),
+    }
+}
+
+/// The oldest frame as of which a sound log can be restored, of which this frame is the first that it
+/// has: each page that was there is set in a frame up to that one.
+fn oldest_of(alloc: Global, survey: &Survey, first: u64) -> Result<u64, AllocError> {
+    let mut seen = BTreeMap::new(alloc);
+    let mut oldest = first;
+    for row in survey.blocks() {
+        if let Some((page, frame)) = set_by(row) {
+            if seen.insert(page, ())?.is_none() {
+                oldest = oldest.max(frame);
+            }
+        }
+    }
+    Ok(oldest)
+}
+
+/// Refuses a frame that a sound log has not, or as of which it has not all pages any more.
+fn with_frame(
+    alloc: Global,
+    survey: &Survey,
+    found: &Found,
+    frame: u64,
+) -> Result<(), RescueFault> {
+    let Found { first, last, .. } = *found;
+    if frame == 0 || frame > last {
+        return Err(RescueFault::NoFrame { first, last });
+    }
+    let oldest = oldest_of(alloc, survey, first)?;
+    if frame < oldest {
+        return Err(RescueFault::GivenUp { frame, oldest });
+    }
+    Ok(())
+}
+
 /// The log of a sound folder as of a frame. `now` is what recovery says of all of it.
 fn of_sound<W: Watch>(
     alloc: Global,
@@ -111,11 +156,8 @@ fn of_sound<W: Watch>(
     frame: u64,
     watch: &mut W,
 ) -> Result<Restored, RescueFault> {
-    let Found { first, last, .. } = now.found;
-    if frame < first || frame > last {
-        return Err(RescueFault::NoFrame { first, last });
-    }
     let survey = Survey::of(alloc, images.as_slice())?;
+    with_frame(alloc, &survey, &now.found, frame)?;
     let pages = pages_at(&survey, frame, now.pages());
     let cut = cut_at(alloc, images, frame)?;
     let then = with_pages(judge(alloc, cut.as_slice(), watch)?, pages)?;
@@ -203,12 +245,13 @@ fn write_all<R: System>(rt: &R, path: &str, images: &[Image]) -> Result<(), Fold
 }
 
 /// Makes a folder that holds a store as it was when this frame was its last; the folder may not have
-/// segments yet. There are so many leases. A fault of the log that stands behind the frame is no
-/// hindrance.
+/// segments yet. It gets the times that are noted of its frames. There are so many leases. A fault of
+/// the log that stands behind the frame is no hindrance.
 ///
-/// `NoFrame` where the log has no such frame; `Recovery`, with the page that is missing, where a
-/// segment with its blocks was given up since; `Source` and `Recovery` for what stands against the
-/// log up to the frame.
+/// `NoFrame` where the log has no such frame, or not yet; `GivenUp` where a segment with blocks of that
+/// frame's pages was given up since, and nothing else is at fault; `Recovery`, with the page that is
+/// missing, where that is so of a log with a fault; `Source` and `Recovery` for what stands against
+/// the log up to the frame.
 pub fn restore<R: System, W: Watch>(
     rt: &R,
     from: &str,
@@ -220,5 +263,7 @@ pub fn restore<R: System, W: Watch>(
     let log = Log::of(seen_images(rt, from, leases, watch)?)?;
     let Restored { cut, then } = as_of(rt.alloc(), log, frame, watch)?;
     write_all(rt, to, cut.as_slice()).map_err(RescueFault::of_target)?;
+    // A folder without times is whole.
+    let _ = carry(rt, from, to, then.found.last);
     Ok(Copied::of(&then))
 }

@@ -256,6 +256,6 @@ pub fn salvage<R: System, W: Watch>(
         pairs.as_slice(),
         watch,
     )?;
-    let copied = making.end(rt, leases, Wanted::Pairs(pairs.as_slice()), watch)?;
+    let copied = making.end(rt, leases, Wanted::Pairs(pairs.as_slice()), None, watch)?;
     Ok(Salvaged { copied, losses })
 }

@@ -5,14 +5,13 @@ use crate::compared::Wanted;
 use crate::copying::Copied;
 use crate::fault::RescueFault;
 use crate::judged::{bytes_of, judge};
-use crate::partial::{begin, finish, is_left, refuse_there};
-use crate::pieces::ends_of;
 use crate::reading::sound_images;
 use bw_file::{Folder, FolderFault};
 use bw_home::System;
 use bw_look::Image;
+use bw_partial::{begin, ends_of, is_left, partial_of, refuse_there};
+use bw_times::carry;
 use bw_watch::{Watch, Work};
-use std::fs::{self, File};
 use std::io::{self, ErrorKind};
 
 /// A new folder, and the one in which it is to be made.
@@ -25,17 +24,9 @@ pub(crate) struct Target {
 /// A new folder that is being made.
 #[derive(Drop)]
 pub(crate) struct Making {
-    target: Target,
-    /// Locked, so that nobody else makes it.
-    mark: File,
-}
-
-/// Gives a folder another name, and waits until that stands.
-fn rename<R: System>(rt: &R, from: &str, to: &str) -> Result<(), FolderFault> {
-    fs::rename(rt, from, to)?;
-    let parent = format!(in rt.alloc(); "{to}/..")?;
-    fs::open(rt, parent.as_str())?.sync_all()?;
-    Ok(())
+    /// Its name.
+    to: String,
+    making: bw_partial::Making,
 }
 
 /// Writes the segments, with a digest for each of their pieces.
@@ -70,7 +61,7 @@ impl Target {
             let missing = FolderFault::System(io::Error::from(ErrorKind::NotFound));
             return Err(RescueFault::Target(missing));
         }
-        let partial = format!(in rt.alloc(); "{name}.partial")?;
+        let partial = partial_of(rt, name)?;
         let _ = is_left(rt, partial.as_str()).map_err(RescueFault::of_partial)?;
         let to = String::from_str(rt.alloc(), name)?;
         Ok(Target { to, partial })
@@ -78,15 +69,18 @@ impl Target {
 
     /// Makes the folder in which it is made.
     pub(crate) fn begin<R: System>(self, rt: &R) -> Result<Making, RescueFault> {
-        let mark = begin(rt, self.partial.as_str()).map_err(RescueFault::of_partial)?;
-        Ok(Making { target: self, mark })
+        let making = begin(rt, self.partial.as_str()).map_err(RescueFault::of_partial)?;
+        Ok(Making {
+            to: self.to,
+            making,
+        })
     }
 }
 
 impl Making {
     /// The folder in which it is made.
     pub(crate) fn partial(&self) -> &str {
-        self.target.partial.as_str()
+        self.making.path()
     }
 
     /// Writes these segments.
@@ -100,12 +94,15 @@ impl Making {
     }
 
     /// Reads what was written again, compares it with what it has to be, waits until it stands, and
-    /// gives it its name; answers what it holds.
+    /// gives it its name; answers what it holds. If it has the frames of another folder, the times that
+    /// this one has noted of them go with it, as far as they can be written: a folder without them is
+    /// whole.
     pub(crate) fn end<R: System, W: Watch>(
         self,
         rt: &R,
         leases: u32,
         wanted: Wanted<'_>,
+        noted: Option<&str>,
         watch: &mut W,
     ) -> Result<Copied, RescueFault> {
         let images = match sound_images(rt, self.partial(), leases, watch) {
@@ -118,8 +115,14 @@ impl Making {
             return Err(RescueFault::Unlike);
         }
         let copied = Copied::of(&judged);
-        finish(rt, self.partial()).map_err(RescueFault::of_partial)?;
-        rename(rt, self.partial(), self.target.to.as_str()).map_err(RescueFault::of_target)?;
+        if let Some(from) = noted {
+            let _ = carry(rt, from, self.partial(), copied.frame);
+        }
+        let Making { to, making } = self;
+        making.finish(rt).map_err(RescueFault::of_partial)?;
+        making
+            .name(rt, to.as_str())
+            .map_err(RescueFault::of_target)?;
         Ok(copied)
     }
 }

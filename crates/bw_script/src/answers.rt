@@ -2,14 +2,14 @@
 
 ghost use Rattle.bw_home.specs.Ready.{IsReady};
 
-use crate::calls::durable;
+use crate::events::{FIRST, Standing, numbers_of};
 use bw_codec::{Key, Leaf, Pair, Value};
 use bw_core::{Cleaned, PackedEntry};
 use bw_file::FolderFault;
 use bw_home::Home;
 use bw_look::{Printer, write_page, write_word};
 use bw_rescue::Copied;
-use bw_words::{Stop, write_dump, write_entry, write_pair_line, write_value};
+use bw_words::{Fault, Stop, write_dump, write_entry, write_pair_line, write_value};
 use std::io::Write;
 
 /// What a command comes to.
@@ -17,6 +17,14 @@ use std::io::Write;
 pub enum Answer {
     /// Whether a group found a place in its writer's ring.
     Put(bool),
+    /// The key has not what a put asks of it, and nothing was put.
+    Kept,
+    /// It is as it was asked for already, and nothing was put.
+    Unchanged,
+    /// What is asked cannot be, for this reason.
+    Fault(Fault),
+    /// The number that a key has from now on.
+    Number(i64),
     /// How many records a turn took.
     Took(u64),
     /// The frame that was appended, if something waited.
@@ -25,6 +33,8 @@ pub enum Answer {
     Settled(u64),
     Page(Leaf),
     Value(Option<Value>),
+    /// The values of some keys, in their order.
+    Values(Vec<Option<Value>>),
     /// The first pair at or above a key, if there is one.
     Pair(Option<(Key, Value)>),
     /// Some pairs, in the order of their keys.
@@ -60,8 +70,8 @@ pub enum Answer {
     History,
     Cuts,
     Segments,
-    /// With a word that says whether an append failed, so that no other goes.
-    Stats(bool),
+    /// With what is told of the store beside what it says itself.
+    Stats(Standing),
 }
 
 fn write_cleaned<O: Write>(out: &mut Printer<'_, O>, cleaned: &Cleaned) {
@@ -84,6 +94,24 @@ fn write_pairs<O: Write>(out: &mut Printer<'_, O>, pairs: &[Pair]) {
         write_word(out, pair.key());
         out.text(b"=");
         write_word(out, pair.value());
+    }
+    out.text(b"\n");
+}
+
+/// The word of a value. If there is none it is `=`, which no value has in its word.
+fn write_word_of<O: Write>(out: &mut Printer<'_, O>, value: Option<&Value>) {
+    match value {
+        Some(value) => write_word(out, value.as_slice()),
+        None => out.text(b"="),
+    }
+}
+
+/// A word for each value.
+fn write_values<O: Write>(out: &mut Printer<'_, O>, values: &[Option<Value>]) {
+    out.text(b"values");
+    for value in values {
+        out.text(b" ");
+        write_word_of(out, value.as_ref());
     }
     out.text(b"\n");
 }
@@ -125,6 +153,18 @@ fn write_answer<O: Write>(out: &mut Printer<'_, O>, answer: &Answer) {
             write_word(out, folder.as_bytes());
             out.line(": ", *fault);
         }
+        answer => write_of_key(out, answer),
+    }
+}
+
+/// An answer of a put that hangs on its key, or of several keys.
+fn write_of_key<O: Write>(out: &mut Printer<'_, O>, answer: &Answer) {
+    match answer {
+        Answer::Values(values) => write_values(out, values.as_slice()),
+        Answer::Unchanged => out.text(b"ok\n"),
+        Answer::Kept => out.text(b"kept\n"),
+        Answer::Fault(fault) => out.line("fault ", *fault),
+        Answer::Number(number) => out.line("value ", *number),
         _ => {}
     }
 }
@@ -169,17 +209,32 @@ fn write_leases<O: Write>(out: &mut Printer<'_, O>, leases: &[u32]) {
     out.text(b"\n");
 }
 
-/// All numbers of a store on one line.
-fn write_stats<O: Write>(out: &mut Printer<'_, O>, home: &Home, has_failed: bool)
+/// Numbers by their names.
+fn write_numbers<O: Write>(out: &mut Printer<'_, O>, numbers: &[(&'static str, u64)]) {
+    for (name, number) in numbers {
+        out.named(" ", *name);
+        out.named(" ", *number);
+    }
+}
+
+/// All numbers of a store on one line, with a word if an append failed, and one if its segments are
+/// near the most that there may be.
+fn write_stats<O: Write>(out: &mut Printer<'_, O>, home: &Home, standing: Standing)
     requires { IsReady home.now holding }
 {
-    let kept = home.store.history().len() as u64;
-    out.named("history ", home.store.forgotten().saturating_add(kept));
-    out.named(" durable ", durable(home));
-    out.named(" segments ", home.store.live());
-    out.named(" spares ", home.store.spares());
-    out.named(" pages ", home.store.pages());
-    out.text(if has_failed { b" failed\n" } else { b"\n" });
+    let numbers = numbers_of(home, standing);
+    out.named("", numbers[0].0);
+    out.named(" ", numbers[0].1);
+    write_numbers(out, &numbers[1..FIRST]);
+    if standing.has_failed {
+        out.text(b" failed");
+    }
+    write_numbers(out, &numbers[FIRST..]);
+    out.text(if standing.is_near(home) {
+        b" near\n"
+    } else {
+        b"\n"
+    });
 }
 
 /// Writes an answer of this store.
@@ -190,7 +245,7 @@ fn write_all<O: Write>(out: &mut Printer<'_, O>, home: &Home, answer: &Answer)
         Answer::History => write_history(out, home.store.forgotten(), home.store.history()),
         Answer::Cuts => write_cuts(out, home.store.cuts()),
         Answer::Segments => write_segments(out, home),
-        Answer::Stats(has_failed) => write_stats(out, home, *has_failed),
+        Answer::Stats(standing) => write_stats(out, home, *standing),
         _ => write_answer(out, answer),
     }
 }

@@ -3,14 +3,15 @@
 ghost use Rattle.bw_home.specs.Ready.{IsReady};
 
 use crate::answers::Answer;
-use bw_codec::{Key, Value};
+use crate::events::Standing;
+use bw_codec::{Key, Record, Value};
 use bw_core::StoreFault;
 use bw_device::MAX_LEASES;
 use bw_file::FolderFault;
 use bw_home::{GroupNotPut, Home};
 use bw_rescue::RescueFault;
 use bw_ring::Group;
-use bw_words::{Command, Fault, Miss, Request, System};
+use bw_words::{Command, Condition, Fault, Miss, Request, System, signed_of};
 use std::alloc::{AllocError, Global};
 use std::str;
 
@@ -244,7 +245,7 @@ fn forget_behind(home: &mut Home, answer: &Answer)
 }
 
 /// How many bytes the live segments have.
-fn live_bytes(home: &Home) -> u64
+pub fn live_bytes(home: &Home) -> u64
     requires { IsReady home.now holding }
 {
     let mut bytes = 0u64;
@@ -298,6 +299,120 @@ fn backup_served<R: System>(rt: &R, home: &mut Home, to: &Value) -> Result<Answe
     Ok(answer)
 }
 
+/// The number that a value spells, if it spells one.
+fn number_in(value: &[u8]) -> Option<i64> {
+    match str::from_utf8(value) {
+        Ok(text) => signed_of(text).ok(),
+        Err(_) => None,
+    }
+}
+
+/// The number at a key once so much is added to it; `None` where it has no number, or the sum is none.
+fn sum_at(home: &mut Home, key: &Key, added: i64) -> Result<Option<i64>, Miss>
+    requires { IsReady home.old holding }
+    ensures { IsReady home.new holding }
+{
+    let number = match home.get(key)? {
+        Some(value) => number_in(value.as_slice()),
+        None => Some(0),
+    };
+    match number {
+        Some(number) => Ok(number.checked_add(added)),
+        None => Ok(None),
+    }
+}
+
+/// What a put of a number at a key comes to.
+fn number_put(alloc: Global, key: Key, number: Option<i64>) -> Result<Decided, Miss> {
+    let Some(number) = number else {
+        return Ok(Decided::Answer(Answer::Fault(Fault::BadNumber)));
+    };
+    let text = format!(in alloc; "{number}")?;
+    match Value::new(text.as_bytes()) {
+        Ok(value) => Ok(put_of(key, value, Answer::Number(number))),
+        Err(_) => Ok(Decided::Answer(Answer::Fault(Fault::BadNumber))),
+    }
+}
+
+/// What a put that hangs on its key comes to.
+#[derive(Drop)]
+pub enum Decided {
+    /// This is put, and answered so.
+    Put(Group, Answer),
+    /// Nothing is put.
+    Answer(Answer),
+}
+
+/// A value is put at a key.
+fn put_of(key: Key, value: Value, told: Answer) -> Decided {
+    Decided::Put(Group::one(Record::Put(key, value)), told)
+}
+
+/// What it comes to that the value of a key goes to another one, which loses what it has.
+fn rename(home: &mut Home, key: Key, new: Key) -> Result<Decided, Miss>
+    requires { IsReady home.old holding }
+    ensures { IsReady home.new holding }
+{
+    let Some(value) = home.get(&key)? else {
+        return Ok(Decided::Answer(Answer::Value(None)));
+    };
+    if key.as_slice() == new.as_slice() {
+        return Ok(Decided::Answer(Answer::Unchanged));
+    }
+    let mut group = Group::one(Record::Put(new, value));
+    let _ = group.push(Record::Del(key));
+    Ok(Decided::Put(group, Answer::Put(true)))
+}
+
+/// Whether a key has this value.
+fn has_value(home: &mut Home, key: &Key, value: &Value) -> Result<bool, Miss>
+    requires { IsReady home.old holding }
+    ensures { IsReady home.new holding }
+{
+    match home.get(key)? {
+        Some(there) => Ok(there.as_slice() == value.as_slice()),
+        None => Ok(false),
+    }
+}
+
+/// What a put that hangs on its key comes to, once all that was accepted before is taken.
+pub fn decide(alloc: Global, home: &mut Home, condition: Condition) -> Result<Decided, Miss>
+    requires { IsReady home.old holding }
+    ensures { IsReady home.new holding }
+{
+    match condition {
+        Condition::Incr(key, added) => {
+            let sum = sum_at(home, &key, added)?;
+            number_put(alloc, key, sum)
+        }
+        Condition::Swap(key, old, new) => {
+            if has_value(home, &key, &old)? {
+                return Ok(put_of(key, new, Answer::Put(true)));
+            }
+            Ok(Decided::Answer(Answer::Kept))
+        }
+        Condition::Absent(key, value) => {
+            if home.get(&key)?.is_some() {
+                return Ok(Decided::Answer(Answer::Kept));
+            }
+            Ok(put_of(key, value, Answer::Put(true)))
+        }
+        Condition::Rename(key, new) => rename(home, key, new),
+    }
+}
+
+/// The values of some keys, in their order, as the history leaves them.
+fn values_at(alloc: Global, home: &mut Home, keys: &[Key]) -> Result<Answer, Miss>
+    requires { IsReady home.old holding }
+    ensures { IsReady home.new holding }
+{
+    let mut found = Vec::new(alloc);
+    'keys: for key in keys {
+        found.push(home.get(key)?)?;
+    }
+    Ok(Answer::Values(found))
+}
+
 /// Does what a request asks for, once what was accepted before is taken.
 pub fn answer<R: System>(rt: &R, home: &mut Home, request: Request) -> Result<Answer, Miss>
     requires { IsReady home.old holding }
@@ -310,9 +425,12 @@ pub fn answer<R: System>(rt: &R, home: &mut Home, request: Request) -> Result<An
         Request::Below(key) => prev_below(home, &key),
         Request::Scan(key, most) => scan(rt.alloc(), home, &key, most),
         Request::Count => count(home),
+        Request::GetMany(keys) => values_at(rt.alloc(), home, keys.as_slice()),
         Request::Backup(to) => backup_served(rt, home, &to),
         Request::Durable => Ok(Answer::Durable(durable(home))),
         Request::Pages => Ok(Answer::Pages(home.store.pages())),
-        Request::Stats | Request::Reopen | Request::Quit => Ok(Answer::Stats(false)),
+        // What hangs on a key is decided before, and put as a command; many pairs are put one by one.
+        Request::If(_) | Request::PutMany(_) => Ok(Answer::Kept),
+        Request::Stats | Request::Reopen | Request::Quit => Ok(Answer::Stats(Standing::NONE)),
     }
 }

@@ -6,32 +6,65 @@ use bw_core::StoreFault;
 use bw_device::MAX_LEASES;
 use bw_file::FolderFault;
 use bw_home::HomeFault;
-use bw_keys::{KeysFault, Loaded, Task, Told, perform};
+use bw_keys::{Changed, Effect, KeysFault, Loaded, Plan, Task, Told, perform};
 use bw_look::Printer;
+use bw_pairs::LineFault;
 use bw_segments::{tell_far, tell_located};
 use bw_watch::{Progress, Watch};
 use bw_words::{Host, Miss, Refusal, Stop};
 use std::io::{IsTerminal, Read, Write};
 
-/// Says how many pairs went in.
-fn write_loaded<O: Write>(output: &mut O, loaded: Loaded) -> Result<(), KeysFault> {
-    writeln!(output, "imported {}", loaded.count).map_err(KeysFault::of_output)
+/// Says how many pairs went in, and how many were passed over.
+fn write_loaded<O: Write>(out: &mut Printer<'_, O>, loaded: Loaded) {
+    out.named(loaded.effect.done(), loaded.count);
+    match loaded.effect {
+        Effect::Put => out.text(b"\n"),
+        Effect::Add => out.line(" kept ", loaded.passed),
+        Effect::Delete => out.line(" missing ", loaded.passed),
+    }
+}
+
+/// Says what an import would do.
+fn write_plan<O: Write>(out: &mut Printer<'_, O>, plan: Plan) {
+    if plan.effect == Effect::Delete {
+        out.named("would delete ", plan.other);
+        out.line(" missing ", plan.absent);
+        return;
+    }
+    out.named("would import new ", plan.absent);
+    out.named(" changed ", plan.other);
+    out.line(" equal ", plan.equal);
+}
+
+/// Says what a change came to.
+fn write_changed<O: Write>(output: &mut O, changed: Changed) -> Result<(), KeysFault> {
+    let mut out = Printer::new(output);
+    match changed {
+        Changed::Deleted(count) => out.line("deleted ", count),
+        Changed::Loaded(loaded) => write_loaded(&mut out, loaded),
+        Changed::Planned(plan) => write_plan(&mut out, plan),
+        Changed::Done | Changed::Halted(..) => {}
+    }
+    match out.end() {
+        Ok(()) => Ok(()),
+        Err(_) => Err(KeysFault::Output),
+    }
 }
 
 /// Writes out what a task printed.
 fn written<O: Write>(end: Result<Told, KeysFault>, output: &mut O) -> Result<Told, KeysFault> {
     let told = end?;
-    if let Told::Loaded(loaded) = told {
-        write_loaded(output, loaded)?;
+    if let Told::Changed(changed) = &told {
+        write_changed(output, *changed)?;
     }
     output.flush().map_err(KeysFault::of_output)?;
     Ok(told)
 }
 
-/// Says what was read over of an import.
-fn tell_skipped<E: Write>(out: &mut Printer<'_, E>, loaded: Loaded) {
-    if let Some((number, fault)) = loaded.first {
-        out.named("skipped ", loaded.skipped);
+/// Says how many pairs were read over of an import, and why the first one was.
+fn tell_skipped<E: Write>(out: &mut Printer<'_, E>, skipped: u64, first: Option<(u64, LineFault)>) {
+    if let Some((number, fault)) = first {
+        out.named("skipped ", skipped);
         out.named(", the first at line ", number);
         out.line(": ", fault);
     }
@@ -101,25 +134,68 @@ fn tell_fault<E: Write>(out: &mut Printer<'_, E>, dir: &str, fault: KeysFault) -
     }
 }
 
+/// Says why a change ended early, and how much of it is durable, and gives the exit status.
+fn tell_halted<E: Write>(
+    out: &mut Printer<'_, E>,
+    dir: &str,
+    fault: KeysFault,
+    effect: Effect,
+    durable: u64,
+) -> u8 {
+    let status = tell_fault(out, dir, fault);
+    if durable > 0 {
+        out.named(effect.done(), durable);
+        out.text(b" before that, which are durable\n");
+    }
+    status
+}
+
+/// Says what is to be said of a change beside its answer, and gives the exit status.
+fn tell_changed<E: Write>(out: &mut Printer<'_, E>, dir: &str, changed: Changed) -> u8 {
+    match changed {
+        Changed::Done | Changed::Deleted(_) => 0,
+        Changed::Loaded(loaded) => {
+            tell_skipped(out, loaded.skipped, loaded.first);
+            0
+        }
+        Changed::Planned(plan) => {
+            tell_skipped(out, plan.skipped, plan.first);
+            0
+        }
+        Changed::Halted(fault, effect, durable) => tell_halted(out, dir, fault, effect, durable),
+    }
+}
+
+/// The word of a key that a task gets, by its position.
+fn word_at<'b>(task: &'b Task<'_>, position: usize) -> Option<&'b str> {
+    match task {
+        Task::Get(words, _) => match words.as_slice().get(position) {
+            Some(word) => Some(*word),
+            None => None,
+        },
+        _ => None,
+    }
+}
+
+/// Says which keys have no value, by their words, and gives the exit status.
+fn tell_missing<E: Write>(out: &mut Printer<'_, E>, task: &Task<'_>, missing: &[usize]) -> u8 {
+    for position in missing {
+        if let Some(word) = word_at(task, *position) {
+            out.line("no value: ", word);
+        }
+    }
+    if missing.is_empty() { 0 } else { 1 }
+}
+
 /// Says what an end has to say, and gives the exit status.
-fn told<E: Write>(end: Result<Told, KeysFault>, dir: &str, errors: &mut E) -> u8 {
+fn told<E: Write>(end: &Result<Told, KeysFault>, dir: &str, task: &Task<'_>, errors: &mut E) -> u8 {
     let mut out = Printer::new(errors);
     let status = match end {
         Ok(Told::Done) => 0,
         Ok(Told::NoValue) => 1,
-        Ok(Told::Loaded(loaded)) => {
-            tell_skipped(&mut out, loaded);
-            0
-        }
-        Ok(Told::Halted(fault, durable)) => {
-            let status = tell_fault(&mut out, dir, fault);
-            if durable > 0 {
-                out.named("imported ", durable);
-                out.text(b" before that, which are durable\n");
-            }
-            status
-        }
-        Err(fault) => tell_fault(&mut out, dir, fault),
+        Ok(Told::NoValues(missing)) => tell_missing(&mut out, task, missing.as_slice()),
+        Ok(Told::Changed(changed)) => tell_changed(&mut out, dir, *changed),
+        Err(fault) => tell_fault(&mut out, dir, *fault),
     };
     match out.end() {
         Ok(()) => status,
@@ -127,14 +203,22 @@ fn told<E: Write>(end: Result<Told, KeysFault>, dir: &str, errors: &mut E) -> u8
     }
 }
 
+/// Why a task ended early, if it did.
+fn fault_of(end: &Result<Told, KeysFault>) -> Option<KeysFault> {
+    match end {
+        Err(fault) => Some(*fault),
+        Ok(Told::Changed(Changed::Halted(fault, _, _))) => Some(*fault),
+        _ => None,
+    }
+}
+
 /// What was refused, if an end is a refusal.
 fn refusal_of(end: &Result<Told, KeysFault>) -> Option<Refusal> {
-    match end {
-        Err(KeysFault::Home(fault)) | Ok(Told::Halted(KeysFault::Home(fault), _)) =>
-            match Miss::from(*fault) {
-                Miss::Refused(refusal) => Some(refusal),
-                _ => None,
-            },
+    match fault_of(end) {
+        Some(KeysFault::Home(fault)) => match Miss::from(fault) {
+            Miss::Refused(refusal) => Some(refusal),
+            _ => None,
+        },
         _ => None,
     }
 }
@@ -185,7 +269,7 @@ pub fn keys<R: Host, I: Read, O: Write, E: Write + IsTerminal>(
 ) -> u8 {
     let end = performed(rt, dir, task, input, output, errors, is_shown);
     let end = written(end, output);
-    let status = told(end, dir, errors);
+    let status = told(&end, dir, task, errors);
     let is_told = match refusal_of(&end) {
         Some(refusal) => tell_files(rt, dir, refusal, errors).is_ok(),
         None => true,

@@ -1,6 +1,7 @@
 //! The program `bwlog`: `replay` runs a script over a store, line by line, and prints what each
-//! line answers; `serve` answers the requests of another program. The other modes stand in
-//! `bw_segments`, `bw_writers` and `bw_keys`, and the words of all of them in `bw_words`.
+//! line answers; `serve` answers the requests of another program, and `shell` the lines of a person, by
+//! the same steps. The other modes stand in `bw_segments`, `bw_writers` and `bw_keys`, and the words of
+//! all of them in `bw_words`.
 //!
 //! A script has a `Home` before it, which `bw_home` opens: a store over segments in memory or in a
 //! folder, and a feed for each writer. `run` is the whole program `bwlog` over any reader and
@@ -9,9 +10,11 @@
 
 mod answers;
 mod calls;
+mod events;
 mod keyed;
 mod program;
 mod replay;
+mod shell;
 mod tended;
 
 pub use program::run;

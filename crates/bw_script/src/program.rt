@@ -6,9 +6,10 @@ use crate::replay::replay;
 use bw_file::FolderFault;
 use bw_look::Printer;
 use bw_segments::{
-    compact, copy, look, restore, salvage, scan, tell_far, tell_located, tell_unheeded, upgrade,
-    upgrade_folder, verify,
+    compact, copy, follow, look, restore, salvage, scan, tell_far, tell_located, tell_unheeded,
+    upgrade, upgrade_folder, verify,
 };
+use bw_times::{Moment, Note};
 use bw_watch::{Progress, Watch};
 use bw_words::{Host, Manner, Met, Mode, Refusal, Stop, is_memory, mode_of, print};
 use bw_writers::threads;
@@ -28,11 +29,12 @@ fn go<R: Host, I: Read, O: Write, W: Watch>(
         Mode::Threads(options, pace) => threads(rt, options, input, output, *pace, watch),
         Mode::Scan(dir) => scan(rt, *dir, input, output, watch),
         Mode::Look(view, dir) => look(rt, *view, *dir, input, output, watch),
-        Mode::Verify(dir) => verify(rt, *dir, output, watch),
+        Mode::Verify(dir, report) => verify(rt, *dir, *report, output, watch),
         Mode::Copy(ends) => copy(rt, *ends, output, watch),
+        Mode::Follow(ends, every) => follow(rt, *ends, *every, output, watch),
         Mode::Compact(ends, options) => compact(rt, *ends, options, output, watch),
         Mode::Salvage(ends) => salvage(rt, *ends, output, watch),
-        Mode::Restore(ends, frame) => restore(rt, *ends, *frame, output, watch),
+        Mode::Restore(ends, as_of) => restore(rt, *ends, *as_of, output, watch),
         Mode::Upgrade(None) => upgrade(rt, input, output),
         Mode::Upgrade(Some(path)) => upgrade_folder(rt, *path, output, watch),
         // `run` does these.
@@ -53,7 +55,7 @@ fn start<R: Host, I: Read, O: Write, E: Write + IsTerminal>(
     if let Some((dir, options)) = mode.in_folder() {
         tell_unheeded(rt, dir, &options, errors)?;
     }
-    let mut watch = Progress::new(rt, mode.dir(), errors, is_shown);
+    let mut watch = Progress::new(rt, mode.dir(), errors, is_shown).hearing(mode.hearing());
     let end = go(rt, mode, input, output, &mut watch);
     watch.rest();
     end
@@ -128,8 +130,20 @@ fn tell_partial<E: Write>(out: &mut Printer<'_, E>, front: &str, fault: FolderFa
     out.named("folder ", front);
     out.line(".partial: ", fault);
     if is_there(fault) {
-        out.named("an earlier run that was stopped may have left ", front);
-        out.text(b".partial: remove it, and run this again\n");
+        out.named("it is not what an earlier run left: give ", front);
+        out.text(b".partial another name, and run this again\n");
+    }
+}
+
+/// Says why a folder was not moved, of which a whole copy takes the place.
+fn tell_old<E: Write>(out: &mut Printer<'_, E>, front: &str, fault: FolderFault) {
+    out.named("folder ", front);
+    out.line(".old: ", fault);
+    if is_there(fault) {
+        out.named("the folder ", front);
+        out.text(
+            b".old is no copy that an earlier run replaced: give it another name, and run this again\n",
+        );
     }
 }
 
@@ -150,6 +164,19 @@ fn tell_stop<E: Write>(errors: &mut E, folders: Folders<'_>, stop: Stop) -> Resu
             out.line(": ", fault);
         }
         Stop::Partial(fault) => tell_partial(&mut out, folders.dir.trim_end_matches('/'), fault),
+        Stop::Old(fault) => tell_old(&mut out, folders.dir.trim_end_matches('/'), fault),
+        Stop::Strayed(segment) => {
+            out.named("folder ", folders.dir);
+            out.named(": its segment ", segment);
+            out.line(
+                " is not that of the folder that it follows, ",
+                folders.source,
+            );
+        }
+        Stop::NoFollower(cause) => {
+            out.named("folder ", folders.dir);
+            out.line(": no store that follows another one: ", cause);
+        }
         Stop::NoStore => {
             out.named("folder ", folders.source);
             out.text(b": no store\n");
@@ -162,16 +189,46 @@ fn tell_stop<E: Write>(errors: &mut E, folders: Folders<'_>, stop: Stop) -> Resu
             out.named("folder ", folders.dir.trim_end_matches('/'));
             out.text(b".partial: it does not hold what was read\n");
         }
+        Stop::BadTime => out.text(
+            b"error: --time: neither a time as 2026-11-29T18:20:27Z nor seconds since 1970\n",
+        ),
+        Stop::NotNoted(moment, first) => tell_not_noted(&mut out, folders.source, moment, first),
+        Stop::GivenUp { frame, oldest } => {
+            out.named("folder ", folders.source);
+            out.named(": frame ", frame);
+            out.line(
+                " cannot be restored, since a segment was given up after it: the oldest that can is ",
+                oldest,
+            );
+        }
         _ => out.text(b"input failed\n"),
     }
     out.end()?;
     Ok(())
 }
 
+/// Says that no frame was noted at a moment or before it.
+fn tell_not_noted<E: Write>(
+    out: &mut Printer<'_, E>,
+    folder: &str,
+    moment: Moment,
+    first: Option<Note>,
+) {
+    out.named("folder ", folder);
+    match first {
+        Some(note) => {
+            out.named(": no frame was noted at ", moment);
+            out.named(" or before: the first is ", note.frame);
+            out.line(", at ", note.moment);
+        }
+        None => out.text(b": no frame was noted with its time\n"),
+    }
+}
+
 /// What to do where the log had no room. A mode tells it whose lines can make some.
 fn advice_of(mode: &Mode<'_>) -> Option<&'static [u8]> {
     match mode {
-        Mode::Lines(_, Manner::Requests) => None,
+        Mode::Lines(_, Manner::Requests | Manner::Shell | Manner::Prompted) => None,
         Mode::Lines(options, _) if options.most > 0 => Some(
             b"the log is full, with as many segments as --most-segments adds: a greater number, or \
                 `clean` and `add`, make room\n",
@@ -243,7 +300,9 @@ fn status_of<O: Write, E: Write>(
             // What earlier lines printed stands before it, wherever the two streams end.
             let is_told = output.flush().is_ok() && tell_stop(errors, folders, stop).is_ok();
             match stop {
+                Stop::BadTime if is_told => 2,
                 Stop::Fault(..) if is_told => 3,
+                Stop::NotNoted(..) | Stop::GivenUp { .. } if is_told => 4,
                 Stop::Folder(fault) | Stop::Source(fault) | Stop::Partial(fault)
                     if is_told && fault.is_damage() => 4,
                 _ => 6,
@@ -275,9 +334,17 @@ fn run_usage<O: Write, E: Write>(error: &Error, output: &mut O, errors: &mut E) 
 }
 
 /// Says that the input is waited for, and how it ends.
-fn tell_typed<E: Write>(errors: &mut E) -> Result<(), Stop> {
+fn tell_typed<E: Write>(errors: &mut E, manner: Option<Manner>) -> Result<(), Stop> {
     let mut out = Printer::new(errors);
-    out.text(b"reading the terminal, up to an end of input (Ctrl-D)\n");
+    match manner {
+        Some(Manner::Shell | Manner::Prompted) => {
+            out.text(b"help lists the commands; quit, or Ctrl-D, ends\n");
+        }
+        _ => out.text(b"reading the terminal, up to an end of input (Ctrl-D)\n"),
+    }
+    if manner == Some(Manner::Requests) {
+        out.text(b"these are the requests of a program; for people there is bwlog shell\n");
+    }
     out.end()?;
     Ok(())
 }
@@ -305,12 +372,17 @@ pub fn run<R: Host, I: Read, O: Write, E: Write + IsTerminal>(
             return written_out(status, output, errors);
         }
     };
-    if is_typed && mode.reads_input() && tell_typed(errors).is_err() {
+    if is_typed && mode.reads_input() && tell_typed(errors, mode.manner()).is_err() {
         return 6;
     }
-    if let Mode::Keys(dir, task) = mode {
-        return keys(rt, dir, &task, input, output, errors, is_shown);
+    if let Mode::Keys(dir, task) = &mode {
+        return keys(rt, *dir, task, input, output, errors, is_shown);
     }
+    let mode = if is_typed && is_shown {
+        mode.on_terminal()
+    } else {
+        mode
+    };
     let status = run_mode(rt, &mode, input, output, errors, is_shown);
     written_out(status, output, errors)
 }

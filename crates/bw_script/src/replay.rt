@@ -1,20 +1,26 @@
-//! `bwlog replay`: a script over one store, line by line; and `bwlog serve`, by the same lines, but
-//! each is a request that has one line of answer, whatever it is.
+//! `bwlog replay`: a script over one store, line by line; `bwlog serve`, by the same lines, but each is
+//! a request that has one line of answer, whatever it is; and `bwlog shell`, whose lines a person types,
+//! by the same requests.
 
 ghost use Rattle.bw_home.specs.Ready.{IsReady};
 
 use crate::answers::{Answer, tell};
 use crate::calls::{call, durable, put_taking, turn_on};
+use crate::events::{tell_cleaned, tell_numbers, tell_refused, tell_reopened, tell_segment};
+use crate::shell::{HELP, PROMPT, Shell, tell_text};
 use crate::tended::{Served, Tending};
+use bw_codec::Record;
 use bw_device::MAX_LEASES;
 use bw_home::{Added, Home, Legs, with_store_at};
 use bw_look::Printer;
 use bw_pairs::{Lines, READS};
-use bw_watch::{Watch, Work, folder_bytes};
+use bw_watch::{Event, Watch, Work, folder_bytes};
 use bw_words::{
-    Command, Fault, LONGEST, Manner, Met, Miss, Options, PROTOCOL, Reading, Refusal, Request, Stop,
-    System, leases_in, missed, no_input, parse, parse_request, print, print_found, refuse,
+    Command, Condition, Fault, LONGEST, Manner, Met, Miss, NotTyped, Options, PROTOCOL, Reading,
+    Refusal, Request, Stop, System, Typed, leases_in, missed, no_input, parse, parse_request,
+    parse_typed, print, print_found, refuse, refuse_after,
 };
+use std::alloc::Global;
 use std::io::{Read, Write};
 
 /// What a line asks for.
@@ -24,8 +30,14 @@ enum Asked {
     Nothing,
     Command(Command),
     Request(Request),
+    /// What a shell asks before its next line.
+    Ahead(Request),
     /// It is no request, for this reason.
     NoRequest(Fault),
+    /// What a person typed.
+    Typed(Result<Typed, NotTyped>),
+    /// Nothing more before a shell ends.
+    Over,
 }
 
 /// What came of a line.
@@ -139,6 +151,8 @@ fn print_reopened<O: Write>(output: &mut O, frame: u64, lost: u64) -> Result<(),
 fn records_in(request: &Request) -> u64 {
     match request {
         Request::Do(Command::Put(_, group)) => group.len() as u64,
+        Request::If(Condition::Rename(..)) => 2,
+        Request::If(_) => 1,
         _ => 0,
     }
 }
@@ -160,16 +174,20 @@ struct Script<'a, I, O, W> {
     tending: Tending,
     /// Whether the store stands in a folder.
     in_folder: bool,
-    /// How many records were accepted, of requests.
-    accepted: u64,
+    /// Whether it was told that there are nearly as many segments as there may be.
+    has_warned: bool,
     /// What the store before this one had.
     ended: Option<Ended>,
     /// What came of the last line; none before the first leg.
     done: Option<Done>,
     /// Whether the last line is asked again.
     is_again: bool,
+    /// What a shell has to do before its next line.
+    shell: Shell,
     /// How many records that line took, a turn, before it was.
     taken: u64,
+    /// How many pairs of that line are put, if it puts some.
+    put: Option<u64>,
     /// Whether the answer of the last line is a receipt.
     is_receipt: bool,
     /// What was met so far, or what ends it.
@@ -182,6 +200,9 @@ impl<I: Read + Drop, O: Write, W: Watch> Script<'_, I, O, W> {
     /// input is asked for.
     fn read_line(&mut self) -> Result<bool, Miss> {
         if !self.lines.holds_line() {
+            if self.manner == Manner::Prompted {
+                tell_text(self.output, PROMPT)?;
+            }
             write_out(self.output)?;
         }
         Ok(self.lines.read_line().map_err(no_input)?)
@@ -194,17 +215,24 @@ impl<I: Read + Drop, O: Write, W: Watch> Script<'_, I, O, W> {
             return Ok(true);
         }
         self.taken = 0;
-        self.read_line()
+        self.put = None;
+        let has_line = self.read_line()?;
+        if has_line {
+            let tally = &mut self.tending.tally;
+            tally.requests = tally.requests.saturating_add(1);
+        }
+        Ok(has_line)
     }
 
     /// What the next line asks for as a request.
-    fn next_request(&mut self) -> Result<Asked, Miss> {
+    fn next_request(&mut self, alloc: Global) -> Result<Asked, Miss> {
         if !self.next_line()? {
             return Ok(Asked::Nothing);
         }
-        match parse_request(self.lines.line(), self.reading) {
+        match parse_request(alloc, self.lines.line(), self.reading) {
             Ok(request) => Ok(Asked::Request(request)),
-            Err(fault) => Ok(Asked::NoRequest(fault)),
+            Err(Miss::Fault(fault)) => Ok(Asked::NoRequest(fault)),
+            Err(miss) => Err(miss),
         }
     }
 
@@ -223,11 +251,40 @@ impl<I: Read + Drop, O: Write, W: Watch> Script<'_, I, O, W> {
         Ok(Asked::Nothing)
     }
 
+    /// What a shell does next: what is to be done before its next line, or what that asks for.
+    fn next_typed(&mut self, alloc: Global) -> Result<Asked, Miss> {
+        self.shell
+            .keep_before_wait(!self.is_again && !self.lines.holds_line());
+        if let Some(request) = self.shell.next_request() {
+            self.is_again = false;
+            return Ok(Asked::Ahead(request));
+        }
+        if self.shell.is_over() || !self.next_line()? {
+            return Ok(Asked::Over);
+        }
+        match parse_typed(alloc, self.lines.line()) {
+            Err(NotTyped::NoMemory) => Err(Miss::Refused(Refusal::NO_MEMORY)),
+            typed => Ok(Asked::Typed(typed)),
+        }
+    }
+
     /// What the next line asks for in this manner.
-    fn next_asked(&mut self) -> Result<Asked, Miss> {
+    fn next_asked(&mut self, alloc: Global) -> Result<Asked, Miss> {
         match self.manner {
             Manner::Script | Manner::Taking => self.next_command(),
-            Manner::Requests => self.next_request(),
+            Manner::Requests => self.next_request(alloc),
+            Manner::Shell | Manner::Prompted => self.next_typed(alloc),
+        }
+    }
+
+    /// Prints an answer, for a program or for a person.
+    fn tell_answer(&mut self, home: &Home, answer: &Answer) -> Result<(), Stop>
+        requires { IsReady home.now holding }
+    {
+        if self.manner.is_shell() {
+            self.shell.tell(home, self.output, answer)
+        } else {
+            tell(home, self.output, answer)
         }
     }
 
@@ -312,22 +369,51 @@ impl<I: Read + Drop, O: Write, W: Watch> Script<'_, I, O, W> {
             }
         };
         self.note_put(&answer, count);
-        tell(home, self.output, &answer)?;
-        if !matches!(answer, Answer::Won(..)) {
+        self.tell_answer(home, &answer)?;
+        let Answer::Won(cleaned, _) = &answer else {
             self.write_receipt()?;
             return done_of_room(self.tending.look(rt, home));
-        }
+        };
+        tell_cleaned(self.watch, home, *cleaned);
         home.empty(rt)?;
         self.write_receipt()?;
         done_of_room(home.make_spare(rt).map(|()| true).map_err(Miss::from))
     }
 
+    /// Puts some pairs, and makes room behind them where one spare is left. A spare is only made.
+    fn do_puts<R: System>(
+        &mut self,
+        rt: &R,
+        home: &mut Home,
+        puts: Vec<Record>,
+    ) -> Result<Done, Miss>
+        requires { IsReady home.old holding }
+        ensures { IsReady home.new holding }
+    {
+        let before = self.put.unwrap_or(0);
+        let mut count = before;
+        let served = self.tending.serve_pairs(rt, home, puts, &mut count);
+        self.put = Some(count);
+        let tally = &mut self.tending.tally;
+        tally.accepted = tally.accepted.saturating_add(count.saturating_sub(before));
+        match served? {
+            Served::Answer(answer) => {
+                tell(home, self.output, &answer)?;
+                done_of_room(self.tending.look(rt, home))
+            }
+            Served::Room => {
+                self.is_again = true;
+                Ok(Done::Room)
+            }
+        }
+    }
+
     /// Counts so many records, if the answer says that they were accepted.
     fn note_put(&mut self, answer: &Answer, count: u64) {
-        if let Answer::Put(is_accepted) = answer {
-            if *is_accepted {
-                self.accepted = self.accepted.saturating_add(count);
-            }
+        if matches!(answer, Answer::Put(true) | Answer::Number(_)) {
+            let tally = &mut self.tending.tally;
+            tally.accepted = tally.accepted.saturating_add(count);
+            self.shell.note_put();
         }
     }
 
@@ -341,8 +427,54 @@ impl<I: Read + Drop, O: Write, W: Watch> Script<'_, I, O, W> {
             return Ok(Done::Answered);
         }
         let _ = home.settle();
-        self.ended = Some(Ended::of(home, self.accepted));
+        self.ended = Some(Ended::of(home, self.tending.tally.accepted));
         Ok(Done::Reopen)
+    }
+
+    /// Does what a shell asks before its next line.
+    fn do_ahead<R: System>(
+        &mut self,
+        rt: &R,
+        home: &mut Home,
+        request: Request,
+    ) -> Result<Done, Miss>
+        requires { IsReady home.old holding }
+        ensures { IsReady home.new holding }
+    {
+        let done = self.do_request(rt, home, request);
+        if !self.is_again {
+            self.shell.note_asked(done.is_err());
+        }
+        done
+    }
+
+    /// Does what a person typed.
+    fn do_typed<R: System>(
+        &mut self,
+        rt: &R,
+        home: &mut Home,
+        typed: Result<Typed, NotTyped>,
+    ) -> Result<Done, Miss>
+        requires { IsReady home.old holding }
+        ensures { IsReady home.new holding }
+    {
+        match typed {
+            Ok(Typed::Request(request)) => return self.do_request(rt, home, request),
+            Ok(Typed::List(prefix)) => self.shell.list(prefix),
+            Ok(Typed::Help) => tell_text(self.output, HELP)?,
+            Ok(Typed::Quit) => self.shell.quit(),
+            Ok(Typed::Nothing) => {}
+            Err(fault) => print(self.output, "fault ", fault)?,
+        }
+        Ok(Done::Answered)
+    }
+
+    /// Ends a shell. Behind a prompt that has no line a line is ended.
+    fn do_over(&mut self) -> Result<Done, Miss> {
+        if self.manner == Manner::Prompted && !self.shell.is_over() {
+            tell_text(self.output, "\n")?;
+        }
+        Ok(Done::End)
     }
 
     /// Does what the next line asks for. What is no request is answered too.
@@ -351,7 +483,7 @@ impl<I: Read + Drop, O: Write, W: Watch> Script<'_, I, O, W> {
         ensures { IsReady home.new holding }
     {
         self.is_receipt = false;
-        match self.next_asked()? {
+        match self.next_asked(rt.alloc())? {
             Asked::Command(command) => {
                 self.is_receipt = command.is_receipt();
                 self.do_command(rt, home, command)
@@ -364,6 +496,7 @@ impl<I: Read + Drop, O: Write, W: Watch> Script<'_, I, O, W> {
                 self.is_receipt = true;
                 self.do_reopen(home)
             }
+            Asked::Request(Request::PutMany(puts)) => self.do_puts(rt, home, puts),
             Asked::Request(request) => {
                 self.is_receipt = request.is_receipt();
                 self.do_request(rt, home, request)
@@ -372,6 +505,9 @@ impl<I: Read + Drop, O: Write, W: Watch> Script<'_, I, O, W> {
                 print(self.output, "fault ", fault)?;
                 Ok(Done::Answered)
             }
+            Asked::Ahead(request) => self.do_ahead(rt, home, request),
+            Asked::Typed(typed) => self.do_typed(rt, home, typed),
+            Asked::Over => self.do_over(),
             Asked::Nothing => Ok(Done::End),
         }
     }
@@ -384,24 +520,55 @@ impl<I: Read + Drop, O: Write, W: Watch> Script<'_, I, O, W> {
         'lines: for _ in 0..u64::MAX {
             let done = self.do_next(rt, home);
             self.note(done);
+            self.tell_due(home);
             if self.done != Some(Done::Answered) {
                 break;
             }
         }
     }
 
+    /// Counts a refusal, and tells an operator of it.
+    fn count_refusal(&mut self, refusal: Refusal) {
+        let tally = &mut self.tending.tally;
+        tally.refused = tally.refused.saturating_add(1);
+        let refused = tally.refused;
+        tell_refused(self.watch, refusal, self.lines.number(), refused);
+    }
+
+    /// Does the lines of a leg, if what stands before them has not ended the run.
+    fn do_lines<R: System>(&mut self, rt: &R, home: &mut Home)
+        requires { IsReady home.old holding }
+        ensures { IsReady home.new holding }
+    {
+        if self.done == Some(Done::End) {
+            return;
+        }
+        self.up_to_spare(rt, home);
+    }
+
     /// Notes what came of a line.
     fn note(&mut self, done: Result<Done, Miss>) {
+        if let Err(Miss::Refused(refusal)) = &done {
+            self.count_refusal(*refusal);
+        }
         let answer = match done {
             Ok(Done::Answered) => Ok(Met::NOTHING),
             Ok(done) => {
                 self.done = Some(done);
                 return;
             }
-            Err(miss) => missed(self.output, self.lines.number(), miss),
+            Err(miss) => self.missed(miss),
         };
         self.done = Some(Done::Answered);
         self.note_answer(answer);
+    }
+
+    /// What comes of a line that has no answer. If it puts pairs, it says how many are put.
+    fn missed(&mut self, miss: Miss) -> Result<Met, Stop> {
+        match (miss, self.put) {
+            (Miss::Refused(refusal), Some(count)) => refuse_after(self.output, refusal, count),
+            (miss, _) => missed(self.output, self.lines.number(), miss),
+        }
     }
 
     /// Notes what was met at an answer, or what ends the script there. A receipt is written out at
@@ -421,7 +588,6 @@ impl<I: Read + Drop, O: Write, W: Watch> Script<'_, I, O, W> {
     /// The lines that are left go to a store that is opened once more.
     fn begin_anew(&mut self, options: &Options<'_>) {
         self.tending = Tending::new(options);
-        self.accepted = 0;
         self.done = None;
     }
 
@@ -430,13 +596,19 @@ impl<I: Read + Drop, O: Write, W: Watch> Script<'_, I, O, W> {
         requires { IsReady home.now holding }
     {
         let last = durable(home);
-        match (self.ended.take(), self.manner) {
+        let ended = self.ended.take();
+        match &ended {
+            Some(ended) => tell_reopened(self.watch, last, ended.lost(last)),
+            None => tell_numbers(self.watch, "opened", home, self.tending.standing()),
+        }
+        match (ended, self.manner) {
             (Some(ended), _) => {
                 print_reopened(self.output, last, ended.lost(last))?;
                 self.write_receipt()
             }
             (None, Manner::Requests) => print_ready(self.output, last),
             (None, Manner::Script | Manner::Taking) => print_found(self.output, home.found()),
+            (None, Manner::Shell | Manner::Prompted) => Ok(()),
         }
     }
 
@@ -445,6 +617,7 @@ impl<I: Read + Drop, O: Write, W: Watch> Script<'_, I, O, W> {
         requires { IsReady home.now holding }
     {
         self.watch.rest();
+        self.watch.durable(durable(home));
         let told = self.tell_store(home);
         if let Err(stop) = told {
             self.end = Err(stop);
@@ -454,26 +627,83 @@ impl<I: Read + Drop, O: Write, W: Watch> Script<'_, I, O, W> {
 
     /// Tells what came of a spare that was made, where it is told. A request that is asked again for
     /// room that was not added would be so for ever.
-    fn tell_spare(&mut self, added: Added) {
+    fn tell_spare(&mut self, home: &Home, added: Added)
+        requires { IsReady home.now holding }
+    {
         if self.done == Some(Done::Add) {
+            match added.refused {
+                Some(fault) => self.count_refusal(Refusal::from(fault)),
+                None => tell_segment(self.watch, home, self.tending.standing().most),
+            }
             let answer = tell_added(added, self.output);
             self.note_answer(answer);
         } else if let (true, Some(fault)) = (self.is_again, added.refused) {
             self.is_again = false;
-            let answer = refuse(self.output, Refusal::from(fault));
+            self.shell.note_asked(true);
+            self.count_refusal(Refusal::from(fault));
+            let answer = self.missed(Miss::from(fault));
             self.note_answer(answer);
         }
     }
 
     /// Tells of a segment that was added to make room for a script. A program that is served asks
-    /// `stats` for that.
+    /// `stats` for that, and an operator hears it as an event.
     fn tell_further(&mut self, home: &Home)
         requires { IsReady home.now holding }
     {
         let is_added = matches!(home.added(), Some(Added { refused: None, .. }));
-        if self.tending.take_told_segment() && is_added && self.manner != Manner::Requests {
+        if !self.tending.take_told_segment() || !is_added {
+            return;
+        }
+        if self.manner == Manner::Requests {
+            tell_segment(self.watch, home, self.tending.standing().most);
+        } else {
             let segments = home.store.live().saturating_add(home.store.spares());
             self.watch.added(segments);
+        }
+    }
+
+    /// Tells an operator of a cleaning that made room.
+    fn tell_cleaning(&mut self, home: &Home)
+        requires { IsReady home.now holding }
+    {
+        if let Some(cleaned) = self.tending.take_told_cleaning() {
+            tell_cleaned(self.watch, home, cleaned);
+        }
+    }
+
+    /// Warns once, where a store is served or typed to, that it uses nearly as many segments as it may
+    /// have.
+    fn warn(&mut self, home: &Home)
+        requires { IsReady home.now holding }
+    {
+        let standing = self.tending.standing();
+        let is_script = matches!(self.manner, Manner::Script | Manner::Taking);
+        if !self.has_warned && !is_script && standing.is_near(home) {
+            self.has_warned = true;
+            self.watch.filling(home.store.live(), standing.most);
+        }
+    }
+
+    /// Tells what is due behind a line: its frame's time, a warning, and the numbers of the store.
+    fn tell_due(&mut self, home: &Home)
+        requires { IsReady home.now holding }
+    {
+        self.watch.durable(durable(home));
+        self.warn(home);
+        if self.watch.take_due() {
+            tell_numbers(self.watch, Event::NUMBERS, home, self.tending.standing());
+        }
+    }
+
+    /// Tells that a store ends, or is to be opened once more.
+    fn tell_end(&mut self, home: &Home)
+        requires { IsReady home.now holding }
+    {
+        self.tell_cleaning(home);
+        self.watch.closing(durable(home));
+        if self.done == Some(Done::End) {
+            tell_numbers(self.watch, "ended", home, self.tending.standing());
         }
     }
 
@@ -481,10 +711,11 @@ impl<I: Read + Drop, O: Write, W: Watch> Script<'_, I, O, W> {
     fn begin_leg(&mut self, home: &Home)
         requires { IsReady home.now holding }
     {
+        self.tell_cleaning(home);
         self.tell_further(home);
         match (self.done, home.added()) {
             (None, _) => self.begin(home),
-            (Some(_), Some(added)) => self.tell_spare(added),
+            (Some(_), Some(added)) => self.tell_spare(home, added),
             _ => {}
         }
     }
@@ -495,15 +726,12 @@ impl<R: System, I: Read + Drop, O: Write, W: Watch> Legs<R> for Script<'_, I, O,
 
     fn leg(&mut self, rt: &R, home: &mut Home) -> Option<Result<Met, Stop>> {
         self.begin_leg(home);
-        if self.done == Some(Done::End) {
-            return Some(self.end);
+        self.do_lines(rt, home);
+        if !matches!(self.done, Some(Done::End | Done::Reopen)) {
+            return None;
         }
-        self.up_to_spare(rt, home);
-        if matches!(self.done, Some(Done::End | Done::Reopen)) {
-            Some(self.end)
-        } else {
-            None
-        }
+        self.tell_end(home);
+        Some(self.end)
     }
 }
 
@@ -568,11 +796,13 @@ fn run_lines<R: System, I: Read + Drop, O: Write, W: Watch>(
         watch: &mut *watch,
         tending: Tending::new(options),
         in_folder: options.dir.is_some(),
-        accepted: 0,
+        has_warned: false,
         ended: None,
         done: None,
         is_again: false,
+        shell: Shell::new(),
         taken: 0,
+        put: None,
         is_receipt: false,
         end: Ok(Met::NOTHING),
     };

@@ -6,12 +6,14 @@
 ghost use Rattle.bw_home.specs.Ready.{IsReady};
 
 use crate::answers::Answer;
-use crate::calls::{answer, durable};
-use bw_core::StoreFault;
+use crate::calls::{Decided, answer, decide, durable};
+use crate::events::{Standing, Tally};
+use bw_codec::Record;
+use bw_core::{Cleaned, StoreFault};
 use bw_home::Home;
 use bw_keys::Admission;
-use bw_ring::Group;
-use bw_words::{Command, Miss, Options, Refusal, Request, System};
+use bw_ring::{FullGroup, Group};
+use bw_words::{Command, Condition, Miss, Options, Refusal, Request, System};
 
 /// How a store is tended.
 #[derive(Debug, Clone, Copy)]
@@ -21,6 +23,10 @@ pub struct Tending {
     room: bw_keys::Tending,
     /// Whether an append of the log failed.
     has_failed: bool,
+    /// Up to how many segments there may be; 0 if no room is made.
+    most: u32,
+    /// What is counted of the lines.
+    pub tally: Tally,
 }
 
 /// What comes of a request.
@@ -29,6 +35,14 @@ pub enum Served {
     Answer(Answer),
     /// A spare was made. Once it was added, the same is asked again.
     Room,
+}
+
+/// What a put hangs on, if the request is one; and else the request.
+fn hanging(request: Request) -> Result<Condition, Request> {
+    match request {
+        Request::If(condition) => Ok(condition),
+        request => Err(request),
+    }
 }
 
 /// Whether a segment was wanted and too few spares stood.
@@ -63,6 +77,17 @@ impl Tending {
                 options.most,
             ),
             has_failed: false,
+            most: options.most,
+            tally: Tally::NONE,
+        }
+    }
+
+    /// What is told of the store beside what it says itself.
+    pub fn standing(&self) -> Standing {
+        Standing {
+            has_failed: self.has_failed,
+            most: self.most,
+            tally: self.tally,
         }
     }
 
@@ -95,6 +120,11 @@ impl Tending {
         self.room.take_told_segment()
     }
 
+    /// The last cleaning, as `bw_keys` tells it.
+    pub fn take_told_cleaning(&mut self) -> Option<Cleaned> {
+        self.room.take_told_cleaning()
+    }
+
     /// Makes room for what was refused, if it was for want of a segment and there is a way.
     pub fn room_for<R: System>(&mut self, rt: &R, home: &mut Home, miss: Miss) -> Result<(), Miss>
         requires { IsReady home.old holding }
@@ -121,7 +151,7 @@ impl Tending {
                 let is_told = frame.is_some() || !has_flushed;
                 Answer::Frame(if is_told { frame } else { Some(durable(home)) })
             }
-            Answer::Stats(_) => Answer::Stats(self.has_failed),
+            Answer::Stats(_) => Answer::Stats(self.standing()),
             answer => answer,
         }
     }
@@ -225,7 +255,7 @@ impl Tending {
         requires { IsReady home.old holding }
         ensures { IsReady home.new holding }
     {
-        if group_in(&request).is_some() {
+        if group_in(&request).is_some() || matches!(request, Request::If(_)) {
             return Err(Miss::from(StoreFault::Failed));
         }
         self.answered(rt, home, request)
@@ -251,6 +281,67 @@ impl Tending {
         served
     }
 
+    /// Puts a record at once, if one of its line was put before and the queue has a place for it;
+    /// else gives it back as a group.
+    fn offer_next(&mut self, home: &mut Home, put: Record, is_next: bool) -> Result<(), Group>
+        requires { IsReady home.old holding }
+        ensures { IsReady home.new holding }
+    {
+        let group = Group::one(put);
+        if !is_next || self.has_failed || !self.room.waits(&group) {
+            return Err(group);
+        }
+        match home.offer(0, group) {
+            Ok(()) => Ok(()),
+            Err(FullGroup(group)) => Err(group),
+        }
+    }
+
+    /// Puts a record, as `serve` does it.
+    fn serve_put<R: System>(
+        &mut self,
+        rt: &R,
+        home: &mut Home,
+        put: Record,
+        is_next: bool,
+    ) -> Result<Served, Miss>
+        requires { IsReady home.old holding }
+        ensures { IsReady home.new holding }
+    {
+        match self.offer_next(home, put, is_next) {
+            Ok(()) => Ok(Served::Answer(Answer::Put(true))),
+            Err(group) => self.serve(rt, home, Request::Do(Command::Put(0, group))),
+        }
+    }
+
+    /// Puts some pairs, but for so many that were put before, and counts each there. If a spare was
+    /// made the others are put once it was added.
+    pub fn serve_pairs<R: System>(
+        &mut self,
+        rt: &R,
+        home: &mut Home,
+        puts: Vec<Record>,
+        count: &mut u64,
+    ) -> Result<Served, Miss>
+        requires { IsReady home.old holding }
+        ensures { IsReady home.new holding }
+    {
+        let before = *count;
+        let mut passed = 0u64;
+        'puts: for put in puts {
+            passed = passed.saturating_add(1);
+            if passed <= before {
+                continue;
+            }
+            let served = self.serve_put(rt, home, put, *count > before)?;
+            if !matches!(served, Served::Answer(Answer::Put(true))) {
+                return Ok(served);
+            }
+            *count = count.saturating_add(1);
+        }
+        Ok(Served::Answer(Answer::Put(true)))
+    }
+
     /// Does what a request asks for, if no append failed.
     fn done<R: System>(&mut self, rt: &R, home: &mut Home, request: Request) -> Result<Served, Miss>
         requires { IsReady home.old holding }
@@ -265,6 +356,29 @@ impl Tending {
         if self.take_waiting(rt, home, &request)? {
             return Ok(Served::Room);
         }
-        self.served(rt, home, request)
+        match hanging(request) {
+            Ok(condition) => self.served_if(rt, home, condition),
+            Err(request) => self.served(rt, home, request),
+        }
+    }
+
+    /// The answer of a put that hangs on its key, behind a take of all that was put before.
+    fn served_if<R: System>(
+        &mut self,
+        rt: &R,
+        home: &mut Home,
+        condition: Condition,
+    ) -> Result<Served, Miss>
+        requires { IsReady home.old holding }
+        ensures { IsReady home.new holding }
+    {
+        let (group, told) = match decide(rt.alloc(), home, condition)? {
+            Decided::Put(group, told) => (group, told),
+            Decided::Answer(answer) => return Ok(Served::Answer(answer)),
+        };
+        match self.served(rt, home, Request::Do(Command::Put(0, group)))? {
+            Served::Answer(Answer::Put(true)) => Ok(Served::Answer(told)),
+            served => Ok(served),
+        }
     }
 }

@@ -42,13 +42,14 @@ fn images_under<R: System, W: Watch>(
     Ok(images)
 }
 
-/// The same of a folder in which nobody writes.
+/// The segments of a folder in which nobody writes, by their leases.
 fn images_in<R: System, W: Watch>(rt: &R, path: &str, watch: &mut W) -> Result<Vec<Image>, Miss> {
     let reader = FolderReader::open(rt, path)?;
     images_under(rt, path, &reader, watch)
 }
 
-/// The same of a folder, as they stood at one of its frames where somebody writes it.
+/// The segments of a folder, by their leases; if somebody writes it, as they stood at one of its
+/// frames.
 pub fn images_stood<R: System, W: Watch>(
     rt: &R,
     path: &str,

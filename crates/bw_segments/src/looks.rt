@@ -4,13 +4,17 @@
 
 use crate::images::{bytes_in, images, images_stood};
 use crate::judged::{Judged, judge};
+use crate::numbers::write_numbers;
 use bw_care::RecoverCause;
 use bw_codec::Leaf;
+use bw_file::FolderFault;
 use bw_look::{Counts, Image, Printer, Scene, Survey, write_counts, write_image, write_picture};
 use bw_page::Leaves;
+use bw_times::notes_in;
 use bw_watch::{Watch, Work};
 use bw_words::{Met, Miss, Refusal, Stop, System, View, missed, refuse};
 use std::alloc::{AllocError, Global};
+use std::fs;
 use std::io::{Read, Write};
 
 /// How many bytes a page has as a Base: a pair is its key and value, with one byte for the length of
@@ -78,15 +82,44 @@ fn print_images<O: Write>(alloc: Global, images: &[Image], output: &mut O) -> Re
 }
 
 /// Counts what segments hold of each kind, once recovery has found them to be those of a log.
-fn count_images<O: Write>(alloc: Global, images: &[Image], output: &mut O) -> Result<Met, Stop> {
+fn count_images<O: Write>(
+    alloc: Global,
+    images: &[Image],
+    is_json: bool,
+    output: &mut O,
+) -> Result<Met, Stop> {
     let judged = match judge(alloc, images) {
         Ok(judged) => judged,
         Err(miss) => return missed(output, 0, miss),
     };
     let lengths = lengths_of(alloc, &judged.leaves)?;
     let survey = Survey::of(alloc, images)?;
+    let counts = counts_of(&judged);
+    if is_json {
+        return print_numbers(alloc, &survey, counts, lengths.as_slice(), output);
+    }
     let mut out = Printer::new(output);
-    write_counts(&mut out, &survey, counts_of(&judged), lengths.as_slice());
+    write_counts(&mut out, &survey, counts, lengths.as_slice());
+    out.end()?;
+    Ok(Met::NOTHING)
+}
+
+/// Prints the same as an object of JSON.
+fn print_numbers<O: Write>(
+    alloc: Global,
+    survey: &Survey,
+    counts: Counts,
+    lengths: &[u64],
+    output: &mut O,
+) -> Result<Met, Stop> {
+    let mut text = Vec::new(alloc);
+    let mut lines = Printer::new(&mut text);
+    write_counts(&mut lines, survey, counts, lengths);
+    if lines.end().is_err() {
+        return Err(Stop::NoMemory);
+    }
+    let mut out = Printer::new(output);
+    write_numbers(&mut out, std::str::from_utf8(text.as_slice()).unwrap_or(""));
     out.end()?;
     Ok(Met::NOTHING)
 }
@@ -134,6 +167,19 @@ fn draw_images<O: Write>(
     Ok(Met::NOTHING)
 }
 
+/// Prints the frames of a folder that were noted, with their times.
+fn print_frames<R: System, O: Write>(rt: &R, dir: &str, output: &mut O) -> Result<Met, Stop> {
+    let _ = fs::metadata(rt, dir).map_err(FolderFault::from)?;
+    let notes = notes_in(rt, dir).map_err(FolderFault::from)?;
+    let mut out = Printer::new(output);
+    for note in &notes {
+        out.named("frame ", note.frame);
+        out.line(" time ", note.moment);
+    }
+    out.end()?;
+    Ok(Met::NOTHING)
+}
+
 /// The segments that are shown in this view, or the line that is none, and why.
 fn shown<R: System, I: Read, W: Watch>(
     rt: &R,
@@ -159,6 +205,9 @@ pub fn look<R: System, I: Read, O: Write, W: Watch>(
     output: &mut O,
     watch: &mut W,
 ) -> Result<Met, Stop> {
+    if let (View::Frames, Some(path)) = (view, dir) {
+        return print_frames(rt, path, output);
+    }
     let images = match shown(rt, view, dir, input, watch) {
         Ok(images) => images,
         Err((number, miss)) => return missed(output, number, miss),
@@ -169,7 +218,8 @@ pub fn look<R: System, I: Read, O: Write, W: Watch>(
     watch.see(Work::Recovering, 0, bytes_in(images.as_slice()));
     match view {
         View::Print => print_images(rt.alloc(), images.as_slice(), output),
-        View::Stats => count_images(rt.alloc(), images.as_slice(), output),
+        View::Stats | View::Frames => { count_images(rt.alloc(), images.as_slice(), false, output) }
+        View::Numbers => count_images(rt.alloc(), images.as_slice(), true, output),
         View::Picture(room) => draw_images(rt.alloc(), images.as_slice(), room, output),
     }
 }

@@ -1,13 +1,15 @@
 //! `bwlog verify`, `copy`, `salvage` and `restore`: what `bw_rescue` does, in words.
 
+use crate::verdicts::{write_faults, write_refused, write_whole};
 use bw_care::RecoverCause;
 use bw_device::MAX_LEASES;
-use bw_file::FolderReader;
+use bw_file::{FolderFault, FolderReader};
 use bw_home::Options;
 use bw_look::Printer;
 use bw_rescue::{Copied, Hurt, Loss, RescueFault, Salvaged, Verdict, Verified};
+use bw_times::{Moment, Note, noted_at, notes_in};
 use bw_watch::Watch;
-use bw_words::{Ends, Met, Miss, Stop, System, missed};
+use bw_words::{AsOf, Ends, Met, Miss, Refusal, Report, Stop, System, missed};
 use std::io::Write;
 
 /// What was met where something is damaged.
@@ -71,20 +73,49 @@ pub fn compact<R: System, O: Write, W: Watch>(
     tell_copied(output, "copied frame ", copied)
 }
 
-/// Makes a folder that holds a store as of an earlier frame.
-pub fn restore<R: System, O: Write, W: Watch>(
+/// The frame that was noted at the time of this text, or the last one before.
+fn noted<R: System>(rt: &R, from: &str, text: &str) -> Result<Note, Stop> {
+    let Some(moment) = Moment::of_text(text) else {
+        return Err(Stop::BadTime);
+    };
+    let notes = notes_in(rt, from).map_err(|error| { Stop::of_source(FolderFault::from(error)) })?;
+    match noted_at(notes.as_slice(), moment) {
+        Some(note) => Ok(note),
+        None => Err(Stop::NotNoted(moment, notes.first().copied())),
+    }
+}
+
+/// Makes a folder that holds a store as of an earlier frame, and prints that.
+fn restore_at<R: System, O: Write, W: Watch>(
     rt: &R,
     ends: Ends<'_>,
     frame: u64,
     output: &mut O,
     watch: &mut W,
 ) -> Result<Met, Stop> {
-    if ends.is_within() {
-        return Err(Stop::Within);
-    }
     let copied = bw_rescue::restore(rt, ends.from, ends.to, frame, MAX_LEASES, watch);
     watch.rest();
     tell_copied(output, "restored frame ", copied)
+}
+
+/// Makes a folder that holds a store as of an earlier frame, or of a time, and prints that.
+pub fn restore<R: System, O: Write, W: Watch>(
+    rt: &R,
+    ends: Ends<'_>,
+    as_of: AsOf<'_>,
+    output: &mut O,
+    watch: &mut W,
+) -> Result<Met, Stop> {
+    if ends.is_within() {
+        return Err(Stop::Within);
+    }
+    match as_of {
+        AsOf::Frame(frame) => restore_at(rt, ends, frame, output, watch),
+        AsOf::Time(text) => {
+            let note = noted(rt, ends.from, text)?;
+            restore_at(rt, ends, note.frame, output, watch)
+        }
+    }
 }
 
 /// A line for each loss.
@@ -149,36 +180,67 @@ fn is_bare<R: System>(rt: &R, dir: &str) -> bool {
     }
 }
 
-/// Verifies a folder.
+/// What was met where recovery refused a folder.
+fn met_of(refusal: Refusal) -> Met {
+    Met {
+        refusal: true,
+        far: matches!(refusal, Refusal::NoLease),
+        cause: refusal.cause(),
+        ..Met::NOTHING
+    }
+}
+
+/// Says that a folder was refused, in this manner.
+fn tell_refused<R: System, O: Write>(
+    rt: &R,
+    fault: RescueFault,
+    report: Report,
+    output: &mut O,
+) -> Result<Met, Stop> {
+    match (Miss::from(fault), report) {
+        (Miss::Refused(refusal), Report::Json) if !refusal.is_no_memory() => {
+            let text = format!(in rt.alloc(); "{refusal}")?;
+            let mut out = Printer::new(output);
+            write_refused(&mut out, text.as_str());
+            out.end()?;
+            Ok(met_of(refusal))
+        }
+        (miss, _) => missed(output, 0, miss),
+    }
+}
+
+/// Says what comes of a folder that was read, in this manner.
+fn tell_verdict<O: Write>(output: &mut O, verdict: &Verdict, report: Report) -> Result<Met, Stop> {
+    let mut out = Printer::new(output);
+    match (verdict, report) {
+        (Verdict::Whole(verified), Report::Lines) => write_verified(&mut out, *verified),
+        (Verdict::Whole(verified), Report::Json) => write_whole(&mut out, *verified),
+        (Verdict::Hurt(hurts), Report::Lines) => write_hurts(&mut out, hurts.as_slice()),
+        (Verdict::Hurt(hurts), Report::Json) => write_faults(&mut out, hurts.as_slice()),
+    }
+    out.end()?;
+    Ok(match verdict {
+        Verdict::Whole(verified) => Met {
+            bare: verified.unsummed > 0,
+            ..Met::NOTHING
+        },
+        Verdict::Hurt(_) => DAMAGE,
+    })
+}
+
+/// Verifies a folder, and says what comes of it in this manner.
 pub fn verify<R: System, O: Write, W: Watch>(
     rt: &R,
     dir: &str,
+    report: Report,
     output: &mut O,
     watch: &mut W,
 ) -> Result<Met, Stop> {
     let verified = bw_rescue::verify(rt, dir, MAX_LEASES, watch);
     watch.rest();
-    let verdict = match verified {
-        Ok(verdict) => verdict,
-        Err(RescueFault::Recovery(RecoverCause::Empty)) if is_bare(rt, dir) => {
-            return Err(Stop::NoStore);
-        }
-        Err(fault) => return missed(output, 0, Miss::from(fault)),
-    };
-    let mut out = Printer::new(output);
-    let met = match verdict {
-        Verdict::Whole(verified) => {
-            write_verified(&mut out, verified);
-            Met {
-                bare: verified.unsummed > 0,
-                ..Met::NOTHING
-            }
-        }
-        Verdict::Hurt(hurts) => {
-            write_hurts(&mut out, hurts.as_slice());
-            DAMAGE
-        }
-    };
-    out.end()?;
-    Ok(met)
+    match verified {
+        Ok(verdict) => tell_verdict(output, &verdict, report),
+        Err(RescueFault::Recovery(RecoverCause::Empty)) if is_bare(rt, dir) => Err(Stop::NoStore),
+        Err(fault) => tell_refused(rt, fault, report, output),
+    }
 }

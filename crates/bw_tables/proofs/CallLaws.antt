@@ -16,7 +16,7 @@ use Rattle.bw_rows.proofs.BatchLaws.{mark_law, carry_law, end_law}
 use Rattle.bw_rows.proofs.OneKey.{split, same_true}
 use Rattle.bw_rows.proofs.HeadLaws.{head_named}
 use Rattle.bw_tables.specs.Writing.{chunk_records, taking, IsWriting}
-use Rattle.bw_tables.specs.Calls.{Begins, GoesOn, MakesLong, MakesShort, Frees, MakesBatch, CarriesOut, EndsBatch, MakesTable, DropsTable, DropsRow}
+use Rattle.bw_tables.specs.Calls.{Begins, GoesOn, MakesLong, MakesShort, Frees, MakesBatch, CarriesOut, EndsBatch, MakesTable, DropsTable, DropsRow, KeepsNames}
 use Rattle.bw_tables.proofs.WritingLaws.{taking_law, chunks_law, step_law}
 
 -- a number of two bytes in front
@@ -102,6 +102,18 @@ drops_row t key old group wide is tables p h none was =
     let place : Bytes = row_place t key in
     let step : IsTables tables (after p (step_of place None (head_at p place))) = gone_row_law tables p t key h wide none in
     subst (λ (g : List Record). IsTables tables (after p g)) (ap (row_group place None None) was ∙ sym is) step
+
+-- a row that goes away changes no name
+row_names : (place : Bytes) (old : Option (Bytes × ℕ)) → KeepsNames (row_group place None None old)
+row_names place None = λ p name. refl
+row_names place (Some head) = λ p name. refl
+
+pub row_keeps_names : (place : Bytes) (old : Option (Bytes × ℕ)) (group : List Record) → group ≡ row_group place None None old → KeepsNames group
+row_keeps_names place old group is = subst KeepsNames (sym is) (row_names place old)
+
+-- nor does a number that is freed
+pub frees_no_name : (n : Bytes) (group : List Record) → group ≡ Del (doomed_key n) ∷ Put (free_key n) [] ∷ [] → KeepsNames group
+frees_no_name n group is = subst KeepsNames (sym is) (λ p name. refl)
 
 -- ---- rows aside
 

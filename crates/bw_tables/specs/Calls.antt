@@ -2,7 +2,7 @@
 
 use Rattle.std.specs.Prelude.{◌≡◌, ◌<◌, ◌+◌, ◌^◌, ℕ, true, List, [], length, take, Option, Some, None}
 use Rattle.bw_record.specs.declared.record.Record.{Record}
-use Rattle.bw_rows.specs.Spelling.{Bytes, row_key, row_place, aside_key, chunks_in}
+use Rattle.bw_rows.specs.Spelling.{Bytes, name_key, row_key, row_place, aside_key, chunks_in}
 use Rattle.bw_rows.specs.Meaning.{Plain, Tables, table_in, with_value}
 use Rattle.bw_rows.specs.Law.{head_at}
 use Rattle.bw_rows.specs.Steps.{after}
@@ -61,3 +61,7 @@ DropsTable name group = (tables : Tables) (p : Plain) → IsTables tables p → 
 abbrev pub DropsRow : Bytes → Bytes → Option (Bytes × ℕ) → List Record → Type 0
 DropsRow t key old group =
     (tables : Tables) (p : Plain) → IsTables tables p → IsNoTable p t → head_at p (row_place t key) ≡ old → IsTables tables (after p group)
+
+-- all names stay as they are
+abbrev pub KeepsNames : List Record → Type 0
+KeepsNames group = (p : Plain) (name : Bytes) → after p group (name_key name) ≡ p (name_key name)

@@ -5,7 +5,7 @@ ghost use Rattle.std.specs.Prelude.{◌≡◌, ◌+◌, ◌-◌, ◌*◌, ◌≤
 ghost use Rattle.bw_rows.specs.Spelling as spelling;
 ghost use Rattle.bw_rows.specs.Meaning.{over};
 ghost use Rattle.bw_rows.specs.Steps.{aside_group, row_group};
-ghost use Rattle.bw_tables.specs.Calls.{Begins, CarriesOut, DropsRow, DropsTable, EndsBatch, Frees, GoesOn, MakesBatch, MakesLong, MakesShort, MakesTable};
+ghost use Rattle.bw_tables.specs.Calls.{Begins, CarriesOut, DropsRow, DropsTable, EndsBatch, Frees, GoesOn, KeepsNames, MakesBatch, MakesLong, MakesShort, MakesTable};
 ghost use Rattle.bw_tables.specs.Writing.{chunk_record, chunk_records, named, row_to, taking};
 
 use bw_record::{Key, Record, Value};
@@ -151,7 +151,8 @@ pub fn delete_step(table: TableNumber, key: &RowKey, old: Option<Head>) -> Group
 
 /// The last group of a collection, behind the last chunk: the number may be taken again.
 pub fn free_group(number: Number) -> Group
-    ensures { Frees number.bytes result }
+    ensures frees { Frees number.bytes result }
+    ensures names { KeepsNames result }
 {
     let mut group = Group::one(Record::Del(doomed_key(number)));
     add(&mut group, Record::Put(free_key(number), nothing()));
@@ -240,7 +241,8 @@ pub fn drop_step(name: &Name, table: TableNumber) -> Group
 
 /// A row of a table that is gone goes away; `old` is what it names.
 pub fn drop_row(table: TableNumber, key: &RowKey, old: Option<Head>) -> Group
-    ensures { DropsRow table.bytes key.now (named old) result }
+    ensures drops { DropsRow table.bytes key.now (named old) result }
+    ensures names { KeepsNames result }
 {
     row_change(table, key, None, None, old)
 }

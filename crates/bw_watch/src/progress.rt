@@ -1,10 +1,13 @@
-//! Work on a terminal: one line that is written over, once the whole has taken a second.
+//! Work on a terminal: one line that is written over, once the whole has taken a second; and lines of
+//! what happens to a store, wherever standard error goes.
 
 use crate::amount::Amount;
+use crate::event::{Event, Hearing};
 use crate::watch::{Watch, Work};
+use bw_times::{Noting, now};
 use std::alloc::Global;
 use std::fmt::{self, Display, Formatter};
-use std::fs;
+use std::fs::{self, File};
 use std::io::{IsTerminal, Write};
 use std::rt::Files;
 use std::time::Clock;
@@ -14,6 +17,9 @@ const PATIENCE: u64 = 1_000;
 
 /// So many milliseconds stand between two lines at least.
 const PAUSE: u64 = 200;
+
+/// Of one refusal no more than a line is told in so many milliseconds.
+const QUIET: u64 = 1_000;
 
 /// Work of which nothing is told before its end takes a second, where it goes over so many bytes: its
 /// line is told before.
@@ -84,6 +90,14 @@ pub struct Progress<'a, R, E> {
     since: u64,
     /// When the line was written that stands, if one does.
     told: Option<u64>,
+    /// Which events are told.
+    hearing: Hearing,
+    /// When the numbers of a store are due, in milliseconds.
+    due: u64,
+    /// The refusal that was told last, and when, in milliseconds.
+    refused: Option<(u64, u64)>,
+    /// The times of frames.
+    noting: Noting<'a>,
 }
 
 /// How many milliseconds a clock tells.
@@ -95,6 +109,11 @@ fn millis<R: Clock>(rt: &R) -> u64 {
             .saturating_add(u64::from(time.subsec_millis())),
         Err(_) => 0,
     }
+}
+
+/// How many milliseconds stand between two lines of numbers.
+fn pause_of(hearing: Hearing) -> u64 {
+    u64::from(hearing.every).saturating_mul(1_000)
 }
 
 impl<'a, R: AllocGlobal + Clock, E: Write + IsTerminal> Progress<'a, R, E> {
@@ -117,7 +136,47 @@ impl<'a, R: AllocGlobal + Clock, E: Write + IsTerminal> Progress<'a, R, E> {
             work: None,
             since: 0,
             told: None,
+            hearing: Hearing::NOTHING,
+            due: 0,
+            refused: None,
+            noting: Noting::new(dir),
         }
+    }
+
+    /// Tells these events, too, from now on.
+    pub fn hearing(self, hearing: Hearing) -> Progress<'a, R, E> {
+        let now = if hearing.every > 0 {
+            millis(self.rt)
+        } else {
+            0
+        };
+        Progress {
+            hearing,
+            due: now.saturating_add(pause_of(hearing)),
+            ..self
+        }
+    }
+
+    /// Passes over a refusal that was told a moment ago; whether it is one. Any other event is none.
+    fn pass_over(&mut self, event: &Event<'_>) -> bool {
+        if event.name != Event::REFUSED {
+            return false;
+        }
+        let which = event.numbers.first().map_or(0, |number| number.1);
+        let now = millis(self.rt);
+        let is_told = match self.refused {
+            Some((last, when)) => last == which && now.saturating_sub(when) < QUIET,
+            None => false,
+        };
+        if !is_told {
+            self.refused = Some((which, now));
+        }
+        is_told
+    }
+
+    /// Whether an event is one of those that are told.
+    fn hears(&self, event: &Event<'_>) -> bool {
+        self.hearing.all || (event.name == Event::NUMBERS && self.hearing.every > 0)
     }
 
     /// Whether a line is due at this time, of work that is new or not.
@@ -138,7 +197,8 @@ impl<'a, R: AllocGlobal + Clock, E: Write + IsTerminal> Progress<'a, R, E> {
     }
 }
 
-impl<R: AllocGlobal + Clock, E: Write + IsTerminal> Watch for Progress<'_, R, E> {
+impl<R: AllocGlobal + Clock + Files<File = File>, E: Write + IsTerminal> Watch
+    for Progress<'_, R, E> {
     fn is_seen(&self) -> bool {
         self.is_seen
     }
@@ -178,6 +238,52 @@ impl<R: AllocGlobal + Clock, E: Write + IsTerminal> Watch for Progress<'_, R, E>
             ),
             None => writeln!(self.errors, "a segment was added, {segments} in all"),
         };
+    }
+
+    fn filling(&mut self, segments: u32, most: u32) {
+        self.rest();
+        let _ = match self.dir {
+            Some(dir) => writeln!(
+                self.errors,
+                "folder {dir}: the log uses {segments} segments of {most} at most",
+            ),
+            None => writeln!(
+                self.errors,
+                "the log uses {segments} segments of {most} at most"
+            ),
+        };
+    }
+
+    // The one place where events are written: a line each, in one piece.
+    fn happened(&mut self, event: &Event<'_>) {
+        if !self.hears(event) || self.pass_over(event) {
+            return;
+        }
+        self.rest();
+        let moment = now(self.rt);
+        if let Ok(line) = format!(in self.rt.alloc(); "{moment} {event}\n") {
+            let _ = self.errors.write_all(line.as_bytes());
+        }
+    }
+
+    fn take_due(&mut self) -> bool {
+        if self.hearing.every == 0 {
+            return false;
+        }
+        let now = millis(self.rt);
+        if now < self.due {
+            return false;
+        }
+        self.due = now.saturating_add(pause_of(self.hearing));
+        true
+    }
+
+    fn durable(&mut self, frame: u64) {
+        self.noting.durable(self.rt, frame);
+    }
+
+    fn closing(&mut self, frame: u64) {
+        self.noting.closing(self.rt, frame);
     }
 
     fn rest(&mut self) {

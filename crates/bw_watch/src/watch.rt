@@ -1,6 +1,7 @@
-//! Who is told, and of which work.
+//! Who is told, and of what.
 
 use crate::amount::Unit;
+use crate::event::Event;
 use std::fmt::{self, Display, Formatter};
 
 /// What is done. Its `Display` is the word that is told.
@@ -50,7 +51,7 @@ impl Display for Work {
     }
 }
 
-/// Who is told how far work is.
+/// Who is told how far work is, and what happens to a store meanwhile.
 pub trait Watch: Drop {
     /// Whether that is of use: what it costs to know how much there is, is spared else.
     fn is_seen(&self) -> bool;
@@ -60,6 +61,22 @@ pub trait Watch: Drop {
 
     /// A store added a segment by itself, and has so many now.
     fn added(&mut self, segments: u32);
+
+    /// A store uses so many segments, which is near the most that it may have.
+    fn filling(&mut self, segments: u32, most: u32);
+
+    /// Something happened to a store that is served.
+    fn happened(&mut self, event: &Event<'_>);
+
+    /// Whether the numbers of a store are to be told now, which are not due again before some time has
+    /// passed.
+    fn take_due(&mut self) -> bool;
+
+    /// This frame of a log is durable now, and is the last one; 0 if there is none.
+    fn durable(&mut self, frame: u64);
+
+    /// The log is closed, and this frame is its last one.
+    fn closing(&mut self, frame: u64);
 
     /// Something else is told from here on, or nothing.
     fn rest(&mut self);
@@ -77,6 +94,18 @@ impl Watch for Unseen {
     fn see(&mut self, _work: Work, _done: u64, _all: u64) {}
 
     fn added(&mut self, _segments: u32) {}
+
+    fn filling(&mut self, _segments: u32, _most: u32) {}
+
+    fn happened(&mut self, _event: &Event<'_>) {}
+
+    fn take_due(&mut self) -> bool {
+        false
+    }
+
+    fn durable(&mut self, _frame: u64) {}
+
+    fn closing(&mut self, _frame: u64) {}
 
     fn rest(&mut self) {}
 }

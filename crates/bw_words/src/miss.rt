@@ -7,6 +7,7 @@ use bw_care::RecoverCause;
 use bw_core::{StoreFault, TurnFault};
 use bw_device::{NotMade, NotTaken};
 use bw_file::FolderFault;
+use bw_follow::FollowFault;
 use bw_home::HomeFault;
 use bw_look::NotWritten;
 use bw_rescue::RescueFault;
@@ -26,6 +27,12 @@ pub enum Miss {
 impl From<Refusal> for Miss {
     fn from(refusal: Refusal) -> Miss {
         Miss::Refused(refusal)
+    }
+}
+
+impl From<Fault> for Miss {
+    fn from(fault: Fault) -> Miss {
+        Miss::Fault(fault)
     }
 }
 
@@ -118,6 +125,23 @@ impl From<RescueFault> for Miss {
             RescueFault::Recovery(cause) => Miss::from(cause),
             RescueFault::Home(fault) => Miss::from(fault),
             RescueFault::NoFrame { first, last } => Miss::Refused(Refusal::NoFrame { first, last }),
+            RescueFault::GivenUp { frame, oldest } => Miss::Ended(Stop::GivenUp { frame, oldest }),
+        }
+    }
+}
+
+impl From<FollowFault> for Miss {
+    fn from(fault: FollowFault) -> Miss {
+        match fault {
+            FollowFault::NoMemory => Miss::Refused(Refusal::NO_MEMORY),
+            FollowFault::NoLease => Miss::Refused(Refusal::NoLease),
+            FollowFault::Source(fault) => Miss::Ended(Stop::Source(fault)),
+            FollowFault::Target(fault) => Miss::Ended(Stop::Folder(fault)),
+            FollowFault::Partial(fault) => Miss::Ended(Stop::Partial(fault)),
+            FollowFault::Old(fault) => Miss::Ended(Stop::Old(fault)),
+            FollowFault::Recovery(cause) => Miss::from(cause),
+            FollowFault::NoStore(cause) => Miss::Ended(Stop::NoFollower(cause)),
+            FollowFault::Strayed { segment } => Miss::Ended(Stop::Strayed(segment)),
         }
     }
 }

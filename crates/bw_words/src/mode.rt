@@ -3,6 +3,7 @@
 use crate::script::Reading;
 use bw_home::System;
 use bw_keys::{FEW, Task, leases_of};
+use bw_watch::Hearing;
 
 /// How lines are read and answered.
 #[derive(Debug, Clone, Copy, PartialEq, Eq)]
@@ -13,6 +14,17 @@ pub enum Manner {
     Taking,
     /// Requests of a program, over a store with one writer.
     Requests,
+    /// Lines that a person typed, over a store with one writer.
+    Shell,
+    /// Lines that a person types after a prompt, over a store with one writer.
+    Prompted,
+}
+
+impl Manner {
+    /// Whether its lines are those of a person.
+    pub fn is_shell(self) -> bool {
+        matches!(self, Manner::Shell | Manner::Prompted)
+    }
 }
 
 /// How segments are shown.
@@ -22,12 +34,24 @@ pub enum View {
     Print,
     /// By how much they have of each kind.
     Stats,
+    /// By how much they have of each kind, as an object of JSON.
+    Numbers,
     /// As a picture, of segments that have room for so many bytes.
     Picture(u64),
+    /// By the frames that were noted with their times.
+    Frames,
+}
+
+/// How it is told what comes of a folder.
+#[derive(Debug, Clone, Copy, PartialEq, Eq)]
+pub enum Report {
+    Lines,
+    /// An object of JSON, on one line.
+    Json,
 }
 
 /// What the command line asks for.
-#[derive(Clone, Copy)]
+#[derive(Drop)]
 pub enum Mode<'a> {
     /// This is done with the keys of a folder.
     Keys(&'a str, Task<'a>),
@@ -39,18 +63,29 @@ pub enum Mode<'a> {
     Scan(Option<&'a str>),
     /// The segments of a folder, or lines in hex, are shown in this view.
     Look(View, Option<&'a str>),
-    /// A folder is verified.
-    Verify(&'a str),
+    /// A folder is verified; what comes of it is told as an object of JSON, or in lines.
+    Verify(&'a str, Report),
     /// A folder is copied as it is.
     Copy(Ends<'a>),
+    /// A folder follows another one, in rounds with so many seconds between them, or for one round.
+    Follow(Ends<'a>, Option<u32>),
     /// The pairs of a folder go into a new store.
     Compact(Ends<'a>, bw_home::Options),
     /// What a folder still has goes into a new store.
     Salvage(Ends<'a>),
     /// A folder as of an earlier frame, in another folder.
-    Restore(Ends<'a>, u64),
+    Restore(Ends<'a>, AsOf<'a>),
     /// Segments of format 1 are written again in format 2: those of a folder, or lines in hex.
     Upgrade(Option<&'a str>),
+}
+
+/// As of which frame a folder is restored.
+#[derive(Clone, Copy)]
+pub enum AsOf<'a> {
+    /// This one.
+    Frame(u64),
+    /// The last one that was noted at a time, which this text gives, or before it.
+    Time(&'a str),
 }
 
 /// A folder that is read, and one that is made.
@@ -75,16 +110,46 @@ impl Ends<'_> {
             None => false,
         }
     }
+
+    /// Whether both folders are one, as far as their names say.
+    pub fn are_one(&self) -> bool {
+        plain(self.to) == plain(self.from)
+    }
 }
 
 impl<'a> Mode<'a> {
+    /// The mode as it is on a terminal, where a shell has a prompt.
+    pub fn on_terminal(self) -> Mode<'a> {
+        match self {
+            Mode::Lines(options, Manner::Shell) => Mode::Lines(options, Manner::Prompted),
+            mode => mode,
+        }
+    }
+
+    /// In which manner it reads lines, if it does.
+    pub fn manner(&self) -> Option<Manner> {
+        match self {
+            Mode::Lines(_, manner) => Some(*manner),
+            _ => None,
+        }
+    }
+
+    /// What an operator is told of it.
+    pub fn hearing(&self) -> Hearing {
+        match self {
+            Mode::Lines(options, _) => options.hearing,
+            _ => Hearing::NOTHING,
+        }
+    }
+
     /// The folder of the segments.
     pub fn dir(&self) -> Option<&'a str> {
         match self {
             Mode::Lines(options, _) | Mode::Threads(options, _) => options.dir,
             Mode::Scan(dir) | Mode::Look(_, dir) | Mode::Upgrade(dir) => *dir,
-            Mode::Verify(dir) => Some(*dir),
+            Mode::Verify(dir, _) => Some(*dir),
             Mode::Copy(ends)
+            | Mode::Follow(ends, _)
             | Mode::Compact(ends, _)
             | Mode::Salvage(ends)
             | Mode::Restore(ends, _) => Some(ends.to),
@@ -96,6 +161,7 @@ impl<'a> Mode<'a> {
     pub fn source(&self) -> Option<&'a str> {
         match self {
             Mode::Copy(ends)
+            | Mode::Follow(ends, _)
             | Mode::Compact(ends, _)
             | Mode::Salvage(ends)
             | Mode::Restore(ends, _) => Some(ends.from),
@@ -149,6 +215,8 @@ pub struct Options<'a> {
     pub gives_m: bool,
     /// Whether `f` was given.
     pub gives_f: bool,
+    /// What an operator is told of it.
+    pub hearing: Hearing,
 }
 
 /// How the writers of `threads` put, and how the store is tended meanwhile.

@@ -1,12 +1,13 @@
 //! The command line, read by `clap`.
 
-use crate::mode::{Ends, LEASES, Manner, Mode, Options, Pace, View};
+use crate::mode::{AsOf, Ends, LEASES, Manner, Mode, Options, Pace, Report, View};
 use crate::people::{FORMS as OVER_KEYS, keys_in};
 use crate::script::Reading;
 use crate::table::{ABOUT, COMPACT, FORMS, Form, Kind, Row, VERSION};
 use bw_codec::limits::{MAX_PAIRS, MIN_FRAME, MIN_PAIRS};
 use bw_device::MAX_LEASES;
 use bw_look::frame_in_folder;
+use bw_watch::Hearing;
 use clap::error::ErrorKind;
 use clap::{Arg, ArgAction, ArgMatches, Command, Error};
 use std::alloc::{AllocError, Global};
@@ -20,6 +21,7 @@ fn range_of(least: i64, most: i64) -> &'static str {
         (2, 4096) => "2..4096",
         (4, 32) => "4..32",
         (1, 4096) => "1..4096",
+        (1, 86_400) => "1..86400",
         (65_536, 262_144) => "65536..262144",
         (65_560, 16_777_216) => "65560..16777216",
         (65_560, 1_073_741_824) => "65560..1073741824",
@@ -57,6 +59,7 @@ fn named<'a>(alloc: Global, row: &Row) -> Arg<'a> {
     let option = Arg::new(alloc, row.name).help(row.help);
     match row.kind {
         Kind::Word => option,
+        Kind::Words | Kind::WordsOr(_) => option.num_args(1..),
         _ => option.long(row.name),
     }
 }
@@ -67,7 +70,7 @@ fn text_of<'a>(option: Arg<'a>, kind: Kind) -> Arg<'a> {
         Kind::Folder => option.value_name("FOLDER"),
         Kind::Needed => option.value_name("FOLDER").required(true),
         Kind::Text(name) => option.value_name(name),
-        Kind::Word => option.required(true),
+        Kind::Word | Kind::Words => option.required(true),
         Kind::Choice(names, default) => option.value_parser(names).default_value(default),
         _ => option,
     }
@@ -82,12 +85,17 @@ fn option_of<'a>(alloc: Global, row: &Row, room: Room) -> Result<Arg<'a>, AllocE
             most_in(row, most, room),
         ).default_value(default)),
         Kind::Open(least, most) => Ok(with_range(option, least, most_in(row, most, room))),
-        Kind::Frame => Ok(
+        Kind::FrameOr(other) => Ok(
             option
                 .value_name("NUMBER")
                 .value_parser(clap::value_parser!(u64))
-                .required(true),
+                .required_unless_present(other)?,
         ),
+        Kind::TextAlone(name, other) => option.value_name(name).conflicts_with(other),
+        Kind::Beside(needed, other) => option
+            .action(ArgAction::SetTrue)
+            .requires_arg(needed)?
+            .conflicts_with(other),
         Kind::Large(name) => Ok(
             option
                 .value_name(name)
@@ -95,6 +103,10 @@ fn option_of<'a>(alloc: Global, row: &Row, room: Room) -> Result<Arg<'a>, AllocE
         ),
         Kind::Flag => Ok(option.action(ArgAction::SetTrue)),
         Kind::Either(other) => option.action(ArgAction::SetTrue).conflicts_with(other),
+        Kind::Alone(others) => option.action(ArgAction::SetTrue).conflicts_with_all(others),
+        Kind::WordsOr(others) => option
+            .required_unless_present_any(others)?
+            .conflicts_with_all(others),
         kind => Ok(text_of(option, kind)),
     }
 }
@@ -158,6 +170,21 @@ pub fn text_in<'a>(found: &ArgMatches<'a>, name: &str) -> Option<&'a str> {
     }
 }
 
+/// The texts that were given for this name.
+pub fn texts_in<'a>(
+    alloc: Global,
+    found: &ArgMatches<'a>,
+    name: &str,
+) -> Result<Vec<&'a str>, AllocError> {
+    let mut texts = Vec::new(alloc);
+    if let Some(words) = found.get_raw(name) {
+        for word in words {
+            texts.push(*word)?;
+        }
+    }
+    Ok(texts)
+}
+
 /// How large pages and segments are where nothing is said of them.
 #[derive(Clone, Copy)]
 struct Size {
@@ -212,6 +239,14 @@ fn store_of(found: &ArgMatches<'_>, size: Size) -> bw_home::Options {
     }
 }
 
+/// What they say of events.
+fn hearing_of(found: &ArgMatches<'_>) -> Hearing {
+    Hearing {
+        all: found.get_flag("log"),
+        every: number_in(found, "every", 0),
+    }
+}
+
 /// All that they say; up to so many segments are added if they do not say how many.
 fn found_of<'a>(found: &ArgMatches<'a>, size: Size, most: u32) -> Options<'a> {
     Options {
@@ -226,6 +261,28 @@ fn found_of<'a>(found: &ArgMatches<'a>, size: Size, most: u32) -> Options<'a> {
         most: number_in(found, "most-segments", most),
         gives_m: found.get_raw("m").is_some(),
         gives_f: found.get_raw("frame").is_some(),
+        hearing: hearing_of(found),
+    }
+}
+
+/// What the words behind `shell` say: the store is as large as one that is served.
+fn shell_of<'a>(found: &ArgMatches<'a>) -> Options<'a> {
+    let other = bw_home::Options::default();
+    Options {
+        store: bw_home::Options {
+            queue_groups: 1_024,
+            pairs_a_page: LARGE.m,
+            frame_bytes: frame_in_folder(u64::from(LARGE.capacity)),
+            capacity: u64::from(LARGE.capacity),
+            ..other
+        },
+        dir: dir_of(found),
+        reuse: false,
+        reading: Reading::Words,
+        most: MAX_LEASES,
+        gives_m: false,
+        gives_f: false,
+        hearing: Hearing::NOTHING,
     }
 }
 
@@ -258,6 +315,14 @@ fn ends_of<'a>(found: &ArgMatches<'a>) -> Ends<'a> {
     }
 }
 
+/// The frame, or the time, as of which a folder is restored.
+fn as_of<'a>(found: &ArgMatches<'a>) -> AsOf<'a> {
+    match text_in(found, "time") {
+        Some(text) => AsOf::Time(text),
+        None => AsOf::Frame(found.get_one("frame").unwrap_or(0)),
+    }
+}
+
 /// What the words behind `copy` say. The new store of `--compact` has one writer.
 fn copy_of<'a>(found: &ArgMatches<'a>) -> Mode<'a> {
     if !found.get_flag("compact") {
@@ -278,19 +343,40 @@ fn copy_of<'a>(found: &ArgMatches<'a>) -> Mode<'a> {
     )
 }
 
+/// How it is told what comes of a folder.
+fn report_of(found: &ArgMatches<'_>) -> Report {
+    match text_in(found, "format") {
+        Some("json") => Report::Json,
+        _ => Report::Lines,
+    }
+}
+
+/// What the words behind `follow` say.
+fn follow_of<'a>(found: &ArgMatches<'a>) -> Mode<'a> {
+    let every = if found.get_flag("once") {
+        None
+    } else {
+        Some(number_in(found, "every", 1))
+    };
+    Mode::Follow(ends_of(found), every)
+}
+
 /// The mode that verifies, copies or saves a folder, with what its words say.
 fn rescue_in<'a>(matches: &ArgMatches<'a>) -> Option<Mode<'a>> {
     if let Some(found) = matches.subcommand_matches("verify") {
-        return Some(Mode::Verify(dir_of(found).unwrap_or("")));
+        return Some(Mode::Verify(dir_of(found).unwrap_or(""), report_of(found)));
     }
     if let Some(found) = matches.subcommand_matches("copy") {
         return Some(copy_of(found));
+    }
+    if let Some(found) = matches.subcommand_matches("follow") {
+        return Some(follow_of(found));
     }
     if let Some(found) = matches.subcommand_matches("salvage") {
         return Some(Mode::Salvage(ends_of(found)));
     }
     match matches.subcommand_matches("restore") {
-        Some(found) => Some(Mode::Restore(ends_of(found), found.get_one("frame").unwrap_or(0))),
+        Some(found) => Some(Mode::Restore(ends_of(found), as_of(found))),
         None => None,
     }
 }
@@ -301,7 +387,12 @@ fn look_in<'a>(matches: &ArgMatches<'a>) -> Mode<'a> {
         return Mode::Look(View::Print, dir_of(found));
     }
     if let Some(found) = matches.subcommand_matches("stats") {
-        return Mode::Look(View::Stats, dir_of(found));
+        let view = match text_in(found, "format") {
+            _ if found.get_flag("frames") => View::Frames,
+            Some("json") => View::Numbers,
+            _ => View::Stats,
+        };
+        return Mode::Look(view, dir_of(found));
     }
     if let Some(found) = matches.subcommand_matches("picture") {
         let none = dir_of(found).map_or(0, |_| LARGE.capacity);
@@ -315,16 +406,24 @@ fn look_in<'a>(matches: &ArgMatches<'a>) -> Mode<'a> {
 }
 
 /// The mode that was found, with what its words say.
-fn mode_in<'a>(matches: &ArgMatches<'a>) -> Mode<'a> {
-    if let Some(mode) = keys_in(matches) {
-        return mode;
+fn mode_in<'a>(alloc: Global, matches: &ArgMatches<'a>) -> Result<Mode<'a>, AllocError> {
+    match keys_in(alloc, matches)? {
+        Some(mode) => Ok(mode),
+        None => Ok(store_in(matches)),
     }
+}
+
+/// The mode over a store, or over its segments, that was found.
+fn store_in<'a>(matches: &ArgMatches<'a>) -> Mode<'a> {
     if let Some(found) = matches.subcommand_matches("replay") {
         return Mode::Lines(found_of(found, size_of(found), 0), manner_of(found));
     }
     if let Some(found) = matches.subcommand_matches("serve") {
         let most = dir_of(found).map_or(LEASES, |_| MAX_LEASES);
         return Mode::Lines(found_of(found, LARGE, most), Manner::Requests);
+    }
+    if let Some(found) = matches.subcommand_matches("shell") {
+        return Mode::Lines(shell_of(found), Manner::Shell);
     }
     if let Some(found) = matches.subcommand_matches("threads") {
         return Mode::Threads(found_of(found, size_of(found), 0), pace_of(found));
@@ -342,7 +441,7 @@ fn mode_in<'a>(matches: &ArgMatches<'a>) -> Mode<'a> {
 /// it, is clap's error, whose text is for the user. Segments in memory have narrower ranges.
 pub fn mode_of<'a>(alloc: Global, words: &'a [&'a str]) -> Result<Mode<'a>, Error> {
     let matches = command_of(alloc, Room::Anywhere)?.try_get_matches_from(words)?;
-    let mode = mode_in(&matches);
+    let mode = mode_in(alloc, &matches)?;
     if mode.is_in_memory() {
         let _ = command_of(alloc, Room::Memory)?.try_get_matches_from(words)?;
     }

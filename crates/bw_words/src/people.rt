@@ -1,16 +1,30 @@
 //! The words of the modes over the keys of a folder, and the task that they ask for.
 
 use crate::mode::Mode;
-use crate::options::text_in;
+use crate::options::{text_in, texts_in};
 use crate::table::{CAPACITY, Form, Kind, Row};
-use bw_keys::{Import, Listed, Range, Style, Task};
+use bw_keys::{Effect, Import, Listed, Parts, Range, Style, Task};
 use bw_pairs::{Letters, Source, Spelling};
 use clap::ArgMatches;
+use std::alloc::{AllocError, Global};
 
 const KEY: Row = Row {
     name: "KEY",
     kind: Kind::Word,
     help: "1 to 128 bytes; 0x and hex digits stand for any bytes",
+};
+
+const KEY_WORDS: Row = Row {
+    kind: Kind::Words,
+    help: "one or more, of 1 to 128 bytes; 0x and hex digits stand for any bytes",
+    ..KEY
+};
+
+const KEYS_OR: Row = Row {
+    kind: Kind::WordsOr(&["prefix", "from", "to"]),
+    help: "one or more, of 1 to 128 bytes, in place of --prefix, --from and --to; 0x and hex digits \
+        stand for any bytes",
+    ..KEY
 };
 
 const VALUE: Row = Row {
@@ -37,6 +51,11 @@ const RAW: Row = Row {
     help: "writes all bytes as they are",
 };
 
+const LISTED_RAW: Row = Row {
+    kind: Kind::Alone(&["hex", "format"]),
+    ..RAW
+};
+
 const RAW_WORDS: Row = Row {
     name: "raw",
     kind: Kind::Flag,
@@ -54,6 +73,11 @@ const HEX: Row = Row {
     name: "hex",
     kind: Kind::Flag,
     help: "writes all bytes in hex [default: those that are no text]",
+};
+
+const LISTED_HEX: Row = Row {
+    kind: Kind::Either("format"),
+    ..HEX
 };
 
 const LEAST: Row = Row {
@@ -80,6 +104,12 @@ const LIMIT: Row = Row {
     help: "how many pairs at most, 0 to 2^64 - 1 [default: all]",
 };
 
+const LAST: Row = Row {
+    name: "last",
+    kind: Kind::Large("NUMBER"),
+    help: "only so many pairs with the greatest keys [default: all]",
+};
+
 const ONLY_KEYS: Row = Row {
     name: "keys",
     kind: Kind::Either("values"),
@@ -100,21 +130,47 @@ const REVERSE: Row = Row {
 
 const IN_FORMAT: Row = Row {
     name: "format",
-    kind: Kind::Choice(&["lines", "dump"], "lines"),
-    help: "a line for each pair, key, tab and value; or a dump, as mdb_dump and db_dump write it",
+    kind: Kind::Choice(&["lines", "json", "csv", "dump"], "lines"),
+    help: "a line for each pair: key, tab and value, an object of JSON, or CSV; or a dump, as mdb_dump \
+        and db_dump write it",
 };
 
 const OUT_FORMAT: Row = Row {
     name: "format",
-    kind: Kind::Choice(&["lines", "dump", "print"], "lines"),
-    help: "a line for each pair, key, tab and value; or a dump for mdb_load and db_load, in hex or \
-        with printable bytes as they are",
+    kind: Kind::Choice(&["lines", "json", "csv", "dump", "print"], "lines"),
+    help: "a line for each pair: key, tab and value, an object of JSON, or CSV; or a dump for mdb_load \
+        and db_load, in hex or with printable bytes as they are",
+};
+
+const LIST_FORMAT: Row = Row {
+    name: "format",
+    kind: Kind::Choice(&["lines", "json", "csv"], "lines"),
+    help: "a line for each pair: key, tab and value, an object of JSON, or CSV",
 };
 
 const SKIP: Row = Row {
     name: "skip",
     kind: Kind::Flag,
     help: "reads over what is no pair, and counts it [default: ends there]",
+};
+
+const DELETE: Row = Row {
+    name: "delete",
+    kind: Kind::Either("keep-old"),
+    help: "deletes the keys that are read; a line may be a key alone then",
+};
+
+const KEEP_OLD: Row = Row {
+    name: "keep-old",
+    kind: Kind::Flag,
+    help: "only adds pairs whose keys are not there yet",
+};
+
+const DRY_RUN: Row = Row {
+    name: "dry-run",
+    kind: Kind::Flag,
+    help: "says how many keys are new, how many have another value there, and how many pairs are \
+        there already, and changes nothing",
 };
 
 const MAPSIZE: Row = Row {
@@ -140,14 +196,14 @@ pub const FORMS: [Form; 7] = [
     },
     Form {
         name: "get",
-        about: "Prints the value of a key; where it has none, nothing, with exit status 1",
-        options: &[KEY, DIR, RAW, HEX],
+        about: "Prints the value of each key, a line each; where one has none, nothing, with exit status 1",
+        options: &[KEY_WORDS, DIR, RAW, HEX],
         example: "Example: bwlog get --dir store greeting",
     },
     Form {
         name: "del",
-        about: "Deletes a key, if it is there, and answers once that is durable",
-        options: &[KEY, DIR],
+        about: "Deletes keys, as far as they are there, and answers once that is durable",
+        options: &[KEYS_OR, DIR, LEAST, ABOVE, PREFIX],
         example: "Example: bwlog del --dir store greeting",
     },
     Form {
@@ -159,11 +215,13 @@ pub const FORMS: [Form; 7] = [
             ABOVE,
             PREFIX,
             LIMIT,
+            LAST,
             REVERSE,
             ONLY_KEYS,
             ONLY_VALUES,
-            RAW,
-            HEX,
+            LIST_FORMAT,
+            LISTED_RAW,
+            LISTED_HEX,
         ],
         example: "Example: bwlog list --dir store --prefix user: --limit 10",
     },
@@ -176,7 +234,9 @@ pub const FORMS: [Form; 7] = [
     Form {
         name: "import",
         about: "Puts all pairs of standard input, and answers once they are durable",
-        options: &[NEW_DIR, IN_FORMAT, RAW_LINES, SKIP, ROOM],
+        options: &[
+            NEW_DIR, IN_FORMAT, RAW_LINES, SKIP, DELETE, KEEP_OLD, DRY_RUN, ROOM,
+        ],
         example: "Example: mdb_dump other | bwlog import --dir store --format dump",
     },
     Form {
@@ -212,15 +272,27 @@ fn range_in<'a>(found: &ArgMatches<'a>) -> Range<'a> {
     }
 }
 
-/// In which style pairs are listed.
-fn parts_in(found: &ArgMatches<'_>) -> Style {
-    let spelling = spelling_in(found);
+/// What is listed of each pair.
+fn parts_in(found: &ArgMatches<'_>) -> Parts {
     if found.get_flag("keys") {
-        Style::Keys(spelling)
+        Parts::Keys
     } else if found.get_flag("values") {
-        Style::Values(spelling)
+        Parts::Values
     } else {
-        Style::Tabs(spelling)
+        Parts::Both
+    }
+}
+
+/// In which style pairs are listed.
+fn listed_style_in(found: &ArgMatches<'_>) -> Style {
+    let parts = parts_in(found);
+    let spelling = spelling_in(found);
+    match (word_in(found, "format"), parts) {
+        ("json", parts) => Style::Json(parts),
+        ("csv", parts) => Style::Csv(parts),
+        (_, Parts::Keys) => Style::Keys(spelling),
+        (_, Parts::Values) => Style::Values(spelling),
+        (_, Parts::Both) => Style::Tabs(spelling),
     }
 }
 
@@ -229,8 +301,9 @@ fn listed_in<'a>(found: &ArgMatches<'a>) -> Listed<'a> {
     Listed {
         range: range_in(found),
         limit: found.get_one("limit").unwrap_or(u64::MAX),
+        last: found.get_one("last").unwrap_or(u64::MAX),
         reverse: found.get_flag("reverse"),
-        style: parts_in(found),
+        style: listed_style_in(found),
     }
 }
 
@@ -240,6 +313,8 @@ fn style_in(found: &ArgMatches<'_>) -> Style {
     match word_in(found, "format") {
         "dump" => Style::Dump(Letters::Hex, mapsize),
         "print" => Style::Dump(Letters::Print, mapsize),
+        "json" => Style::Json(Parts::Both),
+        "csv" => Style::Csv(Parts::Both),
         _ => Style::Tabs(Spelling::Words),
     }
 }
@@ -251,7 +326,20 @@ fn source_in(found: &ArgMatches<'_>) -> Source {
     }
     match word_in(found, "format") {
         "dump" => Source::Dump,
+        "json" => Source::Json,
+        "csv" => Source::Csv,
         _ => Source::Words,
+    }
+}
+
+/// What the pairs of an import do.
+fn effect_in(found: &ArgMatches<'_>) -> Effect {
+    if found.get_flag("delete") {
+        Effect::Delete
+    } else if found.get_flag("keep-old") {
+        Effect::Add
+    } else {
+        Effect::Put
     }
 }
 
@@ -261,48 +349,66 @@ fn import_in(found: &ArgMatches<'_>) -> Import {
         source: source_in(found),
         skips: found.get_flag("skip"),
         capacity: found.get_one("capacity"),
+        effect: effect_in(found),
+        is_dry: found.get_flag("dry-run"),
     }
 }
 
 /// A task over the folder that was named.
-fn keys<'a>(found: &ArgMatches<'a>, task: Task<'a>) -> Option<Mode<'a>> {
-    Some(Mode::Keys(word_in(found, "dir"), task))
+fn keys<'a>(found: &ArgMatches<'a>, task: Task<'a>) -> Mode<'a> {
+    Mode::Keys(word_in(found, "dir"), task)
 }
 
-/// The mode that reads one key or changes it, where it was found.
-fn one_in<'a>(matches: &ArgMatches<'a>) -> Option<Mode<'a>> {
-    if let Some(found) = matches.subcommand_matches("put") {
-        return keys(
-            found,
-            Task::Put(
-                word_in(found, "KEY"),
-                word_in(found, "VALUE"),
-                found.get_flag("raw"),
-            ),
-        );
+/// What is deleted: the keys that were named, or all of a stretch.
+fn del_in<'a>(alloc: Global, found: &ArgMatches<'a>) -> Result<Task<'a>, AllocError> {
+    let words = texts_in(alloc, found, "KEY")?;
+    if words.is_empty() {
+        return Ok(Task::DelAll(range_in(found)));
     }
+    Ok(Task::Del(words))
+}
+
+/// The mode that gets or deletes keys, where it was found.
+fn some_in<'a>(alloc: Global, matches: &ArgMatches<'a>) -> Result<Option<Mode<'a>>, AllocError> {
     if let Some(found) = matches.subcommand_matches("get") {
-        return keys(found, Task::Get(word_in(found, "KEY"), spelling_in(found)));
+        let words = texts_in(alloc, found, "KEY")?;
+        return Ok(Some(keys(found, Task::Get(words, spelling_in(found)))));
     }
     match matches.subcommand_matches("del") {
-        Some(found) => keys(found, Task::Del(word_in(found, "KEY"))),
-        None => None,
+        Some(found) => Ok(Some(keys(found, del_in(alloc, found)?))),
+        None => Ok(None),
     }
+}
+
+/// What the words after `put` say.
+fn put_in<'a>(found: &ArgMatches<'a>) -> Task<'a> {
+    Task::Put(
+        word_in(found, "KEY"),
+        word_in(found, "VALUE"),
+        found.get_flag("raw"),
+    )
 }
 
 /// The mode over the keys of a folder, where one was found.
-pub fn keys_in<'a>(matches: &ArgMatches<'a>) -> Option<Mode<'a>> {
+pub fn keys_in<'a>(
+    alloc: Global,
+    matches: &ArgMatches<'a>,
+) -> Result<Option<Mode<'a>>, AllocError> {
+    if let Some(found) = matches.subcommand_matches("put") {
+        return Ok(Some(keys(found, put_in(found))));
+    }
     if let Some(found) = matches.subcommand_matches("list") {
-        return keys(found, Task::List(listed_in(found)));
+        return Ok(Some(keys(found, Task::List(listed_in(found)))));
     }
     if let Some(found) = matches.subcommand_matches("count") {
-        return keys(found, Task::Count(range_in(found)));
+        return Ok(Some(keys(found, Task::Count(range_in(found)))));
     }
     if let Some(found) = matches.subcommand_matches("import") {
-        return keys(found, Task::Import(import_in(found)));
+        return Ok(Some(keys(found, Task::Import(import_in(found)))));
     }
     if let Some(found) = matches.subcommand_matches("export") {
-        return keys(found, Task::Export(range_in(found), style_in(found)));
+        let task = Task::Export(range_in(found), style_in(found));
+        return Ok(Some(keys(found, task)));
     }
-    one_in(matches)
+    some_in(alloc, matches)
 }

@@ -40,6 +40,15 @@ impl Refusal {
         }
     }
 
+    /// Its number: 5 of `E5 NoSegment`.
+    pub fn number(&self) -> u64 {
+        let name = self.name().strip_prefix("E").unwrap_or("");
+        match name.split_once(' ') {
+            Some((digits, _)) => digits.parse().unwrap_or(0),
+            None => 0,
+        }
+    }
+
     /// Its number and name.
     fn name(&self) -> &'static str {
         match self {

@@ -1,21 +1,45 @@
 //! One line of a program that drives a store: a request, or a fault.
 
+use crate::miss::Miss;
 use crate::script::{
     Command, Fault, Reading, alone, asked_of, group_of, key_of, number_of, ops_of, single, text_of,
     value_of,
 };
-use bw_codec::{Key, Value};
+use bw_codec::{Key, Record, Value};
+use std::alloc::Global;
 use std::str;
 use std::str::SplitWhitespace;
 
 /// The most pairs that one answer has.
-const MOST_PAIRS: u32 = 1024;
+pub const MOST_PAIRS: u32 = 1024;
+
+/// The most keys that one line asks for, and the most pairs that it puts.
+const MOST_KEYS: usize = 64;
+
+/// A put that hangs on what its key has, as all that was put before leaves it.
+#[derive(Drop)]
+pub enum Condition {
+    /// The number at a key gets greater by so much. A key without a value has 0.
+    Incr(Key, i64),
+    /// A key gets the second value if it has the first.
+    Swap(Key, Value, Value),
+    /// A key gets a value if it has none.
+    Absent(Key, Value),
+    /// The value of the first key goes to the second, in one step.
+    Rename(Key, Key),
+}
 
 /// What a line asks for. There is one writer, so no request names one.
 #[derive(Drop)]
 pub enum Request {
     /// What a command of a script asks for, of the writer 0.
     Do(Command),
+    /// A put, if its key is as it says.
+    If(Condition),
+    /// The values of some keys.
+    GetMany(Vec<Key>),
+    /// Puts of some pairs, one after the other.
+    PutMany(Vec<Record>),
     /// The first pair at or above a key.
     Next(Key),
     /// The last pair at or below a key.
@@ -55,8 +79,8 @@ impl Request {
         match self {
             Request::Do(command) => !matches!(command, Command::Clean | Command::Add),
             Request::Next(_) | Request::Prev(_) | Request::Below(_) => true,
-            Request::Scan(_, _) | Request::Backup(_) => true,
-            Request::Pages | Request::Count => true,
+            Request::Scan(_, _) | Request::Backup(_) | Request::If(_) => true,
+            Request::Pages | Request::Count | Request::GetMany(_) => true,
             _ => false,
         }
     }
@@ -95,6 +119,112 @@ fn scan_of(words: &mut SplitWhitespace<'_>, reading: Reading) -> Result<Request,
     }
 }
 
+/// The number of a word or of a value: decimal digits, behind a hyphen if it is below 0.
+pub fn signed_of(text: &str) -> Result<i64, Fault> {
+    let digits = text.strip_prefix("-").unwrap_or(text);
+    if !digits.bytes().all(|byte| byte.is_ascii_digit()) {
+        return Err(Fault::BadNumber);
+    }
+    text.parse().map_err(|_| Fault::BadNumber)
+}
+
+/// The condition of a name that takes a key and one word.
+fn condition_of(name: &str, key: &str, word: &str, reading: Reading) -> Result<Condition, Fault> {
+    let key = key_of(reading, key)?;
+    match name {
+        "incr" => Ok(Condition::Incr(key, signed_of(word)?)),
+        "rename" => Ok(Condition::Rename(key, key_of(reading, word)?)),
+        _ => Ok(Condition::Absent(key, value_of(reading, word)?)),
+    }
+}
+
+/// The put that hangs on what its key has.
+fn if_of(name: &str, words: &mut SplitWhitespace<'_>, reading: Reading) -> Result<Request, Fault> {
+    let (Some(key), Some(word)) = (words.next(), words.next()) else {
+        return Err(Fault::WrongNumberOfWords);
+    };
+    if name != "cas" {
+        return match words.next() {
+            None => Ok(Request::If(condition_of(name, key, word, reading)?)),
+            Some(_) => Err(Fault::WrongNumberOfWords),
+        };
+    }
+    let new = single(words.next(), words.next())?;
+    Ok(Request::If(Condition::Swap(
+        key_of(reading, key)?,
+        value_of(reading, word)?,
+        value_of(reading, new)?,
+    )))
+}
+
+/// The words that are left, up to so many.
+fn up_to<'a>(
+    alloc: Global,
+    words: &mut SplitWhitespace<'a>,
+    most: usize,
+) -> Result<Vec<&'a str>, Miss> {
+    let mut found = Vec::new(alloc);
+    for _ in 0..most {
+        match words.next() {
+            Some(word) => found.push(word)?,
+            None => return Ok(found),
+        }
+    }
+    Ok(found)
+}
+
+/// All words that are left: one at least, and no more than so many.
+fn some_of<'a>(
+    alloc: Global,
+    words: &mut SplitWhitespace<'a>,
+    most: usize,
+) -> Result<Vec<&'a str>, Miss> {
+    let found = up_to(alloc, words, most)?;
+    if found.is_empty() || words.next().is_some() {
+        return Err(Miss::Fault(Fault::WrongNumberOfWords));
+    }
+    Ok(found)
+}
+
+/// The request of 1 to `MOST_KEYS` keys. The words are counted before any is looked at.
+fn gets_of(
+    alloc: Global,
+    words: &mut SplitWhitespace<'_>,
+    reading: Reading,
+) -> Result<Request, Miss> {
+    let words = some_of(alloc, words, MOST_KEYS)?;
+    let mut keys = Vec::new(alloc);
+    for word in words.as_slice() {
+        keys.push(key_of(reading, word)?)?;
+    }
+    Ok(Request::GetMany(keys))
+}
+
+/// A put of the pair of these words.
+fn put_of(pair: &[&str], reading: Reading) -> Result<Record, Fault> {
+    match pair {
+        [key, value] => Ok(Record::Put(key_of(reading, key)?, value_of(reading, value)?)),
+        _ => Err(Fault::WrongNumberOfWords),
+    }
+}
+
+/// The request of 1 to `MOST_KEYS` pairs. The words are counted before any is looked at.
+fn puts_of(
+    alloc: Global,
+    words: &mut SplitWhitespace<'_>,
+    reading: Reading,
+) -> Result<Request, Miss> {
+    let words = some_of(alloc, words, 2 * MOST_KEYS)?;
+    if words.len() % 2 != 0 {
+        return Err(Miss::Fault(Fault::WrongNumberOfWords));
+    }
+    let mut puts = Vec::new(alloc);
+    for pair in words.as_slice().chunks(2) {
+        puts.push(put_of(pair, reading)?)?;
+    }
+    Ok(Request::PutMany(puts))
+}
+
 /// The request of a name that takes no word.
 fn plain_of(name: &str) -> Option<Request> {
     match name {
@@ -112,20 +242,34 @@ fn plain_of(name: &str) -> Option<Request> {
     }
 }
 
-/// What a line asks for. A line that a script would skip is no command here, since each line has an
-/// answer.
-pub fn parse_request(line: &[u8], reading: Reading) -> Result<Request, Fault> {
-    let mut words = text_of(line)?.unwrap_or("").split_whitespace();
-    let name = words.next().unwrap_or("");
+/// What the words of a line ask for.
+fn request_in(
+    name: &str,
+    words: &mut SplitWhitespace<'_>,
+    reading: Reading,
+) -> Result<Request, Fault> {
     match name {
         "put" | "del" | "group" => {
-            let group = group_of(reading, ops_of(name, &mut words)?)?;
+            let group = group_of(reading, ops_of(name, words)?)?;
             Ok(Request::Do(Command::Put(0, group)))
         }
         "get" | "next" | "prev" | "below" | "page" | "evict" | "rewrite" | "walk" | "backup" => {
             request_of(name, single(words.next(), words.next())?, reading)
         }
-        "scan" => scan_of(&mut words, reading),
+        "scan" => scan_of(words, reading),
+        "incr" | "cas" | "setnx" | "rename" => if_of(name, words, reading),
         _ => alone(plain_of(name), words.next()),
+    }
+}
+
+/// What a line asks for. A line that a script would skip is no command here, since each line has an
+/// answer. What is no request is a fault; a refused growth is refused.
+pub fn parse_request(alloc: Global, line: &[u8], reading: Reading) -> Result<Request, Miss> {
+    let mut words = text_of(line)?.unwrap_or("").split_whitespace();
+    let name = words.next().unwrap_or("");
+    match name {
+        "gets" => gets_of(alloc, &mut words, reading),
+        "puts" => puts_of(alloc, &mut words, reading),
+        _ => Ok(request_in(name, &mut words, reading)?),
     }
 }

@@ -7,7 +7,8 @@ use crate::script::Fault;
 use bw_care::RecoverCause;
 use bw_core::StoreFault;
 use bw_file::FolderFault;
-use bw_look::NotWritten;
+use bw_look::{NotWritten, Printer};
+use bw_times::{Moment, Note};
 use std::alloc::{AllocError, AllocFailed};
 use std::io::{self, ErrorKind, Write};
 
@@ -30,12 +31,36 @@ pub enum Stop {
     Source(FolderFault),
     /// The folder in which the new one is made, whose name ends in `.partial`, was not made.
     Partial(FolderFault),
+    /// The folder that a new one takes the place of, whose name ends in `.old` then, was not moved.
+    Old(FolderFault),
     /// What stands in that one is not what was read.
     Unlike,
+    /// The folder that follows holds this segment otherwise than the one that it follows.
+    Strayed(u64),
+    /// The folder that follows holds no store, for this cause.
+    NoFollower(RecoverCause),
     /// The folder that is looked at has the file of no segment.
     NoStore,
     /// The folder that would be made lies in the one that is read.
     Within,
+    /// What was given as a time is none.
+    BadTime,
+    /// No frame of the folder that is read was noted at this moment or before it. The first one that
+    /// was is this, if there is one.
+    NotNoted(Moment, Option<Note>),
+    /// The folder that is read has not all that it was at this frame: a segment was given up since. The
+    /// other one is the oldest frame that can be restored.
+    GivenUp { frame: u64, oldest: u64 },
+}
+
+impl Stop {
+    /// A fault of the folder that is read, where another one is written.
+    pub fn of_source(fault: FolderFault) -> Stop {
+        match fault {
+            FolderFault::NoMemory => Stop::NoMemory,
+            other => Stop::Source(other),
+        }
+    }
 }
 
 impl From<AllocError> for Stop {
@@ -111,6 +136,17 @@ pub fn no_input(error: io::Error) -> Stop {
     }
 }
 
+/// What is met by a refusal.
+fn met_by(refusal: Refusal) -> Met {
+    Met {
+        refusal: true,
+        full: matches!(refusal, Refusal::Store(StoreFault::NoSegment)),
+        far: matches!(refusal, Refusal::NoLease),
+        bare: false,
+        cause: refusal.cause(),
+    }
+}
+
 /// Prints a refusal, and says what was met. What was asked of the program may go on behind it, but not
 /// behind a refused growth.
 pub fn refuse<O: Write>(output: &mut O, refusal: Refusal) -> Result<Met, Stop> {
@@ -118,13 +154,19 @@ pub fn refuse<O: Write>(output: &mut O, refusal: Refusal) -> Result<Met, Stop> {
         return Err(Stop::NoMemory);
     }
     print(output, "", refusal)?;
-    Ok(Met {
-        refusal: true,
-        full: matches!(refusal, Refusal::Store(StoreFault::NoSegment)),
-        far: matches!(refusal, Refusal::NoLease),
-        bare: false,
-        cause: refusal.cause(),
-    })
+    Ok(met_by(refusal))
+}
+
+/// Prints a refusal of one of several puts, and how many of them went in before; as `refuse`.
+pub fn refuse_after<O: Write>(output: &mut O, refusal: Refusal, count: u64) -> Result<Met, Stop> {
+    if refusal.is_no_memory() {
+        return Err(Stop::NoMemory);
+    }
+    let mut out = Printer::new(output);
+    out.named("", refusal);
+    out.line(" after ", count);
+    out.end()?;
+    Ok(met_by(refusal))
 }
 
 /// What comes of a line that has no answer.

@@ -22,20 +22,30 @@ pub enum Kind {
     Folder,
     /// A folder that has to be given.
     Needed,
-    /// The number of a frame, which has to be given.
-    Frame,
+    /// The number of a frame, which has to be given if this option is not.
+    FrameOr(&'static str),
     /// A number of 64 bits, by the name of its value.
     Large(&'static str),
     /// Any text, by the name of its value.
     Text(&'static str),
+    /// Any text, by the name of its value, and another option may not be given then.
+    TextAlone(&'static str, &'static str),
     /// Any text, which has to be given, without the name of an option before it.
     Word,
+    /// One such text, or more.
+    Words,
+    /// One text of these or more, if none of these options is given; and none if one is.
+    WordsOr(&'static [&'static str]),
     /// One of these texts, and which where none is given.
     Choice(&'static [&'static str], &'static str),
     /// Nothing.
     Flag,
-    /// Nothing, and another flag may not be given then.
+    /// Nothing, and another option may not be given then.
     Either(&'static str),
+    /// Nothing, beside an option that has to be given then, and another one that may not.
+    Beside(&'static str, &'static str),
+    /// Nothing, and none of these options may be given then.
+    Alone(&'static [&'static str]),
 }
 
 /// An option: its name, what it takes, and the help.
@@ -112,6 +122,12 @@ const STORE_DIR: Row = Row {
         refused E13 then tells a lease",
 };
 
+const SHELL_DIR: Row = Row {
+    name: "dir",
+    kind: Kind::Needed,
+    help: "the folder of the store, which is made where it is missing",
+};
+
 const SCAN_DIR: Row = Row {
     name: "dir",
     kind: Kind::Folder,
@@ -123,6 +139,12 @@ const LOOK_DIR: Row = Row {
     name: "dir",
     kind: Kind::Folder,
     help: "a folder whose segments are looked at, in place of lines",
+};
+
+const STATS_FORMAT: Row = Row {
+    name: "format",
+    kind: Kind::Choice(&["lines", "json"], "lines"),
+    help: "lines of names and numbers, or one object of JSON",
 };
 
 const UPGRADE_DIR: Row = Row {
@@ -141,6 +163,19 @@ const RAW: Row = Row {
     name: "raw",
     kind: Kind::Flag,
     help: "takes the words of a line as their own bytes, also where they begin with 0x",
+};
+
+const LOG: Row = Row {
+    name: "log",
+    kind: Kind::Flag,
+    help: "writes a line for each event on standard error, with its time and its numbers",
+};
+
+const EVERY: Row = Row {
+    name: "every",
+    kind: Kind::Open(1, 86_400),
+    help: "writes the numbers of the store on standard error as such a line, behind the first request \
+        that comes so many seconds after the last one [default: never]",
 };
 
 const REUSE: Row = Row {
@@ -180,6 +215,30 @@ const VERIFY_DIR: Row = Row {
     help: "the folder that is verified, which is not changed",
 };
 
+/// The formats of `stats` and of `verify` have one name.
+const VERIFY_FORMAT: Row = Row {
+    help: "lines, or one object of JSON, of a damaged folder too",
+    ..STATS_FORMAT
+};
+
+const FOLLOWER: Row = Row {
+    name: "to",
+    kind: Kind::Needed,
+    help: "the folder that follows: a new one, or one that an earlier run of this made",
+};
+
+const ONCE: Row = Row {
+    name: "once",
+    kind: Kind::Either("every"),
+    help: "ends after one round",
+};
+
+const ROUNDS: Row = Row {
+    name: "every",
+    kind: Kind::Open(1, 86400),
+    help: "how many seconds stand between two rounds [default: 1]",
+};
+
 pub const COMPACT: Row = Row {
     name: "compact",
     kind: Kind::Flag,
@@ -188,8 +247,21 @@ pub const COMPACT: Row = Row {
 
 const AS_OF: Row = Row {
     name: "frame",
-    kind: Kind::Frame,
+    kind: Kind::FrameOr("time"),
     help: "the number of the last frame that the new folder has",
+};
+
+const AS_OF_TIME: Row = Row {
+    name: "time",
+    kind: Kind::TextAlone("TIME", "frame"),
+    help: "that frame is the last one that was noted at this time or before, as \
+        2026-11-29T18:20:27Z, or in seconds since 1970",
+};
+
+const NOTED: Row = Row {
+    name: "frames",
+    kind: Kind::Beside("dir", "format"),
+    help: "lists the frames of the folder that were noted, each with the time at which it was the last",
 };
 
 const LIMIT: Row = Row {
@@ -235,7 +307,7 @@ const REPLAY: [Row; 11] = [
 ];
 
 /// The store of a program, which is one writer.
-const SERVE: [Row; 8] = [
+const SERVE: [Row; 10] = [
     Row {
         kind: Kind::Number(1, 4096, "1024"),
         ..PLACES
@@ -255,9 +327,11 @@ const SERVE: [Row; 8] = [
     STORE_DIR,
     RAW,
     MOST_SEGMENTS,
+    LOG,
+    EVERY,
 ];
 
-const RESTORE: [Row; 3] = [FROM, TO, AS_OF];
+const RESTORE: [Row; 4] = [FROM, TO, AS_OF, AS_OF_TIME];
 
 /// The limits of a store that is written anew.
 const COPY: [Row; 7] = [
@@ -324,7 +398,7 @@ pub struct Form {
 }
 
 /// All of them.
-pub const FORMS: [Form; 12] = [
+pub const FORMS: [Form; 14] = [
     Form {
         name: "replay",
         about: "Runs a script from standard input",
@@ -336,6 +410,12 @@ pub const FORMS: [Form; 12] = [
         about: "Answers each line of standard input, a request, by one line: for other programs",
         options: &SERVE,
         example: "Example: printf 'put k v\\nflush\\nget k\\n' | bwlog serve --dir store",
+    },
+    Form {
+        name: "shell",
+        about: "Answers each line of standard input, as a person types it: help lists the commands",
+        options: &[SHELL_DIR],
+        example: "Example: bwlog shell --dir store",
     },
     Form {
         name: "threads",
@@ -358,7 +438,7 @@ pub const FORMS: [Form; 12] = [
     Form {
         name: "stats",
         about: "Counts what segments hold, and how much of each is still needed",
-        options: &[LOOK_DIR],
+        options: &[LOOK_DIR, STATS_FORMAT, NOTED],
         example: "Example: bwlog stats --dir store",
     },
     Form {
@@ -370,7 +450,7 @@ pub const FORMS: [Form; 12] = [
     Form {
         name: "verify",
         about: "Verifies a folder: its digests, and then what recovery says of it",
-        options: &[VERIFY_DIR],
+        options: &[VERIFY_DIR, VERIFY_FORMAT],
         example: "Example: bwlog verify --dir store",
     },
     Form {
@@ -378,6 +458,12 @@ pub const FORMS: [Form; 12] = [
         about: "Copies a folder, as it is or written anew",
         options: &COPY,
         example: "Example: bwlog copy --dir store --to copy --compact",
+    },
+    Form {
+        name: "follow",
+        about: "Keeps a folder up to date with another one, until it is stopped",
+        options: &[FROM, FOLLOWER, ROUNDS, ONCE],
+        example: "Example: bwlog follow --dir store --to second --every 5",
     },
     Form {
         name: "salvage",

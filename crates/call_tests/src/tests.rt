@@ -3,11 +3,12 @@
 
 ghost use Rattle.bw_home.specs.Ready.{IsReady};
 
-use bw_calls::{TableFault, delete, get, open, put};
-use bw_codec::Value;
+use bw_calls::{
+    TableFault, create, delete, drop_table, first, get, keep, next_above, next_at, open, put,
+};
 use bw_home::{Home, Legs, Options, System, with_store_in_legs};
-use bw_rows::{Name, Number, RowKey, TableNumber, chunk_key};
-use bw_tables::{create_step, first_group};
+use bw_rows::{Name, Number, RowKey, TableNumber, chunk_key, row_key};
+use bw_tables::{drop_step, first_group};
 use std::alloc::Global;
 use std::fs;
 use std::test::Fail;
@@ -15,8 +16,18 @@ use std::test::Fail;
 /// One call, with what it has to answer.
 #[derive(Drop)]
 enum Step {
-    /// A table of this name is made, with this number.
-    Make(&'static [u8], u8),
+    /// A table of this name is made.
+    Create(&'static [u8]),
+    /// None is made, for this reason.
+    NotMade(&'static [u8], TableFault),
+    /// A table goes away.
+    Drop(&'static [u8]),
+    /// None does, for this reason.
+    NotDropped(&'static [u8], TableFault),
+    /// The first group of a drop is written alone, as a drop leaves it that is stopped there.
+    Unname(&'static [u8], u8),
+    /// Whether a table's number has a row of this key.
+    Row(u8, &'static [u8], bool),
     /// The value of a key is this byte so many times.
     Put(&'static [u8], &'static [u8], u8, usize),
     /// It is found so.
@@ -24,6 +35,18 @@ enum Step {
     /// A put that is refused for this reason.
     Refused(&'static [u8], &'static [u8], usize, TableFault),
     Delete(&'static [u8], &'static [u8]),
+    /// The first key of a table.
+    First(&'static [u8], &'static [u8]),
+    /// It has no key.
+    Empty(&'static [u8]),
+    /// The first key of a table at or above one.
+    At(&'static [u8], &'static [u8], &'static [u8]),
+    /// There is none.
+    NoneAt(&'static [u8], &'static [u8]),
+    /// The first key of a table above one.
+    Above(&'static [u8], &'static [u8], &'static [u8]),
+    /// There is none.
+    NoneAbove(&'static [u8], &'static [u8]),
     /// A key has no value.
     Absent(&'static [u8], &'static [u8]),
     /// The first chunks of a value go in under this number, as a put leaves them that is stopped.
@@ -34,7 +57,10 @@ enum Step {
     Keep,
 }
 
-use Step::{Absent, Chunk, Delete, Get, Keep, Leave, Make, Open, Put, Refused};
+use Step::{
+    Above, Absent, At, Chunk, Create, Delete, Drop, Empty, First, Get, Keep, Leave, NoneAbove,
+    NoneAt, NotDropped, NotMade, Open, Put, Refused, Row, Unname,
+};
 
 // A byte so many times.
 fn bytes_of(alloc: Global, byte: u8, len: usize) -> Result<Vec<u8>, Fail> {
@@ -88,14 +114,81 @@ fn deleted(home: &mut Home, name: &[u8], key: &[u8]) -> Result<bool, Fail>
     Ok(delete(home, &name, &key) == Ok(()))
 }
 
-fn made(home: &mut Home, name: &[u8], number: u8) -> Result<bool, Fail>
+fn created(home: &mut Home, name: &[u8]) -> Result<Result<(), TableFault>, Fail>
     requires { IsReady home.old holding }
     ensures { IsReady home.new holding }
 {
     let name = Name::new(name)?;
-    let mark = Value::new(&[0, number.saturating_add(1)])?;
+    Ok(create(home, &name))
+}
+
+fn dropped(home: &mut Home, name: &[u8]) -> Result<Result<(), TableFault>, Fail>
+    requires { IsReady home.old holding }
+    ensures { IsReady home.new holding }
+{
+    let name = Name::new(name)?;
+    Ok(drop_table(home, &name))
+}
+
+fn unnamed(home: &mut Home, name: &[u8], number: u8) -> Result<bool, Fail>
+    requires { IsReady home.old holding }
+    ensures { IsReady home.new holding }
+{
+    let name = Name::new(name)?;
     let table = TableNumber { bytes: [0, number] };
-    Ok(home.change(create_step(&name, table, mark)) == Ok(()))
+    Ok(home.change(drop_step(&name, table)) == Ok(()))
+}
+
+fn has_row(home: &mut Home, number: u8, key: &[u8]) -> Result<bool, Fail>
+    requires { IsReady home.old holding }
+    ensures { IsReady home.new holding }
+{
+    let key = RowKey::new(key)?;
+    let table = TableNumber { bytes: [0, number] };
+    let row = home.get(&row_key(table, &key))?;
+    Ok(row.is_some())
+}
+
+// The key of a pair.
+fn key_in(pair: Option<(RowKey, Vec<u8>)>) -> Option<RowKey> {
+    let (key, _) = pair?;
+    Some(key)
+}
+
+fn is_key(found: Option<RowKey>, wanted: &[u8]) -> bool {
+    match found {
+        Some(found) => found.as_slice() == wanted,
+        None => false,
+    }
+}
+
+fn first_of(home: &mut Home, name: &[u8]) -> Result<Option<RowKey>, Fail>
+    requires { IsReady home.old holding }
+    ensures { IsReady home.new holding }
+{
+    let name = Name::new(name)?;
+    let pair = first(home, &name)?;
+    Ok(key_in(pair))
+}
+
+fn found_at(home: &mut Home, name: &[u8], key: &[u8]) -> Result<Option<RowKey>, Fail>
+    requires { IsReady home.old holding }
+    ensures { IsReady home.new holding }
+{
+    let name = Name::new(name)?;
+    let key = RowKey::new(key)?;
+    let pair = next_at(home, &name, &key)?;
+    Ok(key_in(pair))
+}
+
+fn found_above(home: &mut Home, name: &[u8], key: &[u8]) -> Result<Option<RowKey>, Fail>
+    requires { IsReady home.old holding }
+    ensures { IsReady home.new holding }
+{
+    let name = Name::new(name)?;
+    let key = RowKey::new(key)?;
+    let pair = next_above(home, &name, &key)?;
+    Ok(key_in(pair))
 }
 
 // The first two chunks of a value that has them.
@@ -123,7 +216,12 @@ fn goes(alloc: Global, home: &mut Home, step: &Step) -> Result<bool, Fail>
     ensures { IsReady home.new holding }
 {
     match step {
-        Make(name, number) => made(home, *name, *number),
+        Create(name) => Ok(created(home, *name)? == Ok(())),
+        NotMade(name, fault) => Ok(created(home, *name)? == Err(*fault)),
+        Drop(name) => Ok(dropped(home, *name)? == Ok(())),
+        NotDropped(name, fault) => Ok(dropped(home, *name)? == Err(*fault)),
+        Unname(name, number) => unnamed(home, *name, *number),
+        Row(number, key, there) => Ok(has_row(home, *number, *key)? == *there),
         Put(name, key, byte, len) => {
             let value = bytes_of(alloc, *byte, *len)?;
             Ok(wrote(home, *name, *key, value.as_slice())? == Ok(()))
@@ -137,6 +235,12 @@ fn goes(alloc: Global, home: &mut Home, step: &Step) -> Result<bool, Fail>
             Ok(wrote(home, *name, *key, value.as_slice())? == Err(*fault))
         }
         Delete(name, key) => deleted(home, *name, *key),
+        First(name, key) => Ok(is_key(first_of(home, *name)?, *key)),
+        Empty(name) => Ok(first_of(home, *name)?.is_none()),
+        At(name, from, key) => Ok(is_key(found_at(home, *name, *from)?, *key)),
+        NoneAt(name, from) => Ok(found_at(home, *name, *from)?.is_none()),
+        Above(name, from, key) => Ok(is_key(found_above(home, *name, *from)?, *key)),
+        NoneAbove(name, from) => Ok(found_above(home, *name, *from)?.is_none()),
         Absent(name, key) => Ok(read(home, *name, *key)?.is_none()),
         Leave(number) => {
             let value = bytes_of(alloc, b'x', 3_000)?;
@@ -144,7 +248,7 @@ fn goes(alloc: Global, home: &mut Home, step: &Step) -> Result<bool, Fail>
         }
         Chunk(number, there) => Ok(has_chunk(home, *number)? == *there),
         Open => Ok(open(home) == Ok(())),
-        Keep => Ok(home.keep().is_ok()),
+        Keep => Ok(keep(home) == Ok(())),
     }
 }
 
@@ -178,6 +282,7 @@ impl<R: System> Legs<R> for Walks {
 fn wrong_in<R: System>(
     rt: &R,
     path: &str,
+    options: &Options,
     lives: &[&'static [Step]],
 ) -> Result<Option<(usize, usize)>, Fail> {
     for (life, steps) in lives.iter().enumerate() {
@@ -185,7 +290,7 @@ fn wrong_in<R: System>(
             steps: *steps,
             at: 0,
         };
-        let went = with_store_in_legs(rt, path, &Options::default(), &mut walks)??;
+        let went = with_store_in_legs(rt, path, options, &mut walks)??;
         if went != steps.len() {
             return Ok(Some((life, went)));
         }
@@ -195,10 +300,11 @@ fn wrong_in<R: System>(
 }
 
 // A value stands in its row up to 511 bytes, and in chunks of 512 from there on.
-const LENGTHS: [Step; 19] = [
+const LENGTHS: [Step; 20] = [
     Absent(b"t", b"k"),
     Refused(b"t", b"k", 3, TableFault::NoTable),
-    Make(b"t", 1),
+    Create(b"t"),
+    NotMade(b"t", TableFault::Exists),
     Put(b"t", b"k", b'a', 0),
     Get(b"t", b"k", b'a', 0),
     Put(b"t", b"k", b'b', 511),
@@ -227,14 +333,19 @@ const FOUND_AGAIN: [Step; 4] = [
 
 #[test]
 fn values_of_each_length_come_and_go(rt: HostRuntime) -> Result<(), Fail> {
-    let wrong = wrong_in(&rt, "call_tests_lengths", &[&LENGTHS, &FOUND_AGAIN])?;
+    let wrong = wrong_in(
+        &rt,
+        "call_tests_lengths",
+        &Options::default(),
+        &[&LENGTHS, &FOUND_AGAIN],
+    )?;
     assert_eq!(&rt; wrong, None);
     Ok(())
 }
 
 // A put was stopped before its step, and the number is taken again.
 const LEFT: [Step; 6] = [
-    Make(b"t", 1),
+    Create(b"t"),
     Put(b"t", b"k", b'a', 600),
     Leave(9),
     Chunk(0, true),
@@ -253,7 +364,120 @@ const COLLECTED: [Step; 6] = [
 
 #[test]
 fn an_opening_collects_what_was_left(rt: HostRuntime) -> Result<(), Fail> {
-    let wrong = wrong_in(&rt, "call_tests_left", &[&LEFT, &COLLECTED])?;
+    let wrong = wrong_in(
+        &rt,
+        "call_tests_left",
+        &Options::default(),
+        &[&LEFT, &COLLECTED],
+    )?;
+    assert_eq!(&rt; wrong, None);
+    Ok(())
+}
+
+// Tables come and go, and each has its own keys. The numbers are taken from the least one on.
+const TABLES: [Step; 18] = [
+    Create(b"a"),
+    Create(b"ab"),
+    Create(b"b"),
+    Put(b"a", b"k", b'1', 1),
+    Put(b"ab", b"k", b'2', 600),
+    Put(b"b", b"k", b'3', 600),
+    Drop(b"ab"),
+    NotDropped(b"ab", TableFault::NoTable),
+    Absent(b"ab", b"k"),
+    Row(1, b"k", false),
+    Chunk(0, false),
+    Get(b"a", b"k", b'1', 1),
+    Get(b"b", b"k", b'3', 600),
+    Create(b"ab"),
+    Absent(b"ab", b"k"),
+    Put(b"ab", b"k", b'4', 2),
+    Unname(b"b", 2),
+    Keep,
+];
+
+// The drop that was stopped is finished: its row goes away, and the chunks that this named.
+const DROPPED: [Step; 7] = [
+    Row(2, b"k", true),
+    Chunk(1, true),
+    Open,
+    Row(2, b"k", false),
+    Chunk(1, false),
+    Get(b"a", b"k", b'1', 1),
+    Get(b"ab", b"k", b'4', 2),
+];
+
+#[test]
+fn tables_come_and_go(rt: HostRuntime) -> Result<(), Fail> {
+    let wrong = wrong_in(
+        &rt,
+        "call_tests_tables",
+        &Options::default(),
+        &[&TABLES, &DROPPED],
+    )?;
+    assert_eq!(&rt; wrong, None);
+    Ok(())
+}
+
+// The longest name, the longest key and the longest value.
+const LONGEST_NAME: &'static [u8] = &[255; 127];
+
+const LONGEST_KEY: &'static [u8] = &[255; 124];
+
+const LONGEST: [Step; 4] = [
+    Create(LONGEST_NAME),
+    Put(LONGEST_NAME, LONGEST_KEY, b'z', 16_777_216),
+    Get(LONGEST_NAME, LONGEST_KEY, b'z', 16_777_216),
+    Keep,
+];
+
+const LONGEST_FOUND: [Step; 2] = [Open, Get(LONGEST_NAME, LONGEST_KEY, b'z', 16_777_216)];
+
+#[test]
+fn the_longest_words_are_taken(rt: HostRuntime) -> Result<(), Fail> {
+    let options = Options {
+        segments: 12,
+        ..Options::default()
+    };
+    let wrong = wrong_in(
+        &rt,
+        "call_tests_longest",
+        &options,
+        &[&LONGEST, &LONGEST_FOUND],
+    )?;
+    assert_eq!(&rt; wrong, None);
+    Ok(())
+}
+
+// A walk goes over the keys of its table in their order, a beginning before its continuation, and
+// over no row of another table and no chunk.
+const WALKED: [Step; 21] = [
+    Create(b"a"),
+    Create(b"b"),
+    Create(b"c"),
+    Empty(b"b"),
+    Put(b"a", b"z", b'1', 1),
+    Put(b"c", b"a", b'1', 600),
+    Empty(b"b"),
+    Put(b"b", b"k", b'1', 1),
+    Put(b"b", b"k\0", b'2', 700),
+    Put(b"b", b"ka", b'3', 1),
+    Put(b"b", b"j", b'4', 1),
+    First(b"b", b"j"),
+    Above(b"b", b"j", b"k"),
+    Above(b"b", b"k", b"k\0"),
+    Above(b"b", b"k\0", b"ka"),
+    NoneAbove(b"b", b"ka"),
+    At(b"b", b"k", b"k"),
+    At(b"b", b"k\0\0", b"ka"),
+    NoneAt(b"b", b"kb"),
+    Empty(b"d"),
+    NoneAt(b"d", b"k"),
+];
+
+#[test]
+fn a_walk_goes_over_one_table(rt: HostRuntime) -> Result<(), Fail> {
+    let wrong = wrong_in(&rt, "call_tests_walked", &Options::default(), &[&WALKED])?;
     assert_eq!(&rt; wrong, None);
     Ok(())
 }

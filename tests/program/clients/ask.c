@@ -10,7 +10,7 @@
 #include <sys/time.h>
 #include <unistd.h>
 
-enum { MOST = 20000, WORDS = 64, NAMED = 400, THREADS = 4 };
+enum { MOST = 20000, WORDS = 512, NAMED = 400, THREADS = 4 };
 
 static const char *program, *the_folder;
 static char folder_room[4096];

@@ -1,4 +1,6 @@
 use Rattle.bw_calls.proofs.PlainLaws.{itself, moved, behind, doomed_by}
+use Rattle.bw_calls.proofs.LeaveLaws.{in_moved}
+use Rattle.bw_calls.proofs.NameLaws.{named_moved, named_then}
 use Rattle.bw_calls.proofs.collecting.collect.Goals as goal
 
 pub returns-in_err-get-clause-stays : goal.returns-in_err-get-clause-stays
@@ -12,3 +14,24 @@ returns-in-Some-clause-stays g c = λ lawful.
 
 pub returns-in-None-clause-stays : goal.returns-in-None-clause-stays
 returns-in-None-clause-stays g c = λ lawful. moved _ _ _ (itself _ lawful) c.get.ensures.same
+
+pub returns-in_err-get-clause-leaves : goal.returns-in_err-get-clause-leaves
+returns-in_err-get-clause-leaves g c = λ lawful ts among stops. c.get.ensures.leaves ts stops
+
+pub returns-in-Some-clause-leaves : goal.returns-in-Some-clause-leaves
+returns-in-Some-clause-leaves g c = λ lawful ts among stops.
+    let h = moved _ _ _ (itself _ lawful) c.get.ensures.same in
+    let doomed = doomed_by _ _ c.args.number.bytes c.doomed_key.result c.in-Some.field-0 c.in_ok-get.field-0 c.in-Some.is c.in_ok-get.ensures.value c.doomed_key.ensures c.get.ensures.same in
+    c.collect_doomed.ensures.leaves h.lawful doomed ts (in_moved ts _ _ c.get.ensures.same among) (c.get.ensures.leaves ts stops)
+
+pub returns-in-None-clause-leaves : goal.returns-in-None-clause-leaves
+returns-in-None-clause-leaves g c = λ lawful ts among stops. c.get.ensures.leaves ts stops
+
+pub returns-in_err-get-clause-names : goal.returns-in_err-get-clause-names
+returns-in_err-get-clause-names g c = named_moved _ _ c.get.ensures.same
+
+pub returns-in-Some-clause-names : goal.returns-in-Some-clause-names
+returns-in-Some-clause-names g c = named_then _ _ _ (named_moved _ _ c.get.ensures.same) c.collect_doomed.ensures.names
+
+pub returns-in-None-clause-names : goal.returns-in-None-clause-names
+returns-in-None-clause-names g c = named_moved _ _ c.get.ensures.same

@@ -1,5 +1,6 @@
 use Rattle.std.proofs.Common.{◌≡◌, length, sym, ◌∙◌, arith}
 use Rattle.bw_home.proofs.Maps.{now_put, same_count, same_map}
+use Rattle.bw_calls.proofs.LeaveLaws.{reads_by}
 use Rattle.bw_calls.proofs.ways.take.Goals as goal
 
 pub returns-in-Ok-clause-same : goal.returns-in-Ok-clause-same
@@ -15,3 +16,9 @@ returns-in-Ok-clause-taken g c =
     let one : length c.args.home.now.feeds.items ≡ 1 = omega arith in
     let rings = c.take_all.ensures.ready.feeds ∙ c.take_all.ensures.sequel.follows.continues.rings ∙ sym c.requires.feeds in
     now_put c.take_all.new.self.store.origin.start.value.leaves _ _ (same_count _ _ rings one) c.in-Ok.ensures.exactly c.in-Ok.ensures.writers
+
+pub returns-in-Ok-clause-leaves : goal.returns-in-Ok-clause-leaves
+returns-in-Ok-clause-leaves g c = reads_by _ _ _ c.take_all.ensures.stays
+
+pub returns-in-Err-clause-leaves : goal.returns-in-Err-clause-leaves
+returns-in-Err-clause-leaves g c = reads_by _ _ _ c.take_all.ensures.stays

@@ -14,3 +14,8 @@ pub returns-clause-stays : goal.returns-clause-stays
 returns-clause-stays g c = λ tables h.
     gone_on_in_vain tables _ _ c.args.number.bytes c.args.value.now c.args.from c.args.to c.chunk_group.result c.prepare.result c.chunk_group.ensures.goes_on h
     c.prepare.ensures.changed c.prepare.ensures.refused
+
+pub returns-clause-leaves : goal.returns-clause-leaves
+returns-clause-leaves g c = λ tables h ts among stops.
+    let written = c.chunk_group.ensures.goes_on tables _ h in
+    c.prepare.ensures.leaves ts (tables, among, written.stays) stops

@@ -19,6 +19,7 @@ groups-preserved g c =
         },
         c.end_of-end.ensures.2,
       ),
+      λ tables h ts among stops. c.add.ensures.leaves tables (so_far.writing tables h) ts among (c.groups.invariant.2 tables h ts among stops),
     )
 
 pub returns-clause-goes_on : goal.returns-clause-goes_on
@@ -27,3 +28,10 @@ returns-clause-goes_on g c = λ tables h.
     let not_below = c.groups-test.false in
     let e : c.groups.at ≡ c.args.to = omega arith in
     subst (IsWriting tables (plain_in c.groups.home (λ z. (goal.Segment-dyn g z).holding z.1)) c.args.number.bytes c.args.value.now) e (c.groups.invariant.1.0.writing tables h)
+
+pub returns-in_err-add-clause-leaves : goal.returns-in_err-add-clause-leaves
+returns-in_err-add-clause-leaves g c = λ tables h ts among stops.
+    c.add.ensures.leaves tables (c.groups.invariant.1.0.writing tables h) ts among (c.groups.invariant.2 tables h ts among stops)
+
+pub returns-clause-leaves : goal.returns-clause-leaves
+returns-clause-leaves g c = c.groups.invariant.2

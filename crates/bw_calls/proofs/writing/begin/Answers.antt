@@ -1,4 +1,4 @@
-use Rattle.bw_calls.proofs.PlainLaws.{begun, begun_in_vain, begun_same}
+use Rattle.bw_calls.proofs.PlainLaws.{begun, begun_in_vain, begun_same, itself}
 use Rattle.bw_calls.proofs.writing.begin.Goals as goal
 
 pub returns-clause-begins : goal.returns-clause-begins
@@ -13,3 +13,8 @@ pub returns-clause-stays : goal.returns-clause-stays
 returns-clause-stays g c = λ lawful unnamed.
     begun_in_vain _ _ c.args.number.bytes c.args.value.now c.args.to c.first_group.result c.prepare.result c.first_group.ensures.begins lawful unnamed
     c.prepare.ensures.changed c.prepare.ensures.refused
+
+pub returns-clause-leaves : goal.returns-clause-leaves
+returns-clause-leaves g c = λ lawful unnamed ts among stops.
+    let written = c.first_group.ensures.begins _ _ (itself _ lawful) unnamed in
+    c.prepare.ensures.leaves ts (_, among, written.stays) stops

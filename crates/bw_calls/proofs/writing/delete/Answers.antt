@@ -4,6 +4,7 @@ use Rattle.bw_home.specs.Maps.{maps_of}
 use Rattle.bw_calls.specs.Standing.{waits}
 use Rattle.bw_calls.proofs.PlainLaws.{itself, moved, lawful_moved, left_before, err_map, number_told}
 use Rattle.bw_calls.proofs.CallLaws.{finished, refused}
+use Rattle.bw_calls.proofs.LeaveLaws.{in_moved, number_moved, set_moved}
 use Rattle.bw_calls.proofs.writing.delete.Goals as goal
 
 pub returns-in_err-table-clause-refused : goal.returns-in_err-table-clause-refused
@@ -27,3 +28,17 @@ returns-in-Some-clause-refused g c = λ lawful.
 
 pub returns-in-None-clause-refused : goal.returns-in-None-clause-refused
 returns-in-None-clause-refused g c = λ lawful. moved _ _ _ (itself _ lawful) c.number_of.ensures.same
+
+pub returns-in_err-table-clause-leaves : goal.returns-in_err-table-clause-leaves
+returns-in_err-table-clause-leaves g c = λ lawful ts was now stops. c.number_of.ensures.leaves ts stops
+
+pub returns-in-Some-clause-leaves : goal.returns-in-Some-clause-leaves
+returns-in-Some-clause-leaves g c = λ lawful ts was now stops.
+    let m = (maps_of c.args.home.now (λ z. (goal.Segment-dyn g z).holding z.1)).put in
+    let told = number_told c.in_ok-table.field-0 c.in-Some.table m c.args.name.now c.in-Some.is c.in_ok-table.ensures.number in
+    let same = c.number_of.ensures.same in
+    c.delete_at.ensures.leaves (lawful_moved _ _ lawful same) c.args.name.now (number_moved m _ c.args.name.now c.in-Some.table.bytes same told) ts
+    (in_moved ts m _ same was) (set_moved ts m _ c.args.name.now c.args.key.now None same now) (c.number_of.ensures.leaves ts stops)
+
+pub returns-in-None-clause-leaves : goal.returns-in-None-clause-leaves
+returns-in-None-clause-leaves g c = λ lawful ts was now stops. c.number_of.ensures.leaves ts stops

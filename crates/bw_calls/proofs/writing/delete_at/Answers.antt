@@ -1,8 +1,10 @@
-use Rattle.std.proofs.Common.{◌≡◌, false, None, rules}
+use Rattle.std.proofs.Common.{◌≡◌, false, refl, None, rules}
 use Rattle.std.specs.Prelude.{IfErr}
 use Rattle.bw_tables.specs.Writing.{named}
 use Rattle.bw_calls.specs.Standing.{plain_in, waits}
 use Rattle.bw_calls.proofs.PlainLaws.{not_begun, not_set_at, set_at, set_behind, err_map}
+use Rattle.bw_calls.proofs.LeaveLaws.{in_its}
+use Rattle.bw_rows.specs.Meaning.{tables_of, with_value}
 use Rattle.bw_calls.proofs.writing.delete_at.Goals as goal
 
 pub returns-in_err-old-clause-refused : goal.returns-in_err-old-clause-refused
@@ -20,3 +22,24 @@ pub returns-in-Err-clause-refused : goal.returns-in-Err-clause-refused
 returns-in-Err-clause-refused g c = λ lawful.
     not_set_at _ _ _ c.args.table.bytes c.args.key.now None (named c.in_ok-old.old) c.delete_step.result (waits c.in-Err.fault) c.head_of.ensures.same lawful
     c.delete_step.ensures.step c.in_ok-old.ensures.head c.in-Err.ensures.refused
+
+pub returns-in_err-old-clause-leaves : goal.returns-in_err-old-clause-leaves
+returns-in_err-old-clause-leaves g c = λ lawful name its ts was now stops. c.head_of.ensures.leaves ts stops
+
+pub returns-in-Ok-clause-leaves : goal.returns-in-Ok-clause-leaves
+returns-in-Ok-clause-leaves g c = λ lawful name its ts was now stops.
+    let p = plain_in c.args.home.now (λ z. (goal.Segment-dyn g z).holding z.1) in
+    let made = set_at _ _ _ c.args.table.bytes c.args.key.now None (named c.in_ok-old.old) c.delete_step.result c.head_of.ensures.same lawful
+    c.delete_step.ensures.step c.in_ok-old.ensures.head refl name its in
+    let stepped = c.step.ensures.leaves ts (with_value (tables_of p) name c.args.key.now None, now, made) (c.head_of.ensures.leaves ts stops) in
+    let set = set_at _ _ _ c.args.table.bytes c.args.key.now None (named c.in_ok-old.old) c.delete_step.result c.head_of.ensures.same lawful
+    c.delete_step.ensures.step c.in_ok-old.ensures.head c.in-Ok.ensures.changed name its in
+    c.collect_old.ensures.leaves set.lawful ts (in_its ts _ _ set now) stepped
+
+pub returns-in-Err-clause-leaves : goal.returns-in-Err-clause-leaves
+returns-in-Err-clause-leaves g c = λ lawful name its ts was now stops.
+    let p = plain_in c.args.home.now (λ z. (goal.Segment-dyn g z).holding z.1) in
+    let made = set_at _ _ _ c.args.table.bytes c.args.key.now None (named c.in_ok-old.old) c.delete_step.result c.head_of.ensures.same lawful
+    c.delete_step.ensures.step c.in_ok-old.ensures.head refl name its in
+    let stepped = c.step.ensures.leaves ts (with_value (tables_of p) name c.args.key.now None, now, made) (c.head_of.ensures.leaves ts stops) in
+    stepped

@@ -26,7 +26,7 @@ fn add_frames(ends: &mut Vec<u64>, bytes: &[u8], header: &Header) -> Result<(), 
 }
 
 /// The numbers of the first and the last whole frame after a header, if there is one.
-pub(crate) fn frames_in(bytes: &[u8], header: &Header) -> Option<(u64, u64)> {
+pub fn frames_in(bytes: &[u8], header: &Header) -> Option<(u64, u64)> {
     let mut found = None;
     let mut at = HEADER_LEN;
     for _ in 0..bytes.len() {
@@ -44,7 +44,7 @@ pub(crate) fn frames_in(bytes: &[u8], header: &Header) -> Option<(u64, u64)> {
 
 /// Where the pieces of a segment end, in bytes, ascending. What stands after its last whole frame is
 /// in none of them.
-pub(crate) fn ends_of(alloc: Global, bytes: &[u8]) -> Result<Vec<u64>, AllocError> {
+pub fn ends_of(alloc: Global, bytes: &[u8]) -> Result<Vec<u64>, AllocError> {
     let mut ends = Vec::new(alloc);
     if let HeaderRead::Whole(header) = read_header(bytes) {
         ends.push(HEADER_LEN as u64)?;

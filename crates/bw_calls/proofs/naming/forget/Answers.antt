@@ -1,0 +1,18 @@
+use Rattle.std.proofs.Common.{◌≡◌, [], ◌∷◌}
+use Rattle.bw_record.specs.declared.record.Record.TheVariants.{Del}
+use Rattle.bw_rows.specs.Spelling.{gone_key}
+use Rattle.bw_calls.proofs.PlainLaws.{itself, kept_by, wrote}
+use Rattle.bw_calls.proofs.NameLaws.{forgets}
+use Rattle.bw_calls.proofs.naming.forget.Goals as goal
+
+pub returns-clause-stays : goal.returns-clause-stays
+returns-clause-stays g c = λ lawful.
+    let is : c.one.result ≡ Del (gone_key c.args.table.bytes) ∷ [] = rw (c.one.ensures, c.gone_key.ensures) in
+    let done = forgets _ c.args.table.bytes c.one.result is lawful in
+    kept_by _ _ _ _ (itself _ lawful) done (wrote c.prepare.result _ _ _ c.prepare.ensures.changed c.prepare.ensures.refused)
+
+pub returns-clause-leaves : goal.returns-clause-leaves
+returns-clause-leaves g c = λ lawful ts among stops.
+    let is : c.one.result ≡ Del (gone_key c.args.table.bytes) ∷ [] = rw (c.one.ensures, c.gone_key.ensures) in
+    let done = forgets _ c.args.table.bytes c.one.result is lawful in
+    c.prepare.ensures.leaves ts (_, among, done) stops

@@ -1,0 +1,50 @@
+//! A store of tables is opened, and kept.
+
+ghost use Rattle.std.specs.Prelude.{◌≡◌, [], ◌∷◌, OnOk};
+ghost use Rattle.bw_rows.specs.Laws.{IsLawful, IsTables};
+ghost use Rattle.bw_home.specs.Maps.{maps_of, IsMapBy};
+ghost use Rattle.bw_home.specs.Ready.{IsReady};
+ghost use Rattle.bw_calls.specs.Changes.{IsClean};
+ghost use Rattle.bw_calls.specs.Standing.{plain_in, tables_in};
+ghost use Rattle.bw_calls.specs.Lives.{LeavesSome, Reads, Stays};
+
+use crate::collecting::collect_all;
+use crate::fault::TableFault;
+use crate::naming::clear_gone;
+use bw_home::Home;
+
+/// Finishes what a stop or a refusal left half done: the rows of tables that are gone go away, and
+/// then the chunks of all doomed numbers. If nothing was left it is two searches. The tables stay,
+/// whatever the answer.
+///
+/// Refused `NotRead` and `NotMade` as the store is, and `NotTables` if the store has other pairs
+/// than those of tables.
+pub fn open(home: &mut Home) -> Result<(), TableFault>
+    requires { IsReady home.old holding }
+    ensures ready { IsReady home.new holding }
+    ensures stays { IsLawful (plain_in home.old holding)
+        → IsTables (tables_in home.old holding) (plain_in home.new holding) }
+    ensures clean { OnOk result (IsClean (plain_in home.new holding)) }
+    ensures leaves { IsLawful (plain_in home.old holding)
+        → Stays (tables_in home.old holding) home.old home.new holding }
+{
+    clear_gone(home)?;
+    collect_all(home)
+}
+
+/// Makes all that was put durable: from then on a stop leaves these tables, and no others.
+///
+/// Refused `NotKept` as `Home::keep` is: what was kept before is kept, and the tables stay.
+pub fn keep(home: &mut Home) -> Result<(), TableFault>
+    requires { IsReady home.old holding }
+    ensures ready { IsReady home.new holding }
+    ensures same { (maps_of home.new holding).put ≡ (maps_of home.old holding).put }
+    ensures kept { IsLawful (plain_in home.old holding) → IsMapBy home.old holding
+        → OnOk result (LeavesSome (tables_in home.old holding ∷ []) home.new holding) }
+    ensures leaves { Reads home.old home.new holding }
+{
+    match home.keep() {
+        Ok(_) => Ok(()),
+        Err(fault) => Err(TableFault::NotKept(fault)),
+    }
+}
