@@ -3,7 +3,7 @@
 use Rattle.std.proofs.Common.{◌≡◌, inl, inr, ℕ, true, Option, Some, zero, suc, List, [], ◌∷◌, ◌++◌, length, map, drop, take, refl, sym, ap, subst, ◌∙◌, arith}
 use Rattle.std.specs.Prelude.{Result, Ok, Err, slice_index_or}
 use Rattle.std.specs.Option.{option_map}
-use Rattle.std.specs.List.{fold, AllByRecursion as All}
+use Rattle.std.specs.List.{fold, AllByRecursion}
 use Rattle.std.proofs.lemmas.List.{length-map}
 use Rattle.bw_device.specs.Holding.{Holding}
 use Rattle.bw_record.specs.declared.record.Record.{Record}
@@ -41,12 +41,12 @@ use Rattle.bw_calls.proofs.PlainLaws.{plain_of, all_changes, chunk_goes, itself}
 
 -- ---- maps with some tables
 
-all_drop : (P : Map → Type 0) (k : ℕ) (ms : List Map) → All P ms → All P (drop k ms)
+all_drop : (P : Map → Type 0) (k : ℕ) (ms : List Map) → AllByRecursion P ms → AllByRecursion P (drop k ms)
 all_drop P zero ms all = all
 all_drop P (suc k) [] all = all
 all_drop P (suc k) (m ∷ ms) all = all_drop P k ms all.1
 
-all_push : (P : Map → Type 0) (ms : List Map) (m : Map) → All P ms → P m → All P (ms ++ m ∷ [])
+all_push : (P : Map → Type 0) (ms : List Map) (m : Map) → AllByRecursion P ms → P m → AllByRecursion P (ms ++ m ∷ [])
 all_push P [] m all its = (its, tt)
 all_push P (x ∷ ms) m all its = (all.0, all_push P ms m all.1 its)
 

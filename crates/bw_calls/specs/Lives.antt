@@ -1,7 +1,7 @@
 -- What a stop may leave of the tables of a home.
 
 use Rattle.std.specs.Prelude.{◌≡◌, ◌⊎◌, List, [], ◌∷◌}
-use Rattle.std.specs.List.{AllByRecursion as All}
+use Rattle.std.specs.List.{AllByRecursion}
 use Rattle.std.specs.FinMap as finite
 use Rattle.bw_device.specs.Holding.{Holding}
 use Rattle.bw_leaf.specs.Changed.{Map}
@@ -25,7 +25,7 @@ HasSome ts p = (t : Tables) × IsIn t ts × IsTables t p
 
 -- each of these maps is one
 abbrev pub HaveSome : List Tables → List Map → Type 0
-HaveSome ts maps = All (λ m. HasSome ts (λ q. finite.get m q)) maps
+HaveSome ts maps = AllByRecursion (λ m. HasSome ts (λ q. finite.get m q)) maps
 
 -- a store is a map, and what a stop leaves of it is a lawful one with some of these tables
 pub record StopsWith (ts : List Tables) (feeds : List Feed) (s : Kept) : Type 0 where
