@@ -46,6 +46,13 @@ extern "C" {
 
 enum { HECHDORAM_MAX_KEY = BW_MAX_KEY, HECHDORAM_MAX_VALUE = BW_MAX_VALUE };
 
+/* The most bytes of a table's name, of a key of a table, and of a value of one. */
+enum {
+    HECHDORAM_MAX_NAME = 127,
+    HECHDORAM_MAX_TABLE_KEY = 124,
+    HECHDORAM_MAX_TABLE_VALUE = 16777216
+};
+
 enum hechdoram_answer {
     HECHDORAM_OK = BW_OK,
     HECHDORAM_NOT_FOUND = BW_NOT_FOUND, /* no error */
@@ -56,6 +63,8 @@ enum hechdoram_answer {
     HECHDORAM_ENDED = -5,               /* no further request is answered */
     HECHDORAM_TOO_LONG = BW_BAD_LENGTH, /* a key, a value, or a group */
     HECHDORAM_BUSY = -7,                /* a call of another thread goes on */
+    HECHDORAM_NO_TABLE = -8,            /* refused E21 NoTable */
+    HECHDORAM_TABLE_EXISTS = -9,        /* refused E22 Exists */
     HECHDORAM_NO_STORE = BW_NO_STORE,
     HECHDORAM_DAMAGED = BW_DAMAGED,
     HECHDORAM_SYSTEM = BW_IO,           /* errno says why */
@@ -213,6 +222,88 @@ int hechdoram_scan_next(hechdoram_scan *scan, hechdoram_pair *pair);
 
 /* Ends a walk, and writes null. Of null it does nothing. */
 void hechdoram_scan_end(hechdoram_scan **scan);
+
+/* ---- Tables
+ *
+ * A folder of tables has maps by their names, and no other pairs. A name has 1 to
+ * HECHDORAM_MAX_NAME bytes, a key 1 to HECHDORAM_MAX_TABLE_KEY, a value 0 to
+ * HECHDORAM_MAX_TABLE_VALUE. Each call is one step: whatever stops it, all of it is there or
+ * nothing. Of the calls above those that look at the store itself, keep it and end it are for both
+ * kinds of stores; any other is refused by a store of the other kind. A call on a table that is not
+ * there is HECHDORAM_NO_TABLE. */
+
+/* Opens the tables of a folder, as hechdoram_open else. A folder whose pairs are no tables is
+ * HECHDORAM_ENDED, by the program's words. */
+int hechdoram_open_tables(const char *folder, const hechdoram_options *options, hechdoram **store);
+
+/* Makes a table with no key; HECHDORAM_TABLE_EXISTS if there is one of this name. */
+int hechdoram_create_table(hechdoram *store, const void *name, size_t name_len);
+
+/* Drops a table with all its keys. */
+int hechdoram_drop_table(hechdoram *store, const void *name, size_t name_len);
+
+/* The name of a table. */
+typedef struct hechdoram_name {
+    uint8_t bytes[HECHDORAM_MAX_NAME];
+    size_t len;
+} hechdoram_name;
+
+/* The names of tables in order, those above another one if that is not null: as many as there is
+ * room for, 1,024 at most, and to `count` how many these are. */
+int hechdoram_tables(hechdoram *store, const void *above, size_t above_len, hechdoram_name *names,
+                     size_t room, size_t *count);
+
+int hechdoram_table_put(hechdoram *store, const void *name, size_t name_len, const void *key,
+                        size_t key_len, const void *value, size_t value_len);
+
+/* Deletes a key, if it is there. */
+int hechdoram_table_delete(hechdoram *store, const void *name, size_t name_len, const void *key,
+                           size_t key_len);
+
+/* As hechdoram_get: as many of the value's bytes as there is room for, and how many it has. */
+int hechdoram_table_get(hechdoram *store, const void *name, size_t name_len, const void *key,
+                        size_t key_len, void *value, size_t room, size_t *value_len);
+
+/* How many keys a table has. All its rows are looked at, and none of its long values. */
+int hechdoram_table_count(hechdoram *store, const void *name, size_t name_len, uint64_t *count);
+
+/* A change of a table. The key is deleted if the value is null. */
+typedef struct hechdoram_table_change {
+    const void *name;
+    size_t name_len;
+    const void *key;
+    size_t key_len;
+    const void *value;
+    size_t value_len;
+} hechdoram_table_change;
+
+/* Makes up to 65,536 changes, in any tables, in one step. A later change of a key takes the place
+ * of an earlier one. More are HECHDORAM_TOO_LONG, and so are keys and values of more than 64 MiB
+ * together. */
+int hechdoram_table_batch(hechdoram *store, const hechdoram_table_change *changes, size_t count);
+
+/* A pair of a table, in the memory of a walk, up to its next call. */
+typedef struct hechdoram_row {
+    const uint8_t *key;
+    size_t key_len;
+    const uint8_t *value;
+    size_t value_len;
+} hechdoram_row;
+
+typedef struct hechdoram_table_scan hechdoram_table_scan;
+
+/* Begins a walk over a table, in the order of keys: of the range `is_back` has to be 0. It asks for
+ * up to 512 pairs at a time, or as many as have 1 MiB. It wants hechdoram_table_scan_end before the
+ * store is closed. */
+int hechdoram_table_scan_begin(hechdoram *store, const void *name, size_t name_len,
+                               const hechdoram_range *range, hechdoram_table_scan **scan);
+
+/* The next pair of a walk; HECHDORAM_NOT_FOUND at its end. If it is refused the walk stands where it
+ * stood. */
+int hechdoram_table_scan_next(hechdoram_table_scan *scan, hechdoram_row *row);
+
+/* Ends a walk, and writes null. Of null it does nothing. */
+void hechdoram_table_scan_end(hechdoram_table_scan **scan);
 
 /* ---- The reader: of the names above, those that a reader can have */
 

@@ -87,7 +87,7 @@ def program_of(room, checkout, number):
     source, path = os.path.join(room, "each.c"), os.path.join(room, "each%d" % number)
     with open(source, "w", encoding="ascii") as file:
         file.write(IN_C)
-    parts = [os.path.join(checkout, "clients", "c", name) for name in ("hechdoram.c", "hechdoram_scan.c")]
+    parts = [os.path.join(checkout, "clients", "c", name) for name in ("hechdoram.c", "hechdoram_scan.c", "hechdoram_tables.c")]
     subprocess.run(["cc", "-O2", "-I" + os.path.join(checkout, "include"), source, *parts, "-o", path], check=True)
     return [path]
 

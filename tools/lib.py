@@ -23,7 +23,7 @@ INCLUDE = os.path.join(TOP, "include")
 BUILT = os.path.join(TOP, "crates", "bw_reading", "out", "libbw_reading.a")
 PROGRAM = os.path.join(TOP, "crates", "bwlog", "out", "bwlog")
 PART_IN_C = os.path.join(TOP, "clients", "c", NAME + ".c")
-CLIENT = [os.path.join(TOP, "clients", "c", name) for name in ("hechdoram.c", "hechdoram_scan.c")]
+CLIENT = [os.path.join(TOP, "clients", "c", name) for name in ("hechdoram.c", "hechdoram_scan.c", "hechdoram_tables.c")]
 STRICT = ["-std=c11", "-O2", "-fPIC", "-Wall", "-Wextra", "-Wpedantic", "-Wconversion", "-Werror"]
 # What the headers declare.
 SHOWN, SHOWN_OF_CLIENT = "bw_raw_*", "hechdoram_*"

@@ -1,8 +1,8 @@
 /* The store of hechdoram.h, held by a child process `bwlog serve`: one line is asked, and one line
  * is the answer.
  *
- * With hechdoram_scan.c, which walks, it is the whole client. It needs nothing but Linux and a C11
- * compiler. */
+ * With hechdoram_scan.c, which walks, and hechdoram_tables.c, which asks tables, it is the whole
+ * client. It needs nothing but Linux and a C11 compiler. */
 #define _GNU_SOURCE
 #include "parts.h"
 
@@ -24,7 +24,8 @@ enum {
     MAX_RECORDS = 4,        /* of one step */
     MAX_KEYS = 64,          /* of one line, or pairs */
     MAX_LINE = 4096,        /* of a request */
-    MAX_ANSWER = 1 << 21,   /* 1,024 pairs in hex have fewer bytes */
+    MAX_ANSWER = 1 << 21,   /* 1,024 pairs in hex have fewer bytes; of tables 1 MiB of pairs */
+    MAX_TABLE_ANSWER = 1 << 26, /* and one more */
     MAX_SAID = 2048,
     ROOM = 1 << 16          /* what is read at once, and what a store has from its opening on */
 };
@@ -44,6 +45,8 @@ const char *hechdoram_error_text(int answer) {
     case HECHDORAM_FAILED: return "a file of the store could not be read or written";
     case HECHDORAM_ENDED: return "no further request is answered";
     case HECHDORAM_TOO_LONG: return "a key, a value or a group is too long, or a key is empty";
+    case HECHDORAM_NO_TABLE: return "no table has this name";
+    case HECHDORAM_TABLE_EXISTS: return "a table has this name already";
     case HECHDORAM_BUSY: return "a call of another thread goes on";
     case HECHDORAM_IN_USE: return "the folder is in use";
     case HECHDORAM_MISUSE: return "a pointer is null, or what it points to is closed";
@@ -65,6 +68,7 @@ struct hechdoram {
     char said[MAX_SAID];
     text requests;             /* what is sent next */
     bool is_short;             /* memory for more of it was refused */
+    bool has_tables;           /* tables are served */
     text unread;               /* what was read: `taken` bytes of it were answers, and after them */
     size_t taken, looked;      /* so many have no end of a line */
     atomic_uintptr_t asking;   /* the thread whose call goes on, from before it writes on */
@@ -73,7 +77,7 @@ struct hechdoram {
 /* Each thread has an address of its own here. */
 static _Thread_local char here;
 
-static int say(hechdoram *s, int answer, const char *words) {
+int bw_say(hechdoram *s, int answer, const char *words) {
     snprintf(s->said, sizeof s->said, "%s", words);
     return answer;
 }
@@ -81,21 +85,21 @@ static int say(hechdoram *s, int answer, const char *words) {
 const char *hechdoram_said(const hechdoram *s) { return s ? s->said : "the store was closed"; }
 
 /* Begins a call. */
-static int begin(hechdoram *s) {
+int bw_begin(hechdoram *s) {
     uintptr_t other = 0, me = (uintptr_t)&here;
     if (!s) return HECHDORAM_ENDED;
     if (!atomic_compare_exchange_strong(&s->asking, &other, me))
-        return other == me ? say(s, HECHDORAM_ENDED, LEFT) : HECHDORAM_BUSY;
+        return other == me ? bw_say(s, HECHDORAM_ENDED, LEFT) : HECHDORAM_BUSY;
     s->requests.len = 0;
     s->is_short = false;
     if (s->input >= 0) return HECHDORAM_OK;
-    say(s, s->ended, s->why);
+    bw_say(s, s->ended, s->why);
     atomic_store(&s->asking, 0);
     return s->ended;
 }
 
 /* Ends a call by this answer. */
-static int done(hechdoram *s, int answer) {
+int bw_done(hechdoram *s, int answer) {
     atomic_store(&s->asking, 0);
     return answer;
 }
@@ -111,7 +115,7 @@ static int lose(hechdoram *s, int answer, const char *why) {
     s->input = s->output = s->errors = -1;
     s->ended = answer;
     snprintf(s->why, sizeof s->why, "%s", why);
-    return say(s, answer, why);
+    return bw_say(s, answer, why);
 }
 
 /* What a child that ends has written on its standard error. */
@@ -174,7 +178,7 @@ static bool grow(text *t, size_t more) {
     return true;
 }
 
-static void add(hechdoram *s, const char *bytes, size_t len) {
+void bw_add(hechdoram *s, const char *bytes, size_t len) {
     if (s->is_short || !grow(&s->requests, len)) {
         s->is_short = true;
         return;
@@ -183,7 +187,7 @@ static void add(hechdoram *s, const char *bytes, size_t len) {
     s->requests.len += len;
 }
 
-static void add_text(hechdoram *s, const char *words) { add(s, words, strlen(words)); }
+void bw_add_text(hechdoram *s, const char *words) { bw_add(s, words, strlen(words)); }
 
 /* Whether a word is its own bytes: printable, and not taken for hex. */
 static bool is_plain(const unsigned char *bytes, size_t len) {
@@ -194,27 +198,30 @@ static bool is_plain(const unsigned char *bytes, size_t len) {
 }
 
 /* Adds a blank and the word of these bytes. */
-static void add_word(hechdoram *s, const void *from, size_t len) {
+void bw_add_word(hechdoram *s, const void *from, size_t len) {
     static const char digits[] = "0123456789abcdef";
     const unsigned char *bytes = (const unsigned char *)from;
     char hex[2 * MAX_VALUE];
-    add(s, " ", 1);
+    bw_add(s, " ", 1);
     if (is_plain(bytes, len)) {
-        add(s, (const char *)bytes, len);
+        bw_add(s, (const char *)bytes, len);
         return;
     }
-    for (size_t i = 0; i < len && i < MAX_VALUE; i++) {
-        hex[2 * i] = digits[bytes[i] >> 4];
-        hex[2 * i + 1] = digits[bytes[i] & 15];
+    bw_add(s, "0x", 2);
+    for (size_t at = 0; at < len;) {
+        size_t count = 0;
+        for (; count < MAX_VALUE && at < len; count++, at++) {
+            hex[2 * count] = digits[bytes[at] >> 4];
+            hex[2 * count + 1] = digits[bytes[at] & 15];
+        }
+        bw_add(s, hex, 2 * count);
     }
-    add(s, "0x", 2);
-    add(s, hex, 2 * len);
 }
 
 static void add_change(hechdoram *s, const hechdoram_change *change) {
-    add_text(s, change->value ? "put" : "del");
-    add_word(s, change->key, change->key_len);
-    if (change->value) add_word(s, change->value, change->value_len);
+    bw_add_text(s, change->value ? "put" : "del");
+    bw_add_word(s, change->key, change->key_len);
+    if (change->value) bw_add_word(s, change->value, change->value_len);
 }
 
 /* A line of keys or pairs, if it was begun: how many it has, and where it begins. Before it stand
@@ -222,7 +229,7 @@ static void add_change(hechdoram *s, const hechdoram_change *change) {
 typedef struct listed { size_t count, begin, lines; } listed;
 
 static void end_line(hechdoram *s, listed *all) {
-    if (all->count > 0) add(s, "\n", 1);
+    if (all->count > 0) bw_add(s, "\n", 1);
     all->count = 0;
 }
 
@@ -234,10 +241,10 @@ static void add_listed(hechdoram *s, listed *all, const char *name, const hechdo
         if (all->count == 0) {
             all->begin = s->requests.len;
             all->lines++;
-            add_text(s, name);
+            bw_add_text(s, name);
         }
-        add_word(s, one->key, one->key_len);
-        if (one->value) add_word(s, one->value, one->value_len);
+        bw_add_word(s, one->key, one->key_len);
+        if (one->value) bw_add_word(s, one->value, one->value_len);
         if (all->count == 0 || s->requests.len - all->begin <= MAX_LINE) break;
         s->requests.len = before;
         end_line(s, all);
@@ -250,13 +257,13 @@ static bool is_key(size_t len) { return 0 < len && len <= MAX_KEY; }
 /* Looks at changes before any is sent. A deletion of what can be no key is nothing. */
 static int check(hechdoram *s, const hechdoram_change *changes, size_t count) {
     const char *misuse = hechdoram_error_text(HECHDORAM_MISUSE);
-    if (!changes && count > 0) return say(s, HECHDORAM_MISUSE, misuse);
+    if (!changes && count > 0) return bw_say(s, HECHDORAM_MISUSE, misuse);
     for (size_t i = 0; i < count; i++) {
         const hechdoram_change *one = changes + i;
-        if (!one->key && one->key_len > 0) return say(s, HECHDORAM_MISUSE, misuse);
+        if (!one->key && one->key_len > 0) return bw_say(s, HECHDORAM_MISUSE, misuse);
         if (!one->value) continue;
-        if (!is_key(one->key_len)) return say(s, HECHDORAM_TOO_LONG, LONG_KEY);
-        if (one->value_len > MAX_VALUE) return say(s, HECHDORAM_TOO_LONG, LONG_VALUE);
+        if (!is_key(one->key_len)) return bw_say(s, HECHDORAM_TOO_LONG, LONG_KEY);
+        if (one->value_len > MAX_VALUE) return bw_say(s, HECHDORAM_TOO_LONG, LONG_VALUE);
     }
     return HECHDORAM_OK;
 }
@@ -299,7 +306,8 @@ static int read_some(hechdoram *s) {
     s->unread.len -= s->taken;
     if (s->taken > 0) memmove(s->unread.bytes, s->unread.bytes + s->taken, s->unread.len);
     s->taken = 0;
-    if (s->unread.len > MAX_ANSWER) return lose(s, HECHDORAM_ENDED, "an answer that is no line");
+    if (s->unread.len > (size_t)(s->has_tables ? MAX_TABLE_ANSWER : MAX_ANSWER))
+        return lose(s, HECHDORAM_ENDED, "an answer that is no line");
     if (!grow(&s->unread, ROOM)) return lose(s, HECHDORAM_ENDED, "out of memory for an answer");
     ssize_t got = read(s->output, s->unread.bytes + s->unread.len, ROOM);
     if (got < 0 && errno == EINTR) return HECHDORAM_OK;
@@ -326,21 +334,19 @@ static int refusal(const char *line) {
     static const struct { const char *begin; int answer; } kinds[] = {
         {"refused E2 ", HECHDORAM_FULL},   {"refused E5 ", HECHDORAM_FULL},
         {"refused E6 ", HECHDORAM_FAILED}, {"refused E7 ", HECHDORAM_FAILED},
+        {"refused E21 ", HECHDORAM_NO_TABLE}, {"refused E22 ", HECHDORAM_TABLE_EXISTS},
         {"refused ", HECHDORAM_REFUSED},   {"fault ", HECHDORAM_REFUSED}};
     for (size_t i = 0; i < sizeof kinds / sizeof *kinds; i++)
         if (!strncmp(line, kinds[i].begin, strlen(kinds[i].begin))) return kinds[i].answer;
     return HECHDORAM_OK;
 }
 
-/* What is done with an answer; false if it is none to its request. */
-typedef bool on_answer(void *to, size_t index, char *line);
-
 /* Sends the requests, and reads so many answers meanwhile: neither way fills up for good. All are
  * read, whatever is refused; the first refusal is what is answered. */
 static int exchange(hechdoram *s, size_t count, on_answer *answer, void *to) {
     size_t sent = 0;
     int first = HECHDORAM_OK;
-    if (s->is_short) return say(s, HECHDORAM_NO_MEMORY, hechdoram_error_text(HECHDORAM_NO_MEMORY));
+    if (s->is_short) return bw_say(s, HECHDORAM_NO_MEMORY, hechdoram_error_text(HECHDORAM_NO_MEMORY));
     if (!write_some(s, &sent)) sent = s->requests.len;
     for (size_t index = 0; index < count;) {
         char *line = take_line(s);
@@ -352,7 +358,7 @@ static int exchange(hechdoram *s, size_t count, on_answer *answer, void *to) {
         if (!is_text(line)) return lose(s, HECHDORAM_ENDED, "an answer that is no line");
         int refused = refusal(line);
         if (refused != HECHDORAM_OK) {
-            if (first == HECHDORAM_OK) first = say(s, refused, line);
+            if (first == HECHDORAM_OK) first = bw_say(s, refused, line);
         } else if (!answer(to, index, line)) return no_answer(s, line);
         index++;
     }
@@ -362,21 +368,21 @@ static int exchange(hechdoram *s, size_t count, on_answer *answer, void *to) {
 }
 
 /* One request, which is in place but for its end. */
-static int ask(hechdoram *s, on_answer *answer, void *to) {
-    add(s, "\n", 1);
+int bw_ask(hechdoram *s, on_answer *answer, void *to) {
+    bw_add(s, "\n", 1);
     return exchange(s, 1, answer, to);
 }
 
 /* A call of one request that is a word. */
 static int ask_word(hechdoram *s, const char *word, on_answer *answer, void *to) {
-    int got = begin(s);
+    int got = bw_begin(s);
     if (got != HECHDORAM_OK) return got;
-    add_text(s, word);
-    return done(s, ask(s, answer, to));
+    bw_add_text(s, word);
+    return bw_done(s, bw_ask(s, answer, to));
 }
 
 /* The bytes of a word between two places; false if it is none, or longer than the room. */
-static bool read_word(const char *word, const char *end, uint8_t *bytes, size_t room, size_t *len) {
+bool bw_read_word(const char *word, const char *end, uint8_t *bytes, size_t room, size_t *len) {
     size_t digits = (size_t)(end - word);
     if (digits < 2 || word[0] != '0' || word[1] != 'x') {
         *len = digits;
@@ -402,11 +408,11 @@ static bool read_word(const char *word, const char *end, uint8_t *bytes, size_t 
 /* The pair of a text `k=v`. */
 static bool read_pair(const char *words, const char *end, hechdoram_pair *pair) {
     const char *middle = (const char *)memchr(words, '=', (size_t)(end - words));
-    return middle && read_word(words, middle, pair->key, MAX_KEY, &pair->key_len) &&
-           read_word(middle + 1, end, pair->value, MAX_VALUE, &pair->value_len);
+    return middle && bw_read_word(words, middle, pair->key, MAX_KEY, &pair->key_len) &&
+           bw_read_word(middle + 1, end, pair->value, MAX_VALUE, &pair->value_len);
 }
 
-static bool is_ok(void *to, size_t index, char *line) {
+bool bw_is_ok(void *to, size_t index, char *line) {
     (void)to, (void)index;
     return !strcmp(line, "ok");
 }
@@ -417,7 +423,7 @@ static bool is_value(void *to, size_t index, char *line) {
     value->is_found = strcmp(line, "none") != 0;
     if (!value->is_found) return true;
     return !strncmp(line, "value ", 6) &&
-           read_word(line + 6, line + strlen(line), value->bytes, MAX_VALUE, &value->len);
+           bw_read_word(line + 6, line + strlen(line), value->bytes, MAX_VALUE, &value->len);
 }
 
 /* A pair that may be there. */
@@ -432,7 +438,7 @@ static bool is_pair(void *to, size_t index, char *line) {
 }
 
 /* The number after a word of an answer. */
-static bool number(const char *line, const char *name, uint64_t *found) {
+bool bw_number(const char *line, const char *name, uint64_t *found) {
     size_t len = strlen(name);
     for (const char *at = line; (at = strstr(at, name)) != NULL; at += len) {
         char *end = NULL;
@@ -452,17 +458,28 @@ static bool are_numbers(void *to, size_t index, char *line) {
     (void)index;
     if (all->none && !strcmp(line, all->none)) return true;
     for (int i = 0; i < 3 && all->names[i]; i++)
-        if (!number(line, all->names[i], &all->found[i])) return false;
+        if (!bw_number(line, all->names[i], &all->found[i])) return false;
     return true;
 }
 
 /* ---- Opening and closing */
 
 /* Whether the first answer, `ready frame N protocol 1`, maybe with more after it, is of the
- * protocol that is spoken here. */
-static bool is_greeted(const char *line) {
+ * protocol that is spoken here; `behind` is that then. */
+static bool is_greeted(const char *line, const char **behind) {
     unsigned protocol = 0;
-    return sscanf(line, "ready frame %*s protocol %u", &protocol) == 1 && protocol == 1;
+    int len = 0;
+    if (sscanf(line, "ready frame %*s protocol %u%n", &protocol, &len) != 1) return false;
+    *behind = line + len;
+    return protocol == 1;
+}
+
+/* Whether a word stands there. */
+static bool has_word(const char *line, const char *word) {
+    size_t len = strlen(word);
+    for (const char *at = line; (at = strstr(at, word)) != NULL; at += len)
+        if (at != line && at[-1] == ' ' && (at[len] == 0 || at[len] == ' ')) return true;
+    return false;
 }
 
 /* Notes the first answer. */
@@ -475,6 +492,7 @@ static bool is_first(void *to, size_t index, char *line) {
 /* Reads the first answer. */
 static int greet(hechdoram *s) {
     char line[MAX_SAID] = "", why[MAX_SAID + 32];
+    const char *behind = line;
     s->requests.len = 0;
     int got = exchange(s, 1, is_first, line);
     if (s->input < 0) return got;
@@ -482,18 +500,20 @@ static int greet(hechdoram *s) {
         snprintf(line, sizeof line, "%s", s->said);
         return has_ended(s, line);
     }
-    if (is_greeted(line)) return HECHDORAM_OK;
-    snprintf(why, sizeof why, "no protocol 1: %s", line);
+    bool is_known = is_greeted(line, &behind);
+    if (is_known && (!s->has_tables || has_word(behind, "tables"))) return HECHDORAM_OK;
+    snprintf(why, sizeof why, "no %s: %s", is_known ? "tables" : "protocol 1", line);
     return lose(s, HECHDORAM_ENDED, why);
 }
 
 /* The words of the program. */
-typedef struct words { char *word[16]; char numbers[6][40]; char *folder; } words;
+typedef struct words { char *word[17]; char numbers[6][40]; char *folder; } words;
 
-static bool words_of(words *w, const char *folder, const hechdoram_options *options) {
+static bool words_of(words *w, const char *folder, const hechdoram_options *options,
+                     bool has_tables) {
     static const char *const names[6] = {"capacity", "segments", "most-segments",
                                          "m",        "frame",    "places"};
-    static char serve[] = "serve";
+    static char serve[] = "serve", tables[] = "--tables";
     const hechdoram_options none = {NULL, 0, 0, 0, 0, 0, 0}, *o = options ? options : &none;
     const unsigned given[6] = {o->capacity, o->segments, o->most_segments,
                                o->m,        o->frame,    o->places};
@@ -503,6 +523,7 @@ static bool words_of(words *w, const char *folder, const hechdoram_options *opti
     snprintf(w->folder, room, "--dir=%s", folder);
     w->word[1] = serve;
     w->word[2] = w->folder;
+    if (has_tables) w->word[count++] = tables;
     for (int i = 0; i < 6; i++) {
         if (given[i] == 0) continue;
         snprintf(w->numbers[i], sizeof w->numbers[i], "--%s=%u", names[i], given[i]);
@@ -570,19 +591,21 @@ static hechdoram *new_store(void) {
     return NULL;
 }
 
-int hechdoram_open(const char *folder, const hechdoram_options *options, hechdoram **store) {
+static int open_store(const char *folder, const hechdoram_options *options, bool has_tables,
+                      hechdoram **store) {
     words w;
     if (store) *store = NULL;
     if (!folder || !store) return HECHDORAM_MISUSE;
     const char *program = options && options->program ? options->program : "bwlog";
     char *name = strdup(program);
     hechdoram *s = new_store();
-    if (!name || !s || !words_of(&w, folder, options)) {
+    if (!name || !s || !words_of(&w, folder, options, has_tables)) {
         free(name);
         hechdoram_abandon(&s);
         return HECHDORAM_NO_MEMORY;
     }
     w.word[0] = name;
+    s->has_tables = has_tables;
     int fault = begin_child(s, program, &w);
     free(name);
     free(w.folder);
@@ -591,6 +614,15 @@ int hechdoram_open(const char *folder, const hechdoram_options *options, hechdor
     lose(s, HECHDORAM_SYSTEM, strerror(fault));
     errno = fault;
     return HECHDORAM_SYSTEM;
+}
+
+int hechdoram_open(const char *folder, const hechdoram_options *options, hechdoram **store) {
+    return open_store(folder, options, false, store);
+}
+
+int hechdoram_open_tables(const char *folder, const hechdoram_options *options,
+                          hechdoram **store) {
+    return open_store(folder, options, true, store);
 }
 
 void hechdoram_abandon(hechdoram **store) {
@@ -621,12 +653,12 @@ int hechdoram_close(hechdoram **store) {
 
 /* Makes one change. */
 static int change(hechdoram *s, const hechdoram_change *one) {
-    int got = begin(s);
+    int got = bw_begin(s);
     if (got != HECHDORAM_OK) return got;
     got = check(s, one, 1);
-    if (got != HECHDORAM_OK || !is_key(one->key_len)) return done(s, got);
+    if (got != HECHDORAM_OK || !is_key(one->key_len)) return bw_done(s, got);
     add_change(s, one);
-    return done(s, ask(s, is_ok, NULL));
+    return bw_done(s, bw_ask(s, bw_is_ok, NULL));
 }
 
 int hechdoram_put(hechdoram *s, const void *key, size_t key_len, const void *value,
@@ -645,7 +677,7 @@ int hechdoram_delete(hechdoram *s, const void *key, size_t key_len) {
 int hechdoram_change_many(hechdoram *s, const hechdoram_change *changes, size_t count) {
     listed all = {0, 0, 0};
     size_t deleted = 0;
-    int got = begin(s);
+    int got = bw_begin(s);
     if (got != HECHDORAM_OK) return got;
     got = check(s, changes, count);
     for (size_t i = 0; got == HECHDORAM_OK && i < count; i++) {
@@ -656,12 +688,12 @@ int hechdoram_change_many(hechdoram *s, const hechdoram_change *changes, size_t 
         }
         end_line(s, &all);
         add_change(s, changes + i);
-        add(s, "\n", 1);
+        bw_add(s, "\n", 1);
         deleted++;
     }
     end_line(s, &all);
-    if (got == HECHDORAM_OK) got = exchange(s, all.lines + deleted, is_ok, NULL);
-    return done(s, got);
+    if (got == HECHDORAM_OK) got = exchange(s, all.lines + deleted, bw_is_ok, NULL);
+    return bw_done(s, got);
 }
 
 /* Begins a line with as many of these changes as one step takes; how many, with those that are
@@ -669,11 +701,11 @@ int hechdoram_change_many(hechdoram *s, const hechdoram_change *changes, size_t 
 static size_t add_group(hechdoram *s, const hechdoram_change *changes, size_t count) {
     size_t i = 0, records = 0;
     s->requests.len = 0;
-    add_text(s, "group");
+    bw_add_text(s, "group");
     for (; i < count && records < MAX_RECORDS; i++) {
         size_t before = s->requests.len;
         if (!is_key(changes[i].key_len)) continue;
-        add(s, " ", 1);
+        bw_add(s, " ", 1);
         add_change(s, changes + i);
         if (s->requests.len > MAX_LINE) {
             s->requests.len = before;
@@ -687,26 +719,26 @@ static size_t add_group(hechdoram *s, const hechdoram_change *changes, size_t co
 }
 
 int hechdoram_group(hechdoram *s, const hechdoram_change *changes, size_t count) {
-    int got = begin(s);
+    int got = bw_begin(s);
     if (got != HECHDORAM_OK) return got;
     got = check(s, changes, count);
     if (got == HECHDORAM_OK && add_group(s, changes, count) < count)
-        got = say(s, HECHDORAM_TOO_LONG, LONG_GROUP);
-    if (got == HECHDORAM_OK && s->requests.len > 0) got = ask(s, is_ok, NULL);
-    return done(s, got);
+        got = bw_say(s, HECHDORAM_TOO_LONG, LONG_GROUP);
+    if (got == HECHDORAM_OK && s->requests.len > 0) got = bw_ask(s, bw_is_ok, NULL);
+    return bw_done(s, got);
 }
 
 int hechdoram_batch(hechdoram *s, const hechdoram_change *changes, size_t count) {
-    int got = begin(s);
+    int got = bw_begin(s);
     if (got != HECHDORAM_OK) return got;
     got = check(s, changes, count);
     while (got == HECHDORAM_OK && count > 0) {
         size_t taken = add_group(s, changes, count);
-        if (s->requests.len > 0) got = ask(s, is_ok, NULL);
+        if (s->requests.len > 0) got = bw_ask(s, bw_is_ok, NULL);
         changes += taken;
         count -= taken;
     }
-    return done(s, got);
+    return bw_done(s, got);
 }
 
 /* ---- Look-ups */
@@ -715,12 +747,12 @@ int hechdoram_get(hechdoram *s, const void *key, size_t key_len, void *value, si
                   size_t *value_len) {
     hechdoram_value found;
     if ((!value && room > 0) || (!key && key_len > 0)) return HECHDORAM_MISUSE;
-    int got = begin(s);
+    int got = bw_begin(s);
     if (got != HECHDORAM_OK) return got;
-    if (!is_key(key_len)) return done(s, HECHDORAM_NOT_FOUND);
-    add_text(s, "get");
-    add_word(s, key, key_len);
-    got = done(s, ask(s, is_value, &found));
+    if (!is_key(key_len)) return bw_done(s, HECHDORAM_NOT_FOUND);
+    bw_add_text(s, "get");
+    bw_add_word(s, key, key_len);
+    got = bw_done(s, bw_ask(s, is_value, &found));
     if (got != HECHDORAM_OK) return got;
     if (!found.is_found) return HECHDORAM_NOT_FOUND;
     if (room > 0) memcpy(value, found.bytes, found.len < room ? found.len : room);
@@ -758,7 +790,7 @@ static bool are_values(void *to, size_t index, char *line) {
         if (*line++ != ' ') return false;
         char *end = strchrnul(line, ' ');
         value->is_found = end != line + 1 || *line != '=';
-        if (value->is_found && !read_word(line, end, value->bytes, MAX_VALUE, &value->len))
+        if (value->is_found && !bw_read_word(line, end, value->bytes, MAX_VALUE, &value->len))
             return false;
         line = end;
     }
@@ -769,19 +801,19 @@ int hechdoram_get_many(hechdoram *s, const hechdoram_key *keys, size_t count,
                        hechdoram_value *values) {
     wanted all = {NULL, keys, values, 0, 0};
     listed asked = {0, 0, 0};
-    int got = begin(s);
+    int got = bw_begin(s);
     if (got != HECHDORAM_OK) return got;
-    if (count > 0 && (!keys || !values)) return done(s, HECHDORAM_MISUSE);
+    if (count > 0 && (!keys || !values)) return bw_done(s, HECHDORAM_MISUSE);
     for (size_t i = 0; i < count; i++) {
         const hechdoram_change one = {keys[i].bytes, keys[i].len, NULL, 0};
-        if (!one.key && one.key_len > 0) return done(s, HECHDORAM_MISUSE);
+        if (!one.key && one.key_len > 0) return bw_done(s, HECHDORAM_MISUSE);
         values[i].is_found = 0;
         values[i].len = 0;
         if (is_key(one.key_len)) add_listed(s, &asked, "gets", &one);
     }
     end_line(s, &asked);
     all.asked = s->requests.bytes;
-    return done(s, exchange(s, asked.lines, are_values, &all));
+    return bw_done(s, exchange(s, asked.lines, are_values, &all));
 }
 
 /* ---- Keys in order */
@@ -793,13 +825,13 @@ static int store_nearest(const void *of, int kind, const void *key, size_t key_l
     hechdoram *s = (hechdoram *)of;
     looked found = {pair, false};
     uint8_t greatest[MAX_KEY];
-    int got = begin(s);
+    int got = bw_begin(s);
     if (got != HECHDORAM_OK) return got;
     memset(greatest, 0xff, sizeof greatest);
-    add_text(s, kind == '>' ? "next" : key_len > 0 ? "below" : "prev");
-    if (key_len > 0) add_word(s, key ? key : none, key_len);
-    else add_word(s, greatest, MAX_KEY);
-    got = done(s, ask(s, is_pair, &found));
+    bw_add_text(s, kind == '>' ? "next" : key_len > 0 ? "below" : "prev");
+    if (key_len > 0) bw_add_word(s, key ? key : none, key_len);
+    else bw_add_word(s, greatest, MAX_KEY);
+    got = bw_done(s, bw_ask(s, is_pair, &found));
     return got == HECHDORAM_OK && !found.is_found ? HECHDORAM_NOT_FOUND : got;
 }
 
@@ -822,7 +854,7 @@ static bool are_pairs(void *to, size_t index, char *line) {
     many *all = (many *)to;
     uint64_t count = 0;
     (void)index;
-    if (strncmp(line, "pairs ", 6) || !number(line, "pairs", &count)) return false;
+    if (strncmp(line, "pairs ", 6) || !bw_number(line, "pairs", &count)) return false;
     if (count > all->room) return false;
     const char *at = strchr(line + 6, ' ');
     for (all->count = 0; all->count < count; all->count++) {
@@ -840,22 +872,22 @@ static int store_many(const void *of, const void *key, size_t key_len, hechdoram
     hechdoram *s = (hechdoram *)of;
     many all = {pairs, room, 0};
     char most[24];
-    int got = begin(s);
+    int got = bw_begin(s);
     if (got != HECHDORAM_OK) return got;
-    add_text(s, "scan");
-    add_word(s, key, key_len);
+    bw_add_text(s, "scan");
+    bw_add_word(s, key, key_len);
     snprintf(most, sizeof most, " %zu", room);
-    add_text(s, most);
-    got = done(s, ask(s, are_pairs, &all));
+    bw_add_text(s, most);
+    got = bw_done(s, bw_ask(s, are_pairs, &all));
     *count = all.count;
     return got;
 }
 
 int hechdoram_scan_begin(hechdoram *s, const hechdoram_range *range, hechdoram_scan **scan) {
-    int got = begin(s); /* a store that is closed, or busy, says so here */
+    int got = bw_begin(s); /* a store that is closed, or busy, says so here */
     if (scan) *scan = NULL;
     if (got != HECHDORAM_OK) return got;
-    return done(s, bw_scan_over(store_nearest, store_many, s, range, scan));
+    return bw_done(s, bw_scan_over(store_nearest, store_many, s, range, scan));
 }
 
 /* ---- The store itself */
@@ -902,9 +934,9 @@ static bool are_stats(void *to, size_t index, char *line) {
     hechdoram_numbers *n = (hechdoram_numbers *)to;
     (void)index;
     n->failed = strstr(line, " failed") != NULL;
-    return number(line, "history", &n->history) && number(line, "durable", &n->durable) &&
-           number(line, "segments", &n->segments) && number(line, "spares", &n->spares) &&
-           number(line, "pages", &n->pages);
+    return bw_number(line, "history", &n->history) && bw_number(line, "durable", &n->durable) &&
+           bw_number(line, "segments", &n->segments) && bw_number(line, "spares", &n->spares) &&
+           bw_number(line, "pages", &n->pages);
 }
 
 int hechdoram_stats(hechdoram *s, hechdoram_numbers *found) {
@@ -915,11 +947,11 @@ int hechdoram_stats(hechdoram *s, hechdoram_numbers *found) {
 int hechdoram_backup(hechdoram *s, const char *to, hechdoram_copied *copied) {
     numbers all = {{"frame", "pages", "pairs"}, NULL, {0, 0, 0}};
     if (!to || strlen(to) > MAX_VALUE) return HECHDORAM_MISUSE;
-    int got = begin(s);
+    int got = bw_begin(s);
     if (got != HECHDORAM_OK) return got;
-    add_text(s, "backup");
-    add_word(s, to, strlen(to));
-    got = done(s, ask(s, are_numbers, &all));
+    bw_add_text(s, "backup");
+    bw_add_word(s, to, strlen(to));
+    got = bw_done(s, bw_ask(s, are_numbers, &all));
     if (got == HECHDORAM_OK && copied)
         *copied = (hechdoram_copied){all.found[0], all.found[1], all.found[2]};
     return got;

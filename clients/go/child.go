@@ -15,8 +15,9 @@ const (
 	left   = "a call has no answer: it was left before that was read, or goes on"
 	closed = "the store was closed"
 	noLine = "an answer that is no line"
-	// No answer is longer: 1,024 pairs in hex have fewer bytes.
-	longest = 1 << 21
+	// No answer is longer: 1,024 pairs in hex have fewer bytes; of tables 1 MiB of pairs and one more.
+	longest         = 1 << 21
+	longestOfTables = 1 << 26
 )
 
 // child is a program that answers: one exchange goes on at a time.
@@ -28,10 +29,11 @@ type child struct {
 	errors  io.ReadCloser
 	why     *Error // why nothing is asked: from before a request until its answer, and from the end on
 	isOver  bool   // whether the process was waited for
+	longest int    // how many bytes an answer has at most
 }
 
-// begin begins a program, and reads its first answer.
-func begin(program string, words []string) (*child, error) {
+// begin begins a program, which may serve tables, and reads its first answer.
+func begin(program string, words []string, hasTables bool) (*child, error) {
 	process := exec.Command(program, words...)
 	input, err := process.StdinPipe()
 	if err != nil {
@@ -48,11 +50,14 @@ func begin(program string, words []string) (*child, error) {
 	if err := process.Start(); err != nil {
 		return nil, err
 	}
-	c := &child{process: process, input: input, errors: errors}
+	c := &child{process: process, input: input, errors: errors, longest: longest}
+	if hasTables {
+		c.longest = longestOfTables
+	}
 	c.output = bufio.NewReaderSize(output, 1<<16)
 	answer, err := c.line()
 	if err == nil {
-		err = c.greeted(answer)
+		err = c.greeted(answer, hasTables)
 	}
 	if err != nil {
 		c.abandon()
@@ -62,8 +67,8 @@ func begin(program string, words []string) (*child, error) {
 }
 
 // greeted refuses a program of another protocol: the first answer is `ready frame N protocol 1`,
-// maybe with more after it.
-func (c *child) greeted(answer string) error {
+// maybe with more after it; where tables are served, the word `tables`.
+func (c *child) greeted(answer string, hasTables bool) error {
 	words := strings.Split(answer, " ")
 	if words[0] == "refused" {
 		if told := c.lastWords(); told != "" {
@@ -74,6 +79,9 @@ func (c *child) greeted(answer string) error {
 	isReady := len(words) >= 5 && words[0] == "ready" && words[1] == "frame"
 	if !isReady || words[3] != "protocol" || words[4] != "1" {
 		return ended("no protocol 1: " + answer)
+	}
+	if hasTables && !strings.Contains(" "+strings.Join(words[5:], " ")+" ", " tables ") {
+		return ended("no tables: " + answer)
 	}
 	return nil
 }
@@ -130,7 +138,7 @@ func (c *child) line() (string, error) {
 	for {
 		part, err := c.output.ReadSlice('\n')
 		text = append(text, part...)
-		if len(text) > longest {
+		if len(text) > c.longest {
 			return "", ended(noLine)
 		}
 		if err == nil {

@@ -10,6 +10,8 @@
 // No pair has a key of another length, so a look-up of one finds nothing, and a put of one is
 // TooLong. What was put is seen at once, and durable once Keep or Close has answered. Goroutines
 // may share a store: a call waits for the one before it.
+//
+// A folder of tables has maps by their names, with values of up to 16 MiB: OpenTables.
 package hechdoram
 
 import (
@@ -45,8 +47,13 @@ const (
 	// Failed says that a file could not be read or written (refused E6 Device), or that a write failed
 	// before (refused E7 Failed). Then nothing more is kept, and reads still answer: Reopen goes on.
 	Failed Kind = "Failed"
+	// NoTable says that no table has the name (refused E21 NoTable).
+	NoTable Kind = "NoTable"
+	// TableExists says that a table has the name already (refused E22 Exists).
+	TableExists Kind = "TableExists"
 	// TooLong says that a key has not 1 to 128 bytes, a value more than 512, or that a group is
-	// more than one step takes. Nothing was asked.
+	// more than one step takes; of tables, that a name has not 1 to 127 bytes, a key not 1 to 124, a
+	// value more than 16 MiB, or that a batch is more than one takes. Nothing was asked.
 	TooLong Kind = "TooLong"
 	// Ended says that no further request is answered.
 	Ended Kind = "Ended"
@@ -82,7 +89,7 @@ type Options struct {
 }
 
 // Reopened is what Reopen found: the folder's last frame, and how many changes that had been taken
-// are gone.
+// are gone. Of tables these are records of the store below: a long value has one for each 512 bytes.
 type Reopened struct{ Frame, Lost uint64 }
 
 // Copied is what a backup holds.
@@ -95,11 +102,23 @@ type Stats struct {
 	Failed bool
 }
 
+// served is what every store has that a child process serves, of pairs or of tables.
+type served struct{ child *child }
+
 // Store is the store in a folder.
-type Store struct{ child *child }
+type Store struct{ served }
 
 // Open opens the store of a folder, which is made if it is missing. The options may be nil.
 func Open(folder string, options *Options) (*Store, error) {
+	child, err := serve(folder, options, false)
+	if err != nil {
+		return nil, err
+	}
+	return &Store{served{child}}, nil
+}
+
+// serve begins the program that serves a folder, of tables or of pairs.
+func serve(folder string, options *Options, hasTables bool) (*child, error) {
 	if options == nil {
 		options = &Options{}
 	}
@@ -108,6 +127,9 @@ func Open(folder string, options *Options) (*Store, error) {
 		program = "bwlog"
 	}
 	words := []string{"serve", "--dir=" + folder}
+	if hasTables {
+		words = append(words, "--tables")
+	}
 	numbers := []struct {
 		name   string
 		number int
@@ -121,16 +143,12 @@ func Open(folder string, options *Options) (*Store, error) {
 			words = append(words, fmt.Sprintf("--%s=%d", given.name, given.number))
 		}
 	}
-	child, err := begin(program, words)
-	if err != nil {
-		return nil, err
-	}
-	return &Store{child}, nil
+	return begin(program, words, hasTables)
 }
 
 // Close keeps what was put, and ends the child. If that is refused the store stays open. A second
 // call does nothing.
-func (s *Store) Close() error {
+func (s *served) Close() error {
 	if s.child.isClosed() {
 		return nil
 	}
@@ -149,7 +167,7 @@ func (s *Store) Close() error {
 }
 
 // Abandon ends the child, and keeps nothing more.
-func (s *Store) Abandon() { s.child.abandon() }
+func (s *served) Abandon() { s.child.abandon() }
 
 // Put sets the value of a key.
 func (s *Store) Put(key, value []byte) error { return s.PutMany([]Pair{{key, value}}) }
@@ -305,7 +323,7 @@ func (s *Store) Count() (uint64, error) {
 }
 
 // Keep makes durable what was put: the number of the last frame, or 0 if nothing was new.
-func (s *Store) Keep() (uint64, error) {
+func (s *served) Keep() (uint64, error) {
 	answer, err := s.ask("flush")
 	if err != nil || answer == "no frame" {
 		return 0, err
@@ -316,13 +334,13 @@ func (s *Store) Keep() (uint64, error) {
 
 // Reopen opens the folder once more, in the same child. It is for a store that Failed, and goes on
 // from all that is durable. What can still be kept is, before.
-func (s *Store) Reopen() (Reopened, error) {
+func (s *served) Reopen() (Reopened, error) {
 	found, err := s.numbers("reopen", "frame", "lost")
 	return Reopened{found[0], found[1]}, err
 }
 
 // Stats gives the store's numbers.
-func (s *Store) Stats() (Stats, error) {
+func (s *served) Stats() (Stats, error) {
 	answer, err := s.ask("stats")
 	if err != nil {
 		return Stats{}, err
@@ -333,25 +351,25 @@ func (s *Store) Stats() (Stats, error) {
 }
 
 // Clean gives up the oldest segment, whose room is free again: how many bytes that won.
-func (s *Store) Clean() (uint64, error) {
+func (s *served) Clean() (uint64, error) {
 	found, err := s.numbers("clean", "won")
 	return found[0], err
 }
 
 // Add adds a segment: its number.
-func (s *Store) Add() (uint64, error) {
+func (s *served) Add() (uint64, error) {
 	found, err := s.numbers("add", "added")
 	return found[0], err
 }
 
 // Backup keeps what was put, and copies the store into a new folder.
-func (s *Store) Backup(to string) (Copied, error) {
+func (s *served) Backup(to string) (Copied, error) {
 	found, err := s.numbers("backup "+word([]byte(to)), "frame", "pages", "pairs")
 	return Copied{found[0], found[1], found[2]}, err
 }
 
 // ask asks one request.
-func (s *Store) ask(line string) (string, error) {
+func (s *served) ask(line string) (string, error) {
 	answers, err := s.burst([]string{line})
 	if err != nil {
 		return "", err
@@ -360,7 +378,7 @@ func (s *Store) ask(line string) (string, error) {
 }
 
 // burst asks many requests. All answers of a burst are read before its first refusal is returned.
-func (s *Store) burst(lines []string) ([]string, error) {
+func (s *served) burst(lines []string) ([]string, error) {
 	var all []string
 	for first := true; first || len(lines) > 0; first = false {
 		some := lines
@@ -376,9 +394,7 @@ func (s *Store) burst(lines []string) ([]string, error) {
 			if refusal := refusalIn(answer); refusal != nil {
 				return nil, refusal
 			}
-			isChange := strings.HasPrefix(some[i], "put ") || strings.HasPrefix(some[i], "del ") ||
-				strings.HasPrefix(some[i], "group ")
-			if isChange && answer != "ok" {
+			if isChange(some[i]) && answer != "ok" {
 				return nil, s.child.noAnswer(answer)
 			}
 		}
@@ -387,7 +403,17 @@ func (s *Store) burst(lines []string) ([]string, error) {
 	return all, nil
 }
 
-func (s *Store) numbers(line string, names ...string) ([]uint64, error) {
+// isChange says whether a request changes something, so that its only answer is ok.
+func isChange(line string) bool {
+	for _, name := range []string{"put ", "del ", "group ", "batch ", "create ", "drop "} {
+		if strings.HasPrefix(line, name) {
+			return true
+		}
+	}
+	return false
+}
+
+func (s *served) numbers(line string, names ...string) ([]uint64, error) {
 	answer, err := s.ask(line)
 	if err != nil {
 		return make([]uint64, len(names)), err
@@ -396,7 +422,7 @@ func (s *Store) numbers(line string, names ...string) ([]uint64, error) {
 }
 
 // numbersIn gives the numbers after these words of an answer.
-func (s *Store) numbersIn(answer string, names ...string) ([]uint64, error) {
+func (s *served) numbersIn(answer string, names ...string) ([]uint64, error) {
 	found, words := make([]uint64, len(names)), strings.Split(answer, " ")
 	for i, name := range names {
 		at := 0
@@ -495,6 +521,10 @@ func refusalIn(answer string) error {
 			kind = Full
 		case "E6", "E7":
 			kind = Failed
+		case "E21":
+			kind = NoTable
+		case "E22":
+			kind = TableExists
 		}
 	}
 	return &Error{kind, answer}

@@ -1,6 +1,6 @@
 #!/usr/bin/env python3
-"""The clients of clients/, each over the built program, asked by one table of cases (tests/program/clients/table.toml): a program in each
-language, ask.*, answers requests by its client, and each answer is compared with what the table says.
+"""The clients of clients/, each over the built program, asked by one table of cases (tests/program/clients/table.toml, and tables.toml of
+tables): a program in each language, ask.*, answers requests by its client, and each answer is compared with what the table says.
 
     clients.py [COUNT [LANGUAGE..]]
 
@@ -26,10 +26,10 @@ from checks import BUILT, FAST, Wrong, ask, expect, shim_of
 HERE = os.path.dirname(os.path.abspath(__file__))
 TOP = os.path.abspath(os.path.join(HERE, "..", ".."))
 ASK = os.path.join(HERE, "clients", "ask")
-TABLE = os.path.join(HERE, "clients", "table.toml")
+CASES = [os.path.join(HERE, "clients", name) for name in ("table.toml", "tables.toml")]
 PROGRAM = os.path.abspath(BUILT)
 PYTHON, CRATE, MODULE = (os.path.join(TOP, "clients", name) for name in ("python", "rust", "go"))
-CLIENT_IN_C = [os.path.join(TOP, "clients", "c", name) for name in ("hechdoram.c", "hechdoram_scan.c")]
+CLIENT_IN_C = [os.path.join(TOP, "clients", "c", name) for name in ("hechdoram.c", "hechdoram_scan.c", "hechdoram_tables.c")]
 PAGE = os.path.join(TOP, "docs", "USING.md")
 OUT = os.path.join(TOP, "out")
 SEED = 84
@@ -81,6 +81,8 @@ def fakes_in(folder):
     found = {name: "echo %s\nexec cat > /dev/null" % line for name, line in OTHERS.items()}
     found.update({name: "echo ready frame 0 protocol 1\n" + text for name, text in FAKES.items()})
     found["mute"] = "exit 7"
+    # The program itself, which says first by which number it is killed.
+    found["killed"] = 'for word in "$@"; do case $word in --dir=*) echo $$ > "${word#--dir=}.pid";; esac; done\nexec "%s" "$@"' % PROGRAM
     return {name: script_in(folder, name, text) for name, text in found.items()}
 
 
@@ -211,6 +213,11 @@ def plain(text, names):
     return re.sub(r'(?:"([^"]*)"|0x([0-9a-f]*))(?:\*(\d+))?', hexed, text.strip()).format(**names)
 
 
+def cases_in(path):
+    with open(path, "rb") as file:
+        return tomllib.load(file)["cases"]
+
+
 def rows_of(case, names):
     """The requests of a case, and their answers."""
     for line in case["lines"].strip().splitlines():
@@ -219,7 +226,9 @@ def rows_of(case, names):
 
 
 def is_as(found, wanted):
-    """Whether an answer is that of the table, which may leave out the words of an error."""
+    """Whether an answer is that of the table, which may leave out the words of an error, or behind a star its end."""
+    if wanted.endswith(" *"):
+        return found.startswith(wanted[:-1])
     return found == wanted or (re.fullmatch(r"error \w+", wanted) and found.startswith(wanted + " "))
 
 
@@ -457,8 +466,7 @@ def main():
     if not os.path.isfile(PROGRAM):
         print(PROGRAM + " is not built: make run")
         return 1
-    with open(TABLE, "rb") as file:
-        cases = tomllib.load(file)["cases"]
+    cases = [case for path in CASES for case in cases_in(path)]
     env = {**os.environ, "PYTHONPATH": PYTHON, "PYTHONDONTWRITEBYTECODE": "1"}
     env.pop("HECHDORAM_READ", None)
     library = os.path.join(OUT, "libhechdoram_read.so")

@@ -17,8 +17,8 @@ PROTOCOL = "1"
 LEFT = "a call has no answer: it was left before that was read, or goes on"
 CLOSED = "the store was closed"
 FORKED = "the store is of the process that this one was forked from"
-# No answer is longer: 1,024 pairs in hex have fewer bytes.
-LONGEST = 1 << 21
+# No answer is longer: 1,024 pairs in hex have fewer bytes; of tables 1 MiB of pairs and one more.
+LONGEST, LONGEST_OF_TABLES = 1 << 21, 1 << 26
 
 
 def there(pipe: IO[bytes] | None) -> IO[bytes]:
@@ -43,10 +43,13 @@ class Child:
     Whatever leaves it meanwhile, no later answer is taken for that of another request.
     """
 
-    def __init__(self, words: Sequence[str]) -> None:
+    def __init__(self, words: Sequence[str], has_tables: bool = False) -> None:
         self._why: Error = Ended(LEFT)
         self._in_step = False
-        self._unread = b""
+        self._longest = LONGEST_OF_TABLES if has_tables else LONGEST
+        # The parts of a line whose end was not read yet, and how many bytes they have.
+        self._unread: list[bytes] = []
+        self._count = 0
         self._owner = os.getpid()
         # Whoever has it may come again, as from the handler of a signal.
         self.lock = threading.RLock()
@@ -58,7 +61,7 @@ class Child:
         self._output = there(self._process.stdout)
         self._errors = there(self._process.stderr)
         try:
-            self._greeted(self._exchange(b"", 1)[0])
+            self._greeted(self._exchange(b"", 1)[0], has_tables)
             self._in_step = True
         except BaseException:
             self.end()
@@ -148,22 +151,30 @@ class Child:
             status = "bwlog ended with status %s"
             self._why = end_by(self._last_words() or status % self._process.wait())
             raise type(self._why)(*self._why.args)
-        *lines, self._unread = (self._unread + data).split(b"\n")
+        *lines, rest = data.split(b"\n")
+        if lines:
+            lines[0] = b"".join([*self._unread, lines[0]])
+            self._unread, self._count = [], 0
+        if rest:
+            self._unread.append(rest)
+            self._count += len(rest)
         try:
-            if len(self._unread) <= LONGEST:
+            if self._count <= self._longest:
                 return [line.decode("ascii") for line in lines]
         except UnicodeDecodeError:
             pass
         raise self._lost("an answer that is no line")
 
-    def _greeted(self, answer: str) -> None:
+    def _greeted(self, answer: str, has_tables: bool) -> None:
         """Refuses a program of another protocol: the first answer is `ready frame N protocol 1`,
-        maybe with more after it."""
+        maybe with more after it; where tables are served, the word `tables`."""
         words = answer.split(" ")
         if words[0] == "refused":
             raise end_by(self._last_words() or answer)
         if words[:2] != ["ready", "frame"] or words[3:5] != ["protocol", PROTOCOL]:
             raise Ended(f"no protocol {PROTOCOL}: {answer}")
+        if has_tables and "tables" not in words[5:]:
+            raise Ended(f"no tables: {answer}")
 
     def _last_words(self) -> str:
         """What a child that ends has written on its standard error."""

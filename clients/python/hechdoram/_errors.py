@@ -25,9 +25,18 @@ class Failed(Refused):
     answer: `reopen` goes on from all that is durable."""
 
 
+class NoTable(Refused):
+    """No table has this name (`refused E21 NoTable`)."""
+
+
+class TableExists(Refused):
+    """A table has this name already (`refused E22 Exists`)."""
+
+
 class TooLong(Error, ValueError):
-    """A key has not 1 to 128 bytes, a value more than 512, or a group is more than one step takes.
-    Nothing was asked."""
+    """A key has not 1 to 128 bytes, a value more than 512, or a group is more than one step takes;
+    of tables, a name has not 1 to 127 bytes, a key not 1 to 124, a value more than 16 MiB, or a
+    batch is more than one takes. Nothing was asked."""
 
 
 class Ended(Error):
@@ -51,7 +60,14 @@ class NoStore(Error):
 
 
 # The refusals that have a kind of their own, by their number.
-KINDS: dict[str, type[Refused]] = {"E2": Full, "E5": Full, "E6": Failed, "E7": Failed}
+KINDS: dict[str, type[Refused]] = {
+    "E2": Full,
+    "E5": Full,
+    "E6": Failed,
+    "E7": Failed,
+    "E21": NoTable,
+    "E22": TableExists,
+}
 # What the program says of a folder that it does not open.
 IN_USE = re.compile(r": in use$", re.M)
 DAMAGED = re.compile(

@@ -2,16 +2,15 @@
 
 from __future__ import annotations
 
-import os
 from collections.abc import Iterable, Iterator, Mapping, MutableMapping
 from contextlib import contextmanager
 from itertools import chain, islice
-from types import TracebackType
-from typing import Any, NamedTuple, TypeVar, Union
+from typing import Any, TypeVar, Union
 
-from ._child import Child, unrefused
+from ._child import unrefused
 from ._errors import TooLong
 from ._pairs import Pairs
+from ._served import PathLike, Served
 from ._words import (
     Pair,
     Span,
@@ -26,7 +25,6 @@ from ._words import (
 )
 
 T = TypeVar("T")
-PathLike = Union[str, bytes, "os.PathLike[str]", "os.PathLike[bytes]"]
 # A key, and its value, or None if the key is deleted.
 Change = tuple[bytes, Union[bytes, None]]
 
@@ -36,23 +34,6 @@ MOST_RECORDS, MOST_KEYS, MOST_BYTES = 4, 64, 4096
 BURST = 16384
 # How many pairs a walk asks for at once, at first and at most.
 FIRST_PAIRS, MOST_PAIRS = 8, 512
-
-
-class Reopened(NamedTuple):
-    """What `reopen` found."""
-
-    frame: int
-    """The last frame of the folder; 0 of an empty store."""
-    lost: int
-    """How many changes that had been taken are gone, since no frame has them."""
-
-
-class Copied(NamedTuple):
-    """What a backup holds."""
-
-    frame: int
-    pages: int
-    pairs: int
 
 
 class Batch:
@@ -133,7 +114,7 @@ def pair_in(words: str) -> Pair:
     return bytes_of(key), bytes_of(value)
 
 
-class Store(Pairs, MutableMapping[bytes, bytes]):
+class Store(Served, Pairs, MutableMapping[bytes, bytes]):
     """The store in a folder: a mapping that can be changed.
 
         with hechdoram.open("folder") as store:
@@ -162,36 +143,9 @@ class Store(Pairs, MutableMapping[bytes, bytes]):
     ) -> None:
         """Opens the store of a folder, which is made if it is missing, by a child process
         `bwlog serve`. The options are those of the program (docs/USING.md, "Options")."""
-        self._folder = os.fsdecode(folder)
         options = dict(capacity=capacity, segments=segments, m=m, frame=frame, places=places)
         options["most-segments"] = most_segments
-        words = [os.fsdecode(program), "serve", "--dir=" + self._folder]
-        words += [f"--{name}={number}" for name, number in options.items() if number is not None]
-        self._child = Child(words)
-
-    def __repr__(self) -> str:
-        state = "closed" if self._child.has_ended() else "open"
-        return f"<hechdoram.Store {self._folder!r}, {state}>"
-
-    def __enter__(self) -> Store:
-        return self
-
-    def __exit__(
-        self,
-        kind: type[BaseException] | None,
-        value: BaseException | None,
-        trace: TracebackType | None,
-    ) -> None:
-        try:
-            if kind is None:
-                self.close()
-        finally:
-            self.abandon()
-
-    def __del__(self) -> None:
-        child = getattr(self, "_child", None)
-        if child is not None and not child.has_ended():
-            child.end()
+        super().__init__(folder, program, [], options)
 
     # What a mapping has
 
@@ -299,78 +253,7 @@ class Store(Pairs, MutableMapping[bytes, bytes]):
         if is_key(found):
             self._child.ask_for([b"del " + word_of(found)], "ok")
 
-    def keep(self) -> int | None:
-        """Makes durable what was put: the number of the last frame; None if nothing was new."""
-        answer = self._child.ask(b"flush")
-        return None if answer == "no frame" else self._number(answer, "frame")
-
-    def reopen(self) -> Reopened:
-        """Opens the folder once more, in the same process: it is for a store that Failed, and goes
-        on from all that is durable. What can still be kept is, before."""
-        answer = self._child.ask(b"reopen")
-        return Reopened(self._number(answer, "frame"), self._number(answer, "lost"))
-
-    def stats(self) -> dict[str, int]:
-        """The store's numbers, by their names in the program's answer: `history`, `durable` (the
-        last frame), `segments`, `spares`, `pages`; and `failed`, which is 1 after a write that
-        failed, and else 0."""
-        found, name = {"failed": 0}, ""
-        for word in self._child.ask(b"stats").split(" "):
-            if word.isdecimal():
-                found[name] = int(word)
-            else:
-                name = word
-                found[name] = 1
-        return found
-
-    def clean(self) -> int:
-        """Gives up the oldest segment, whose room is free again: how many bytes that won."""
-        return self._number(self._child.ask(b"clean"), "won")
-
-    def add(self) -> int:
-        """Adds a segment: its number."""
-        return self._number(self._child.ask(b"add"), "added")
-
-    def backup(self, to: PathLike) -> Copied:
-        """Keeps what was put, and copies the store into a new folder. A relative path begins where
-        this process was when it opened the store."""
-        answer = self._child.ask(b"backup " + word_of(os.fsencode(to)))
-        return Copied(*(self._number(answer, name) for name in Copied._fields))
-
-    def close(self) -> None:
-        """Keeps what was put, and ends the child. If that is refused the store stays open. A
-        second close does nothing."""
-        with self._child.lock:
-            if not self._child.has_ended():
-                self.keep()
-                self._child.ask_for([b"quit"], "bye")
-                self._child.end()
-
-    def abandon(self) -> None:
-        """Ends the child, and keeps nothing more. A second call does nothing."""
-        self._child.end()
-
     # Answers
-
-    def _number(self, answer: str, name: str) -> int:
-        """The number after a word of an answer."""
-        words = answer.split(" ")
-        try:
-            return int(words[words.index(name) + 1])
-        except (ValueError, IndexError):
-            raise self._child.no_answer(answer) from None
-
-    def _value_in(self, answer: str) -> bytes | None:
-        """The value that an answer says."""
-        if answer == "none":
-            return None
-        name, _, word = answer.partition(" ")
-        try:
-            if name == "value":
-                return bytes_of(word)
-        except ValueError:
-            pass
-        raise self._child.no_answer(answer)
 
     def _values_in(self, line: bytes, answer: str) -> list[bytes | None]:
         """The values that an answer to many keys says: a word for each, or `=`."""

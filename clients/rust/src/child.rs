@@ -12,8 +12,9 @@ const CLOSED: &str = "the store was closed";
 const NO_LINE: &str = "an answer that is no line";
 /// What an empty pipe takes at once.
 const AT_ONCE: usize = 4096;
-/// No answer is longer: 1,024 pairs in hex have fewer bytes.
+/// No answer is longer: 1,024 pairs in hex have fewer bytes; of tables 1 MiB of pairs and one more.
 const LONGEST: u64 = 1 << 21;
+const LONGEST_OF_TABLES: u64 = 1 << 26;
 
 /// A program that answers.
 pub(crate) struct Child {
@@ -25,15 +26,17 @@ pub(crate) struct Child {
     why: Option<Error>,
     /// Whether the child was waited for.
     is_closed: bool,
+    /// Whether it serves tables.
+    has_tables: bool,
 }
 
 impl Child {
-    /// Begins a program, and reads its first answer.
-    pub fn begin(command: &mut Command) -> Result<Child> {
+    /// Begins a program, which may serve tables, and reads its first answer.
+    pub fn begin(command: &mut Command, has_tables: bool) -> Result<Child> {
         let pipes = command.stdin(Stdio::piped()).stdout(Stdio::piped()).stderr(Stdio::piped());
         let mut process = pipes.spawn()?;
         let ways = process.stdin.take().zip(process.stdout.take().map(BufReader::new));
-        let mut child = Child { process, pipes: ways, why: None, is_closed: false };
+        let mut child = Child { process, pipes: ways, why: None, is_closed: false, has_tables };
         let answer = match child.line() {
             Ok(answer) => answer,
             Err(error) => return Err(child.end(error)),
@@ -45,11 +48,14 @@ impl Child {
     }
 
     /// What a first answer is refused for: it is `ready frame N protocol 1`, maybe with more after
-    /// it.
+    /// it; where tables are served, the word `tables`.
     fn greeted(&mut self, answer: &str) -> Option<Error> {
         let words: Vec<&str> = answer.split(' ').collect();
         match words.as_slice() {
-            ["ready", "frame", _, "protocol", "1", ..] => None,
+            ["ready", "frame", _, "protocol", "1", rest @ ..] => {
+                let is_other = self.has_tables && !rest.contains(&"tables");
+                is_other.then(|| Error::ended(format!("no tables: {answer}")))
+            }
             ["refused", ..] => {
                 let words = self.last_words();
                 Some(Error::end_by(if words.is_empty() { answer } else { &words }))
@@ -124,11 +130,12 @@ impl Child {
     /// The next answer. If there is none, the child's own words say why.
     fn line_of(&mut self, output: &mut Option<BufReader<ChildStdout>>) -> Result<String> {
         let mut line = Vec::new();
+        let longest = if self.has_tables { LONGEST_OF_TABLES } else { LONGEST };
         let read = match output.as_mut() {
-            Some(output) => output.take(LONGEST).read_until(b'\n', &mut line)?,
+            Some(output) => output.take(longest).read_until(b'\n', &mut line)?,
             None => 0,
         };
-        if read as u64 == LONGEST || (line.last() == Some(&b'\n') && !is_text(&line)) {
+        if read as u64 == longest || (line.last() == Some(&b'\n') && !is_text(&line)) {
             return Err(Error::ended(NO_LINE));
         }
         if line.pop() == Some(b'\n') {

@@ -15,8 +15,13 @@ pub enum Kind {
     /// before (`refused E7 Failed`). Then nothing more is kept, and reads still answer: `reopen`
     /// goes on from all that is durable.
     Failed,
-    /// A key has not 1 to 128 bytes, a value more than 512, or a group is more than one step takes.
-    /// Nothing was asked.
+    /// No table has this name (`refused E21 NoTable`).
+    NoTable,
+    /// A table has this name already (`refused E22 Exists`).
+    TableExists,
+    /// A key has not 1 to 128 bytes, a value more than 512, or a group is more than one step takes;
+    /// of tables, a name has not 1 to 127 bytes, a key not 1 to 124, a value more than 16 MiB, or a
+    /// batch is more than one takes. Nothing was asked.
     TooLong,
     /// No further request is answered: the store was closed, its program has ended, or a call was
     /// left before its answer was read.
@@ -76,6 +81,8 @@ impl Error {
         let kind = match (name, rest.split(' ').next()) {
             ("refused", Some("E2" | "E5")) => Kind::Full,
             ("refused", Some("E6" | "E7")) => Kind::Failed,
+            ("refused", Some("E21")) => Kind::NoTable,
+            ("refused", Some("E22")) => Kind::TableExists,
             ("refused" | "fault", _) => Kind::Refused,
             _ => return None,
         };

@@ -14,6 +14,19 @@
 //! # Ok::<(), hechdoram::Error>(())
 //! ```
 //!
+//! A folder of tables has maps by their names, with values of up to 16 MiB:
+//!
+//! ```no_run
+//! use hechdoram::{TableBatch, TableStore};
+//!
+//! let store = TableStore::open("other")?;
+//! let users = store.create_table("users")?;
+//! users.put("1", vec![b'a'; 100_000])?;
+//! store.batch(TableBatch::new().put("users", "2", "bob").delete("users", "1"))?; // one step
+//! store.close()?;
+//! # Ok::<(), hechdoram::Error>(())
+//! ```
+//!
 //! With the feature `read` there is a [`Reader`] too, which reads a folder whole in this process,
 //! over the library that `make lib` makes; it has the same names for what both have.
 //!
@@ -25,21 +38,30 @@ mod error;
 #[cfg(feature = "read")]
 mod reader;
 mod scan;
+mod served;
 mod span;
 mod store;
+mod tables;
 mod words;
 
 pub use error::{Error, Kind, Result};
 #[cfg(feature = "read")]
 pub use reader::{Pairs, Reader};
 pub use scan::Scan;
+pub use served::{Copied, Reopened, Stats};
 pub use span::{after, Span};
-pub use store::{Batch, Copied, Options, Reopened, Stats, Store};
+pub use store::{Batch, Options, Store};
+pub use tables::{Table, TableBatch, TableScan, TableStore};
 
 /// The most bytes of a key.
 pub const MAX_KEY: usize = 128;
 /// The most bytes of a value.
 pub const MAX_VALUE: usize = 512;
+
+/// The most bytes of a table's name, of a key of a table, and of a value of one.
+pub const MAX_NAME: usize = 127;
+pub const MAX_TABLE_KEY: usize = 124;
+pub const MAX_TABLE_VALUE: usize = 16_777_216;
 
 /// A key and its value.
 pub type Pair = (Vec<u8>, Vec<u8>);

@@ -60,12 +60,17 @@ impl Span {
         self
     }
 
+    /// The bytes at which it begins, and those below which it is.
+    pub(crate) fn bounds(&self) -> (&[u8], Option<Vec<u8>>) {
+        let start = self.start.as_deref().unwrap_or_default();
+        let high = [after_all_of(&self.prefix), self.stop.clone()].into_iter().flatten().min();
+        (start.max(&self.prefix), high)
+    }
+
     /// What is left of a walk at its beginning.
     pub(crate) fn left(&self) -> Left {
-        let start = self.start.as_deref().unwrap_or_default();
-        let low = lowest(start.max(&self.prefix));
-        let high = [after_all_of(&self.prefix), self.stop.clone()].into_iter().flatten().min();
-        Left { low, high }
+        let (low, high) = self.bounds();
+        Left { low: lowest(low), high }
     }
 }
 

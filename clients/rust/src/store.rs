@@ -1,17 +1,14 @@
 //! A store in a folder, written and read over a child process.
 
-use crate::child::Child;
+use crate::served::{ok_in, Copied, Reopened, Served, Stats};
 use crate::span::lowest;
+use crate::tables::TableStore;
 use crate::words::{
     check, is_key, line_of, number_in, pair_in, pairs_in, push_change, push_word, value_in,
     values_in,
 };
 use crate::{Error, Kind, Pair, Result, Scan, Span, MAX_KEY};
-use std::ffi::OsString;
-use std::os::unix::ffi::OsStrExt;
 use std::path::{Path, PathBuf};
-use std::process::Command;
-use std::sync::{Mutex, MutexGuard, PoisonError};
 
 /// The most records of one step, and the most bytes of a line.
 const MOST_RECORDS: usize = 4;
@@ -78,14 +75,18 @@ impl Options {
 
     /// Opens the store of a folder, which is made if it is missing.
     pub fn open(&self, folder: impl AsRef<Path>) -> Result<Store> {
-        let program = self.program.as_deref().unwrap_or(Path::new("bwlog"));
-        let mut dir = OsString::from("--dir=");
-        dir.push(folder.as_ref());
-        let mut command = Command::new(program);
-        command.arg("serve").arg(dir);
-        command.args(self.numbers.iter().map(|(name, number)| format!("--{name}={number}")));
-        let child = Mutex::new(Child::begin(&mut command)?);
-        Ok(Store { child })
+        let served = self.serve(folder.as_ref(), false)?;
+        Ok(Store { served })
+    }
+
+    /// Opens the tables of a folder, which is made if it is missing. A folder whose pairs are no
+    /// tables is refused, as [`Kind::Ended`] with the program's words.
+    pub fn open_tables(&self, folder: impl AsRef<Path>) -> Result<TableStore> {
+        Ok(TableStore::over(self.serve(folder.as_ref(), true)?))
+    }
+
+    fn serve(&self, folder: &Path, has_tables: bool) -> Result<Served> {
+        Served::open(self.program.as_ref(), folder, &self.numbers, has_tables)
     }
 }
 
@@ -182,38 +183,6 @@ fn push_words(line: &mut Vec<u8>, key: &[u8], value: Option<&[u8]>) {
     }
 }
 
-/// What `reopen` found.
-#[derive(Debug, Clone, Copy, PartialEq, Eq)]
-pub struct Reopened {
-    /// The last frame of the folder; 0 of an empty store.
-    pub frame: u64,
-    /// How many changes that had been taken are gone, since no frame has them.
-    pub lost: u64,
-}
-
-/// What a backup holds.
-#[derive(Debug, Clone, Copy, PartialEq, Eq)]
-pub struct Copied {
-    pub frame: u64,
-    pub pages: u64,
-    pub pairs: u64,
-}
-
-/// The store's numbers.
-#[derive(Debug, Clone, Copy, PartialEq, Eq)]
-#[non_exhaustive]
-pub struct Stats {
-    /// How many changes this run took.
-    pub history: u64,
-    /// The last frame.
-    pub durable: u64,
-    pub segments: u64,
-    pub spares: u64,
-    pub pages: u64,
-    /// Whether a write failed: `reopen`.
-    pub failed: bool,
-}
-
 /// The store in a folder.
 ///
 /// What was put is seen at once, and durable once `keep` or `close` has answered. A store that is
@@ -221,7 +190,7 @@ pub struct Stats {
 /// that is left before its answer was read, as by a panic, ends the store: each later one is
 /// [`Kind::Ended`].
 pub struct Store {
-    child: Mutex<Child>,
+    served: Served,
 }
 
 impl Store {
@@ -230,44 +199,13 @@ impl Store {
         Options::new().open(folder)
     }
 
-    /// A call that was left is noted in the child itself.
-    fn child(&self) -> MutexGuard<'_, Child> {
-        self.child.lock().unwrap_or_else(PoisonError::into_inner)
-    }
-
-    /// Asks one request, and reads its answer by this.
-    fn ask<T>(&self, line: &[u8], read: impl Fn(&str) -> Option<T>) -> Result<T> {
-        let answers = self.burst(&mut self.child(), &[line.to_vec()], read)?;
-        answers.into_iter().next().ok_or_else(|| Error::ended("no answer"))
-    }
-
-    /// Asks many requests. All answers are read before the first refusal is returned.
-    fn burst<T>(
-        &self,
-        child: &mut Child,
-        lines: &[Vec<u8>],
-        read: impl Fn(&str) -> Option<T>,
-    ) -> Result<Vec<T>> {
-        let mut requests = lines.join(&b'\n');
-        requests.extend_from_slice(if lines.is_empty() { b"" } else { b"\n" });
-        let answers = child.ask(&requests, lines.len())?;
-        if let Some(error) = answers.iter().find_map(|answer| Error::refusal_in(answer)) {
-            return Err(error);
-        }
-        let mut found = Vec::with_capacity(answers.len());
-        for answer in &answers {
-            found.push(read(answer).ok_or_else(|| child.no_answer(answer))?);
-        }
-        Ok(found)
-    }
-
     /// Sets the value of a key.
     pub fn put(&self, key: impl AsRef<[u8]>, value: impl AsRef<[u8]>) -> Result<()> {
         let (key, value) = (key.as_ref(), value.as_ref());
         check(key, value)?;
         let mut line = Vec::new();
         push_change(&mut line, key, Some(value));
-        self.ask(&line, ok_in)
+        self.served.ask(&line, ok_in)
     }
 
     /// Deletes a key, if it is there.
@@ -275,16 +213,16 @@ impl Store {
         if !is_key(key.as_ref()) {
             return Ok(());
         }
-        self.ask(&line_of("del", key.as_ref()), ok_in)
+        self.served.ask(&line_of("del", key.as_ref()), ok_in)
     }
 
     /// The value of a key, if it has one.
     pub fn get(&self, key: impl AsRef<[u8]>) -> Result<Option<Vec<u8>>> {
         if !is_key(key.as_ref()) {
-            self.burst(&mut self.child(), &[], ok_in)?; // a store that has ended says so
+            self.served.burst(&mut self.served.child(), &[], ok_in)?; // a store that has ended says so
             return Ok(None);
         }
-        self.ask(&line_of("get", key.as_ref()), value_in)
+        self.served.ask(&line_of("get", key.as_ref()), value_in)
     }
 
     /// The values of many keys, in their order, asked in bursts.
@@ -311,8 +249,8 @@ impl Store {
 
     /// Asks for the values of keys, and notes each at its place.
     fn fill(&self, values: &mut [Option<Vec<u8>>], places: &[usize], lines: &Lines) -> Result<()> {
-        let child = &mut self.child();
-        let answers = self.burst(child, &lines.lines, |answer| Some(answer.to_string()))?;
+        let child = &mut self.served.child();
+        let answers = self.served.burst(child, &lines.lines, |answer| Some(answer.to_string()))?;
         let mut places = places.iter();
         for (answer, count) in answers.iter().zip(&lines.counts) {
             let found = values_in(answer, *count).ok_or_else(|| child.no_answer(answer))?;
@@ -339,11 +277,11 @@ impl Store {
             check(key, value)?;
             lines.push(key, Some(value));
             if lines.total == BURST {
-                self.burst(&mut self.child(), &lines.lines, ok_in)?;
+                self.served.burst(&mut self.served.child(), &lines.lines, ok_in)?;
                 lines = Lines::new(b"puts");
             }
         }
-        self.burst(&mut self.child(), &lines.lines, ok_in).map(|_| ())
+        self.served.burst(&mut self.served.child(), &lines.lines, ok_in).map(|_| ())
     }
 
     /// Makes one to four changes in one step: whatever happens, all are there or none. More are
@@ -354,16 +292,16 @@ impl Store {
         if lines.len() > 1 {
             return Err(Error::new(Kind::TooLong, LONG_GROUP));
         }
-        self.burst(&mut self.child(), &lines, ok_in).map(|_| ())
+        self.served.burst(&mut self.served.child(), &lines, ok_in).map(|_| ())
     }
 
     /// Makes many changes in groups, in their order. Up to four records are one step, as of
     /// `group`; of more, whatever stops them, a beginning is there. The first refusal ends the
     /// batch there.
     pub fn batch(&self, changes: &Batch) -> Result<()> {
-        let mut child = self.child();
+        let mut child = self.served.child();
         for line in changes.groups()? {
-            self.burst(&mut child, &[line], ok_in)?;
+            self.served.burst(&mut child, &[line], ok_in)?;
         }
         Ok(())
     }
@@ -371,7 +309,7 @@ impl Store {
     /// The pair with the least key at or above these bytes, if there is one.
     pub fn at_or_above(&self, key: impl AsRef<[u8]>) -> Result<Option<Pair>> {
         match lowest(key.as_ref()) {
-            Some(low) => self.ask(&line_of("next", &low), pair_in),
+            Some(low) => self.served.ask(&line_of("next", &low), pair_in),
             None => Ok(None),
         }
     }
@@ -382,7 +320,7 @@ impl Store {
         if key.is_empty() {
             return Ok(None);
         }
-        self.ask(&line_of("prev", &key[..key.len().min(MAX_KEY)]), pair_in)
+        self.served.ask(&line_of("prev", &key[..key.len().min(MAX_KEY)]), pair_in)
     }
 
     /// The pair with the greatest key below these bytes, if there is one.
@@ -393,7 +331,7 @@ impl Store {
     /// The pair with the greatest key below this one, or of all.
     pub(crate) fn last_below(&self, key: Option<&[u8]>) -> Result<Option<Pair>> {
         match key {
-            Some(key) if is_key(key) => self.ask(&line_of("below", key), pair_in),
+            Some(key) if is_key(key) => self.served.ask(&line_of("below", key), pair_in),
             Some(key) => self.at_or_below(key),
             None => self.at_or_below(GREATEST),
         }
@@ -403,7 +341,7 @@ impl Store {
     pub(crate) fn first_pairs(&self, key: &[u8], most: usize) -> Result<Vec<Pair>> {
         let mut line = line_of("scan", key);
         line.extend_from_slice(format!(" {most}").as_bytes());
-        self.ask(&line, pairs_in)
+        self.served.ask(&line, pairs_in)
     }
 
     /// A walk over pairs in the order of their keys; `.rev()` walks the other way.
@@ -413,87 +351,49 @@ impl Store {
 
     /// How many pairs there are.
     pub fn count(&self) -> Result<u64> {
-        self.ask(b"count", |answer| number_in(answer, "count"))
+        self.served.ask(b"count", |answer| number_in(answer, "count"))
     }
 
     /// Makes durable what was put: the number of the last frame; `None` if nothing was new.
     pub fn keep(&self) -> Result<Option<u64>> {
-        self.ask(b"flush", kept_in)
+        self.served.keep()
     }
 
     /// Opens the folder once more, in the same child. It is for a store that [`Kind::Failed`], and
     /// goes on from all that is durable. What can still be kept is, before.
     pub fn reopen(&self) -> Result<Reopened> {
-        self.ask(b"reopen", |answer| {
-            let (frame, lost) = (number_in(answer, "frame")?, number_in(answer, "lost")?);
-            Some(Reopened { frame, lost })
-        })
+        self.served.reopen()
     }
 
     /// The store's numbers.
     pub fn stats(&self) -> Result<Stats> {
-        self.ask(b"stats", |answer| {
-            Some(Stats {
-                history: number_in(answer, "history")?,
-                durable: number_in(answer, "durable")?,
-                segments: number_in(answer, "segments")?,
-                spares: number_in(answer, "spares")?,
-                pages: number_in(answer, "pages")?,
-                failed: answer.split(' ').any(|word| word == "failed"),
-            })
-        })
+        self.served.stats()
     }
 
     /// Gives up the oldest segment, whose room is free again: how many bytes that won.
     pub fn clean(&self) -> Result<u64> {
-        self.ask(b"clean", |answer| number_in(answer, "won"))
+        self.served.clean()
     }
 
     /// Adds a segment: its number.
     pub fn add(&self) -> Result<u64> {
-        self.ask(b"add", |answer| number_in(answer, "added"))
+        self.served.add()
     }
 
     /// Keeps what was put, and copies the store into a new folder. A relative path begins where
     /// this process was when it opened the store.
     pub fn backup(&self, to: impl AsRef<Path>) -> Result<Copied> {
-        let mut line = b"backup".to_vec();
-        push_word(&mut line, to.as_ref().as_os_str().as_bytes());
-        self.ask(&line, |answer| {
-            Some(Copied {
-                frame: number_in(answer, "frame")?,
-                pages: number_in(answer, "pages")?,
-                pairs: number_in(answer, "pairs")?,
-            })
-        })
+        self.served.backup(to.as_ref())
     }
 
     /// Keeps what was put, and ends the child. If that is refused the store stays open. A second
     /// close does nothing.
     pub fn close(&self) -> Result<()> {
-        let mut child = self.child();
-        if !child.is_closed() {
-            self.burst(&mut child, &[b"flush".to_vec()], kept_in)?;
-            self.burst(&mut child, &[b"quit".to_vec()], |answer| (answer == "bye").then_some(()))?;
-            child.abandon();
-        }
-        Ok(())
+        self.served.close()
     }
 
     /// Ends the child, and keeps nothing more.
     pub fn abandon(&self) {
-        self.child().abandon();
+        self.served.abandon();
     }
-}
-
-fn ok_in(answer: &str) -> Option<()> {
-    (answer == "ok").then_some(())
-}
-
-/// The frame of an answer to a flush, or none if nothing was new.
-fn kept_in(answer: &str) -> Option<Option<u64>> {
-    if answer == "no frame" {
-        return Some(None);
-    }
-    number_in(answer, "frame").map(Some)
 }

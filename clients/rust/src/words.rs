@@ -58,9 +58,12 @@ fn bytes_of(word: &str) -> Option<Vec<u8>> {
     let Some(digits) = word.strip_prefix("0x") else {
         return (!word.is_empty()).then(|| word.as_bytes().to_vec());
     };
-    let digits: Option<Vec<u32>> = digits.chars().map(|c| c.to_digit(16)).collect();
-    let digits = digits.filter(|digits| digits.len() % 2 == 0)?;
-    Some(digits.chunks(2).map(|two| (two[0] * 16 + two[1]) as u8).collect())
+    if digits.len() % 2 != 0 {
+        return None;
+    }
+    let digit = |byte: u8| char::from(byte).to_digit(16);
+    let two = |two: &[u8]| Some((digit(two[0])? * 16 + digit(two[1])?) as u8);
+    digits.as_bytes().chunks(2).map(two).collect()
 }
 
 /// The value of an answer, or none; `None` of what is no answer to a look-up.
@@ -102,6 +105,22 @@ pub(crate) fn pairs_in(answer: &str) -> Option<Vec<Pair>> {
     let count: usize = words.next()?.parse().ok()?;
     let pairs: Vec<Pair> = words.map(pair_of).collect::<Option<_>>()?;
     (pairs.len() == count).then_some(pairs)
+}
+
+/// The pairs of an answer about a table, and whether it ended for its length.
+pub(crate) fn rows_in(answer: &str) -> Option<(Vec<Pair>, bool)> {
+    match answer.strip_suffix(" more") {
+        Some(front) => Some((pairs_in(front)?, true)),
+        None => Some((pairs_in(answer)?, false)),
+    }
+}
+
+/// The names of an answer.
+pub(crate) fn names_in(answer: &str) -> Option<Vec<Vec<u8>>> {
+    let mut words = answer.strip_prefix("tables ")?.split(' ');
+    let count: usize = words.next()?.parse().ok()?;
+    let names: Vec<Vec<u8>> = words.map(bytes_of).collect::<Option<_>>()?;
+    (names.len() == count).then_some(names)
 }
 
 /// The number after a word of an answer.

@@ -46,6 +46,13 @@ fn bytes_of_deletes(group: &Group) -> Option<u64> {
     Some(bytes)
 }
 
+/// Whether it is asked once more if room can be made: so much was taken since that each page needs to
+/// be looked at no more than once for eight records.
+pub(crate) fn is_asked_again(home: &Home, full: Full) -> bool {
+    let since = taken(home).saturating_sub(full.taken);
+    since > u64::from(home.store.pages()) / 8
+}
+
 impl Tending {
     /// Whether no room can be made, and groups have to be admitted one by one.
     pub fn is_full(&self) -> bool {
@@ -76,7 +83,7 @@ impl Tending {
     }
 
     /// How many bytes deletes may still add.
-    fn left_to_delete(&mut self, home: &mut Home, full: Full) -> Result<u64, HomeFault>
+    pub(crate) fn left_to_delete(&mut self, home: &mut Home, full: Full) -> Result<u64, HomeFault>
         requires { IsReady home.old holding }
         ensures { IsReady home.new holding }
     {
@@ -107,8 +114,7 @@ impl Tending {
         Ok(bytes <= left)
     }
 
-    /// Asks once more whether room can be made, where so much was taken since that each page needs to
-    /// be looked at no more than once for eight records.
+    /// Asks once more whether room can be made, if enough was taken since.
     fn asks_again<R: System>(
         &mut self,
         rt: &R,
@@ -118,8 +124,7 @@ impl Tending {
         requires { IsReady home.old holding }
         ensures { IsReady home.new holding }
     {
-        let since = taken(home).saturating_sub(full.taken);
-        if since <= u64::from(home.store.pages()) / 8 {
+        if !is_asked_again(home, full) {
             return Ok(Admission::No);
         }
         if self.make_room(rt, home)? {

@@ -6,6 +6,7 @@
 //! opens it alone, by `bw_home`, makes room by itself (`Tending`), and ends with a flush.
 #![tactic(auto)]
 
+mod ahead;
 mod changes;
 mod deletes;
 mod fault;

@@ -129,6 +129,17 @@ impl Measure {
             .saturating_mul(self.frame)
     }
 
+    /// How many spares are wanted so that blocks with so many bytes surely find room, where so many are
+    /// left of the newest segment, and what was taken behind the last frame goes before them.
+    pub fn spares_for(&self, rest: u64, bytes: u64) -> u64 {
+        let each = self.frames_in(self.room()).max(1);
+        let wanted = self.frames_of(bytes).saturating_add(1);
+        wanted
+            .saturating_sub(self.frames_in(rest))
+            .saturating_add(each - 1)
+            / each
+    }
+
     /// Whether a cleaning surely finds room: so many bytes of pages are written again, and what waits
     /// before them, where something does, into what is left of the newest segment and the spares.
     /// Where neither what waits nor a further record finds room without it, it is tried at the last

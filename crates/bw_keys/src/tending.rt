@@ -327,6 +327,18 @@ impl Tending {
         if self.has_spares(home) {
             return Ok(false);
         }
+        self.make_one(rt, home)
+    }
+
+    /// Makes a spare, also where more are left than room is made for; `false` if there is no way.
+    pub(crate) fn make_one<R: System>(
+        &mut self,
+        rt: &R,
+        home: &mut Home,
+    ) -> Result<bool, HomeFault>
+        requires { IsReady home.old holding }
+        ensures { IsReady home.new holding }
+    {
         let needed = needed_of_oldest(home);
         if self.clean_if_it_pays(rt, home, needed)? {
             return Ok(true);

@@ -3,6 +3,7 @@
 ghost use Rattle.bw_home.specs.Ready.{IsReady};
 
 use crate::events::{FIRST, Standing, numbers_of};
+use crate::tables::{TableAnswer, write_table_answer};
 use bw_codec::{Key, Leaf, Pair, Value};
 use bw_core::{Cleaned, PackedEntry};
 use bw_file::FolderFault;
@@ -72,6 +73,8 @@ pub enum Answer {
     Segments,
     /// With what is told of the store beside what it says itself.
     Stats(Standing),
+    /// What a call on tables comes to.
+    Tables(TableAnswer),
 }
 
 fn write_cleaned<O: Write>(out: &mut Printer<'_, O>, cleaned: &Cleaned) {
@@ -246,6 +249,7 @@ fn write_all<O: Write>(out: &mut Printer<'_, O>, home: &Home, answer: &Answer)
         Answer::Cuts => write_cuts(out, home.store.cuts()),
         Answer::Segments => write_segments(out, home),
         Answer::Stats(standing) => write_stats(out, home, *standing),
+        Answer::Tables(answer) => write_table_answer(out, answer),
         _ => write_answer(out, answer),
     }
 }

@@ -181,6 +181,14 @@ fn tell_stop<E: Write>(errors: &mut E, folders: Folders<'_>, stop: Stop) -> Resu
             out.named("folder ", folders.source);
             out.text(b": no store\n");
         }
+        Stop::HasTables => {
+            out.named("folder ", folders.dir);
+            out.text(b": it has tables, and no pairs of its own: give --tables\n");
+        }
+        Stop::NoTables => {
+            out.named("folder ", folders.dir);
+            out.text(b": it has pairs of its own, and no tables: leave out --tables\n");
+        }
         Stop::Within => {
             out.named("folder ", folders.dir);
             out.line(": it lies in the folder that is read, ", folders.source);
@@ -228,7 +236,7 @@ fn tell_not_noted<E: Write>(
 /// What to do where the log had no room. A mode tells it whose lines can make some.
 fn advice_of(mode: &Mode<'_>) -> Option<&'static [u8]> {
     match mode {
-        Mode::Lines(_, Manner::Requests | Manner::Shell | Manner::Prompted) => None,
+        Mode::Lines(_, manner) if manner.is_served() || manner.is_shell() => None,
         Mode::Lines(options, _) if options.most > 0 => Some(
             b"the log is full, with as many segments as --most-segments adds: a greater number, or \
                 `clean` and `add`, make room\n",
@@ -303,6 +311,7 @@ fn status_of<O: Write, E: Write>(
                 Stop::BadTime if is_told => 2,
                 Stop::Fault(..) if is_told => 3,
                 Stop::NotNoted(..) | Stop::GivenUp { .. } if is_told => 4,
+                Stop::HasTables | Stop::NoTables if is_told => 4,
                 Stop::Folder(fault) | Stop::Source(fault) | Stop::Partial(fault)
                     if is_told && fault.is_damage() => 4,
                 _ => 6,
@@ -342,7 +351,7 @@ fn tell_typed<E: Write>(errors: &mut E, manner: Option<Manner>) -> Result<(), St
         }
         _ => out.text(b"reading the terminal, up to an end of input (Ctrl-D)\n"),
     }
-    if manner == Some(Manner::Requests) {
+    if manner.is_some_and(|manner| manner.is_served()) {
         out.text(b"these are the requests of a program; for people there is bwlog shell\n");
     }
     out.end()?;

@@ -7,6 +7,7 @@ ghost use Rattle.bw_home.specs.Ready.{IsReady};
 use crate::answers::{Answer, tell};
 use crate::calls::{call, durable, put_taking, turn_on};
 use crate::events::{tell_cleaned, tell_numbers, tell_refused, tell_reopened, tell_segment};
+use crate::mark::{Kind, kind_of};
 use crate::shell::{HELP, PROMPT, Shell, tell_text};
 use crate::tended::{Served, Tending};
 use bw_codec::Record;
@@ -16,9 +17,10 @@ use bw_look::Printer;
 use bw_pairs::{Lines, READS};
 use bw_watch::{Event, Watch, Work, folder_bytes};
 use bw_words::{
-    Command, Condition, Fault, LONGEST, Manner, Met, Miss, NotTyped, Options, PROTOCOL, Reading,
-    Refusal, Request, Stop, System, Typed, leases_in, missed, no_input, parse, parse_request,
-    parse_typed, print, print_found, refuse, refuse_after,
+    Change, Command, Condition, Fault, LONGEST, LONGEST_OF_TABLES, MOST_BATCH, Manner, Met, Miss,
+    NotTyped, Options, PROTOCOL, Reading, Refusal, Request, Stop, System, TableCall, TableLine, Typed,
+    leases_in, missed, no_input, parse, parse_change, parse_request, parse_table_line, parse_typed,
+    print, print_found, refuse, refuse_after,
 };
 use std::alloc::Global;
 use std::io::{Read, Write};
@@ -32,8 +34,12 @@ enum Asked {
     Request(Request),
     /// What a shell asks before its next line.
     Ahead(Request),
+    /// A call on tables.
+    Tables(TableCall),
     /// It is no request, for this reason.
     NoRequest(Fault),
+    /// The line of a batch that has this number, from 1, makes no change, for this reason.
+    NoBatch(u32, Fault),
     /// What a person typed.
     Typed(Result<Typed, NotTyped>),
     /// Nothing more before a shell ends.
@@ -66,13 +72,37 @@ fn done_of_room(room: Result<bool, Miss>) -> Result<Done, Miss> {
     }
 }
 
-/// Says that a store is there, which frame is its last, and the version of the protocol.
-fn print_ready<O: Write>(output: &mut O, frame: u64) -> Result<(), Stop> {
+/// Says that a store is there, which frame is its last, the version of the protocol, and whether
+/// tables are served.
+fn print_ready<O: Write>(output: &mut O, frame: u64, manner: Manner) -> Result<(), Stop> {
     let mut out = Printer::new(output);
     out.named("ready frame ", frame);
-    out.line(" protocol ", PROTOCOL);
+    out.named(" protocol ", PROTOCOL);
+    out.text(if manner == Manner::Tables {
+        b" tables\n"
+    } else {
+        b"\n"
+    });
     out.end()?;
     Ok(())
+}
+
+/// Says why a batch is none, and which of its lines is at fault.
+fn print_no_batch<O: Write>(output: &mut O, number: u32, fault: Fault) -> Result<(), Stop> {
+    let mut out = Printer::new(output);
+    out.named("fault ", fault);
+    out.line(" line ", number);
+    out.end()?;
+    Ok(())
+}
+
+/// How many bytes the key and the value of a change have.
+fn length_of(change: &Change) -> usize {
+    let key = change.key.as_slice().len();
+    match &change.value {
+        Some(value) => key.saturating_add(value.len()),
+        None => key,
+    }
 }
 
 /// Writes out what was printed.
@@ -188,6 +218,8 @@ struct Script<'a, I, O, W> {
     taken: u64,
     /// How many pairs of that line are put, if it puts some.
     put: Option<u64>,
+    /// What that line asks of tables, if it is asked again.
+    call: Option<TableCall>,
     /// Whether the answer of the last line is a receipt.
     is_receipt: bool,
     /// What was met so far, or what ends it.
@@ -236,6 +268,68 @@ impl<I: Read + Drop, O: Write, W: Watch> Script<'_, I, O, W> {
         }
     }
 
+    /// Adds the change of the line that was read to a batch whose changes have so many bytes.
+    fn add_change(
+        &self,
+        alloc: Global,
+        changes: &mut Vec<Change>,
+        bytes: &mut usize,
+    ) -> Result<(), Miss> {
+        let change = parse_change(alloc, self.lines.line(), self.reading)?;
+        *bytes = bytes.saturating_add(length_of(&change));
+        if *bytes > MOST_BATCH {
+            return Err(Miss::Fault(Fault::BatchTooLong));
+        }
+        changes.push(change)?;
+        Ok(())
+    }
+
+    /// The batch of so many further lines. All of them are read, also behind one that is at fault.
+    fn read_batch(&mut self, alloc: Global, count: u32) -> Result<Asked, Miss> {
+        let mut changes = Vec::new(alloc);
+        let mut bytes = 0usize;
+        let mut fault = None;
+        for number in 1..=count {
+            if !self.read_line()? {
+                return Ok(Asked::Nothing);
+            }
+            if fault.is_some() {
+                continue;
+            }
+            match self.add_change(alloc, &mut changes, &mut bytes) {
+                Ok(()) => {}
+                Err(Miss::Fault(found)) => {
+                    fault = Some((number, found));
+                    changes = Vec::new(alloc);
+                }
+                Err(miss) => return Err(miss),
+            }
+        }
+        match fault {
+            Some((number, fault)) => Ok(Asked::NoBatch(number, fault)),
+            None => Ok(Asked::Tables(TableCall::Batch(changes))),
+        }
+    }
+
+    /// What the next line asks for where tables are served.
+    fn next_of_tables(&mut self, alloc: Global) -> Result<Asked, Miss> {
+        let call = self.call.take();
+        if let (true, Some(call)) = (self.is_again, call) {
+            self.is_again = false;
+            return Ok(Asked::Tables(call));
+        }
+        if !self.next_line()? {
+            return Ok(Asked::Nothing);
+        }
+        match parse_table_line(alloc, self.lines.line(), self.reading) {
+            Ok(TableLine::Call(call)) => Ok(Asked::Tables(call)),
+            Ok(TableLine::Store(request)) => Ok(Asked::Request(request)),
+            Ok(TableLine::Batch(count)) => self.read_batch(alloc, count),
+            Err(Miss::Fault(fault)) => Ok(Asked::NoRequest(fault)),
+            Err(miss) => Err(miss),
+        }
+    }
+
     /// The next command. Lines that have none are skipped.
     fn next_command(&mut self) -> Result<Asked, Miss> {
         for _ in 0..u64::MAX {
@@ -273,6 +367,7 @@ impl<I: Read + Drop, O: Write, W: Watch> Script<'_, I, O, W> {
         match self.manner {
             Manner::Script | Manner::Taking => self.next_command(),
             Manner::Requests => self.next_request(alloc),
+            Manner::Tables => self.next_of_tables(alloc),
             Manner::Shell | Manner::Prompted => self.next_typed(alloc),
         }
     }
@@ -408,6 +503,29 @@ impl<I: Read + Drop, O: Write, W: Watch> Script<'_, I, O, W> {
         }
     }
 
+    /// Does a call on tables, and makes room behind it where one spare is left. A spare is only made.
+    fn do_tables<R: System>(
+        &mut self,
+        rt: &R,
+        home: &mut Home,
+        call: TableCall,
+    ) -> Result<Done, Miss>
+        requires { IsReady home.old holding }
+        ensures { IsReady home.new holding }
+    {
+        match self.tending.serve_tables(rt, home, &call)? {
+            Served::Answer(answer) => {
+                tell(home, self.output, &answer)?;
+                done_of_room(self.tending.look(rt, home))
+            }
+            Served::Room => {
+                self.call = Some(call);
+                self.is_again = true;
+                Ok(Done::Room)
+            }
+        }
+    }
+
     /// Counts so many records, if the answer says that they were accepted.
     fn note_put(&mut self, answer: &Answer, count: u64) {
         if matches!(answer, Answer::Put(true) | Answer::Number(_)) {
@@ -501,8 +619,13 @@ impl<I: Read + Drop, O: Write, W: Watch> Script<'_, I, O, W> {
                 self.is_receipt = request.is_receipt();
                 self.do_request(rt, home, request)
             }
+            Asked::Tables(call) => self.do_tables(rt, home, call),
             Asked::NoRequest(fault) => {
                 print(self.output, "fault ", fault)?;
+                Ok(Done::Answered)
+            }
+            Asked::NoBatch(number, fault) => {
+                print_no_batch(self.output, number, fault)?;
                 Ok(Done::Answered)
             }
             Asked::Ahead(request) => self.do_ahead(rt, home, request),
@@ -606,7 +729,9 @@ impl<I: Read + Drop, O: Write, W: Watch> Script<'_, I, O, W> {
                 print_reopened(self.output, last, ended.lost(last))?;
                 self.write_receipt()
             }
-            (None, Manner::Requests) => print_ready(self.output, last),
+            (None, Manner::Requests | Manner::Tables) => {
+                print_ready(self.output, last, self.manner)
+            }
             (None, Manner::Script | Manner::Taking) => print_found(self.output, home.found()),
             (None, Manner::Shell | Manner::Prompted) => Ok(()),
         }
@@ -655,7 +780,7 @@ impl<I: Read + Drop, O: Write, W: Watch> Script<'_, I, O, W> {
         if !self.tending.take_told_segment() || !is_added {
             return;
         }
-        if self.manner == Manner::Requests {
+        if self.manner.is_served() {
             tell_segment(self.watch, home, self.tending.standing().most);
         } else {
             let segments = home.store.live().saturating_add(home.store.spares());
@@ -707,6 +832,48 @@ impl<I: Read + Drop, O: Write, W: Watch> Script<'_, I, O, W> {
         }
     }
 
+    /// Whether a store that has this may be opened in this manner.
+    fn fits(&self, kind: Kind) -> Result<(), Stop> {
+        match (self.manner, kind) {
+            (Manner::Tables, Kind::Plain) => Err(Stop::NoTables),
+            (Manner::Requests | Manner::Shell | Manner::Prompted, Kind::Tables) => {
+                Err(Stop::HasTables)
+            }
+            _ => Ok(()),
+        }
+    }
+
+    /// Whether the store that was opened may be: it has tables only if they are served.
+    fn look_first(&mut self, home: &mut Home) -> Result<Met, Stop>
+        requires { IsReady home.old holding }
+        ensures { IsReady home.new holding }
+    {
+        match kind_of(home) {
+            Ok(kind) => self.fits(kind).map(|()| Met::NOTHING),
+            Err(fault) => {
+                self.done = Some(Done::End);
+                self.missed(Miss::from(fault))
+            }
+        }
+    }
+
+    /// Ends the run before its first line, if the store may not be opened so. What a stop left half done
+    /// of tables is finished before the first call on them.
+    fn check(&mut self, home: &mut Home)
+        requires { IsReady home.old holding }
+        ensures { IsReady home.new holding }
+    {
+        if self.done.is_some() {
+            return;
+        }
+        self.tending.owe();
+        let looked = self.look_first(home);
+        self.end = joined(self.end, looked);
+        if self.end.is_err() {
+            self.done = Some(Done::End);
+        }
+    }
+
     /// What stands before the lines of a leg.
     fn begin_leg(&mut self, home: &Home)
         requires { IsReady home.now holding }
@@ -725,6 +892,7 @@ impl<R: System, I: Read + Drop, O: Write, W: Watch> Legs<R> for Script<'_, I, O,
     type Answer = Result<Met, Stop>;
 
     fn leg(&mut self, rt: &R, home: &mut Home) -> Option<Result<Met, Stop>> {
+        self.check(home);
         self.begin_leg(home);
         self.do_lines(rt, home);
         if !matches!(self.done, Some(Done::End | Done::Reopen)) {
@@ -803,6 +971,7 @@ fn run_lines<R: System, I: Read + Drop, O: Write, W: Watch>(
         shell: Shell::new(),
         taken: 0,
         put: None,
+        call: None,
         is_receipt: false,
         end: Ok(Met::NOTHING),
     };
@@ -819,6 +988,11 @@ pub fn replay<R: System, I: Read, O: Write, W: Watch>(
     output: &mut O,
     watch: &mut W,
 ) -> Result<Met, Stop> {
-    let lines = Lines::new(rt.alloc(), input, READS, LONGEST).map_err(no_input)?;
+    let longest = if manner == Manner::Tables {
+        LONGEST_OF_TABLES
+    } else {
+        LONGEST
+    };
+    let lines = Lines::new(rt.alloc(), input, READS, longest).map_err(no_input)?;
     run_lines(rt, options, manner, lines, output, watch)
 }

@@ -20,13 +20,16 @@ use bw_words::{Command, Condition, Miss, Options, Refusal, Request, System};
 pub struct Tending {
     /// Whether it is: a script without `--most-segments` has no room made.
     is_on: bool,
-    room: bw_keys::Tending,
+    pub(crate) room: bw_keys::Tending,
     /// Whether an append of the log failed.
     has_failed: bool,
     /// Up to how many segments there may be; 0 if no room is made.
     most: u32,
     /// What is counted of the lines.
     pub tally: Tally,
+    /// Whether something may be left half done of tables, which is finished before the next call on
+    /// them.
+    pub(crate) owes: bool,
 }
 
 /// What comes of a request.
@@ -79,7 +82,13 @@ impl Tending {
             has_failed: false,
             most: options.most,
             tally: Tally::NONE,
+            owes: false,
         }
+    }
+
+    /// Whether an append failed, behind which no other goes.
+    pub fn has_failed(&self) -> bool {
+        self.has_failed
     }
 
     /// What is told of the store beside what it says itself.
@@ -106,7 +115,7 @@ impl Tending {
     }
 
     /// Notes whether an append failed, behind which no other goes: a flush tells it.
-    fn note(&mut self, home: &mut Home, miss: Option<&Miss>)
+    pub(crate) fn note(&mut self, home: &mut Home, miss: Option<&Miss>)
         requires { IsReady home.old holding }
         ensures { IsReady home.new holding }
     {

@@ -3,6 +3,7 @@
 //! store stands here, and no function has a clause.
 #![tactic(auto)]
 
+mod calls;
 mod found;
 mod miss;
 mod mode;
@@ -17,11 +18,16 @@ mod system;
 mod table;
 mod typed;
 
+pub use calls::{
+    Change, LONGEST_OF_TABLES, MOST_BATCH, TableCall, TableLine, parse_change, parse_table_line,
+};
 pub use found::{print_found, write_found};
 pub use miss::Miss;
 pub use mode::{AsOf, Ends, LEASES, Manner, Mode, Options, Pace, Report, View, leases_in};
 pub use options::{is_memory, mode_of};
-pub use printed::{print, write_dump, write_entry, write_pair_line, write_pairs, write_value};
+pub use printed::{
+    print, write_dump, write_entry, write_long_word, write_pair_line, write_pairs, write_value,
+};
 pub use refusal::Refusal;
 pub use request::{Condition, Request, parse_request, signed_of};
 pub use script::{Command, Fault, LONGEST, Reading, are_printable, parse, parse_group};

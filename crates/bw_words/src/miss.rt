@@ -3,6 +3,7 @@
 use crate::refusal::Refusal;
 use crate::script::Fault;
 use crate::stop::Stop;
+use bw_calls::TableFault;
 use bw_care::RecoverCause;
 use bw_core::{StoreFault, TurnFault};
 use bw_device::{NotMade, NotTaken};
@@ -63,6 +64,12 @@ impl From<StoreFault> for Miss {
 impl From<TurnFault> for Miss {
     fn from(fault: TurnFault) -> Miss {
         Miss::from(fault.cause)
+    }
+}
+
+impl From<TableFault> for Miss {
+    fn from(fault: TableFault) -> Miss {
+        Miss::Refused(Refusal::from(fault))
     }
 }
 

@@ -14,6 +14,8 @@ pub enum Manner {
     Taking,
     /// Requests of a program, over a store with one writer.
     Requests,
+    /// Requests of a program, over the tables of a store with one writer.
+    Tables,
     /// Lines that a person typed, over a store with one writer.
     Shell,
     /// Lines that a person types after a prompt, over a store with one writer.
@@ -24,6 +26,11 @@ impl Manner {
     /// Whether its lines are those of a person.
     pub fn is_shell(self) -> bool {
         matches!(self, Manner::Shell | Manner::Prompted)
+    }
+
+    /// Whether its lines are those of a program.
+    pub fn is_served(self) -> bool {
+        matches!(self, Manner::Requests | Manner::Tables)
     }
 }
 

@@ -307,6 +307,15 @@ fn manner_of<'a>(found: &ArgMatches<'a>) -> Manner {
     }
 }
 
+/// In which manner a program is served.
+fn served_in<'a>(found: &ArgMatches<'a>) -> Manner {
+    if found.get_flag("tables") {
+        Manner::Tables
+    } else {
+        Manner::Requests
+    }
+}
+
 /// The two folders that were named.
 fn ends_of<'a>(found: &ArgMatches<'a>) -> Ends<'a> {
     Ends {
@@ -420,7 +429,7 @@ fn store_in<'a>(matches: &ArgMatches<'a>) -> Mode<'a> {
     }
     if let Some(found) = matches.subcommand_matches("serve") {
         let most = dir_of(found).map_or(LEASES, |_| MAX_LEASES);
-        return Mode::Lines(found_of(found, LARGE, most), Manner::Requests);
+        return Mode::Lines(found_of(found, LARGE, most), served_in(found));
     }
     if let Some(found) = matches.subcommand_matches("shell") {
         return Mode::Lines(shell_of(found), Manner::Shell);

@@ -1,11 +1,31 @@
 //! What answers print: lines, values, entries, pairs and dumps. No memory is taken.
 
 use crate::stop::Stop;
+use bw_codec::limits::MAX_VALUE;
 use bw_codec::{Key, Value};
 use bw_core::Entry;
 use bw_look::{Printer, write_hex, write_pair, write_record, write_word};
 use std::fmt::Display;
 use std::io::Write;
+
+/// How many bytes are made digits at once.
+const PART: usize = 256;
+
+/// Bytes of any number as a word. More than a value of a store has are always in hex.
+pub fn write_long_word<O: Write>(out: &mut Printer<'_, O>, bytes: &[u8]) {
+    if bytes.len() <= MAX_VALUE {
+        write_word(out, bytes);
+        return;
+    }
+    out.text(b"0x");
+    let mut room = [0u8; 2 * PART];
+    for part in bytes.chunks(PART) {
+        let digits = &mut room[..2 * part.len()];
+        if hex::encode_to_slice(part, digits).is_ok() {
+            out.text(digits);
+        }
+    }
+}
 
 /// Prints a line of a text with a number or a name behind it.
 pub fn print<O: Write, D: Display + Copy + Drop>(

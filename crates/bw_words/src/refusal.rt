@@ -2,7 +2,9 @@
 
 use bw_care::RecoverCause;
 use bw_core::StoreFault;
+use bw_calls::TableFault;
 use bw_device::{NotMade, NotTaken};
+use bw_home::MapFault;
 use std::error::Error;
 use std::fmt::{self, Display, Formatter};
 
@@ -18,6 +20,18 @@ pub enum Refusal {
     NoFrame { first: u64, last: u64 },
     /// All leases are out.
     NoLease,
+    /// The change of a call on tables waits in the queue, for this reason. The tables have it.
+    Waits(StoreFault),
+    /// No table has the name.
+    NoTable,
+    /// A table has the name already.
+    Exists,
+    /// There are as many tables as there may be.
+    TooMany,
+    /// The pairs of the store are no tables.
+    NotTables,
+    /// A value is longer than any may be.
+    TooLong,
 }
 
 impl Refusal {
@@ -28,7 +42,9 @@ impl Refusal {
     pub fn is_no_memory(&self) -> bool {
         matches!(
             self,
-            Refusal::Store(StoreFault::NoMemory) | Refusal::Recovery(RecoverCause::NoMemory)
+            Refusal::Store(StoreFault::NoMemory)
+                | Refusal::Recovery(RecoverCause::NoMemory)
+                | Refusal::Waits(StoreFault::NoMemory)
         )
     }
 
@@ -52,10 +68,15 @@ impl Refusal {
     /// Its number and name.
     fn name(&self) -> &'static str {
         match self {
-            Refusal::Store(fault) => name_of(*fault),
+            Refusal::Store(fault) | Refusal::Waits(fault) => name_of(*fault),
             Refusal::Recovery(cause) => name_of_cause(*cause),
             Refusal::NoFrame { .. } => name_of_cause(RecoverCause::Empty),
             Refusal::NoLease => "E20 NoLease",
+            Refusal::TooLong => "E19 Length",
+            Refusal::NoTable => "E21 NoTable",
+            Refusal::Exists => "E22 Exists",
+            Refusal::TooMany => "E23 TooMany",
+            Refusal::NotTables => "E24 NotTables",
         }
     }
 }
@@ -102,6 +123,8 @@ impl Display for Refusal {
                 write!(f, " page {page}")
             }
             Refusal::NoFrame { first, last } => write!(f, " frames {first} to {last}"),
+            Refusal::Waits(StoreFault::Device { lease }) => write!(f, " lease {lease} waits"),
+            Refusal::Waits(_) => f.write_str(" waits"),
             _ => Ok(()),
         }
     }
@@ -136,5 +159,32 @@ impl From<RecoverCause> for Refusal {
 impl From<StoreFault> for Refusal {
     fn from(fault: StoreFault) -> Refusal {
         Refusal::Store(fault)
+    }
+}
+
+/// Why the store below was refused, where a map over it was.
+fn cause_of(fault: MapFault) -> StoreFault {
+    match fault {
+        MapFault::NotPut(Some(cause)) | MapFault::Waits(cause) | MapFault::NotKept(cause) => cause,
+        // A store that is served has one writer, and room in its queue once that is taken.
+        MapFault::Writers | MapFault::NotPut(None) => StoreFault::BadConfig,
+    }
+}
+
+impl From<TableFault> for Refusal {
+    fn from(fault: TableFault) -> Refusal {
+        match fault {
+            TableFault::NoTable => Refusal::NoTable,
+            TableFault::Exists => Refusal::Exists,
+            TableFault::TooMany => Refusal::TooMany,
+            TableFault::TooLong => Refusal::TooLong,
+            TableFault::NotTables => Refusal::NotTables,
+            TableFault::NoMemory => Refusal::NO_MEMORY,
+            TableFault::NotRead(cause) => Refusal::Store(cause),
+            TableFault::NotMade(fault) | TableFault::NotKept(fault) => {
+                Refusal::Store(cause_of(fault))
+            }
+            TableFault::Waits(cause) => Refusal::Waits(cause),
+        }
     }
 }

@@ -87,7 +87,7 @@ impl Request {
 }
 
 /// The path that a word gives: a text of 1 to 512 bytes.
-fn path_of(word: &str, reading: Reading) -> Result<Value, Fault> {
+pub fn path_of(word: &str, reading: Reading) -> Result<Value, Fault> {
     let path = value_of(reading, word)?;
     if path.as_slice().is_empty() || str::from_utf8(path.as_slice()).is_err() {
         return Err(Fault::BadWord);

@@ -31,6 +31,9 @@ pub enum Fault {
     /// A key's or value's word is no hex, or of a length out of range; a line of a scan is no hex.
     #[error("bad word")]
     BadWord,
+    /// The changes of a batch have over 64 MiB together.
+    #[error("batch too long")]
+    BatchTooLong,
 }
 
 /// How a word gives its bytes.
@@ -104,7 +107,7 @@ fn writer_of(word: &str, writers: usize) -> Result<usize, Fault> {
 
 /// The bytes that a word stands for in this reading; those of hex digits come to the front of `room`.
 /// The room is enough for a value, and a key is shorter.
-fn bytes_of<'a>(
+pub fn bytes_of<'a>(
     reading: Reading,
     word: &'a [u8],
     room: &'a mut [u8; MAX_VALUE],
@@ -324,10 +327,15 @@ pub fn are_printable(line: &[u8]) -> bool {
 
 /// A line as text: nothing where it is empty or begins with `#`, whatever its length.
 pub fn text_of(line: &[u8]) -> Result<Option<&str>, Fault> {
+    text_up_to(line, LONGEST)
+}
+
+/// The same of a line that has so many bytes at most.
+pub fn text_up_to(line: &[u8], longest: u32) -> Result<Option<&str>, Fault> {
     if line.is_empty() || line.starts_with(b"#") {
         return Ok(None);
     }
-    if line.len() > LONGEST as usize {
+    if line.len() > longest as usize {
         return Err(Fault::LineTooLong);
     }
     if !are_printable(line) {

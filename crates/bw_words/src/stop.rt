@@ -41,6 +41,10 @@ pub enum Stop {
     NoFollower(RecoverCause),
     /// The folder that is looked at has the file of no segment.
     NoStore,
+    /// The store has tables, and is opened as one without.
+    HasTables,
+    /// The store has pairs that are no tables', and is opened as one of tables.
+    NoTables,
     /// The folder that would be made lies in the one that is read.
     Within,
     /// What was given as a time is none.

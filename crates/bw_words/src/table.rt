@@ -165,6 +165,12 @@ const RAW: Row = Row {
     help: "takes the words of a line as their own bytes, also where they begin with 0x",
 };
 
+const TABLES: Row = Row {
+    name: "tables",
+    kind: Kind::Flag,
+    help: "serves the tables of the folder, by requests of their own; it has no other pairs then",
+};
+
 const LOG: Row = Row {
     name: "log",
     kind: Kind::Flag,
@@ -307,7 +313,7 @@ const REPLAY: [Row; 11] = [
 ];
 
 /// The store of a program, which is one writer.
-const SERVE: [Row; 10] = [
+const SERVE: [Row; 11] = [
     Row {
         kind: Kind::Number(1, 4096, "1024"),
         ..PLACES
@@ -325,6 +331,7 @@ const SERVE: [Row; 10] = [
         ..CAPACITY
     },
     STORE_DIR,
+    TABLES,
     RAW,
     MOST_SEGMENTS,
     LOG,

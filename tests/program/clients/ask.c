@@ -60,6 +60,8 @@ static const char *kind_of(int answer) {
     case HECHDORAM_FULL: return "Full";
     case HECHDORAM_FAILED: return "Failed";
     case HECHDORAM_ENDED: return "Ended";
+    case HECHDORAM_NO_TABLE: return "NoTable";
+    case HECHDORAM_TABLE_EXISTS: return "TableExists";
     case HECHDORAM_TOO_LONG: return "TooLong";
     case HECHDORAM_BUSY: return "Busy";
     case HECHDORAM_NO_STORE: return "NoStore";
@@ -129,8 +131,10 @@ static int count_pairs(uint64_t *count) {
 
 /* ---- Requests */
 
+typedef int open_call(const char *folder, const hechdoram_options *options, hechdoram **at);
+
 /* Opens a store with the options after a request's first word. */
-static int open_with(hechdoram **at, int from) {
+static int open_with(open_call *call, hechdoram **at, int from) {
     hechdoram_options options;
     memset(&options, 0, sizeof options);
     options.program = program;
@@ -143,16 +147,16 @@ static int open_with(hechdoram **at, int from) {
         if (!strcmp(words[i], "segments")) options.segments = (unsigned)atol(number);
         if (!strcmp(words[i], "most_segments")) options.most_segments = (unsigned)atol(number);
     }
-    return hechdoram_open(words[1], &options, at);
+    return call(words[1], &options, at);
 }
 
-static void do_open(void) {
+static void do_open(open_call *call) {
     hechdoram *next = NULL;
     hechdoram_abandon(&store);
     is_reading = 0;
     snprintf(folder_room, sizeof folder_room, "%s", words[1]);
     the_folder = folder_room;
-    int got = open_with(&next, 2);
+    int got = open_with(call, &next, 2);
     if (got == HECHDORAM_OK) {
         store = next;
         puts("opened");
@@ -164,7 +168,7 @@ static void do_open(void) {
 
 static void do_other(void) {
     hechdoram *other = NULL;
-    int got = open_with(&other, 4);
+    int got = open_with(hechdoram_open, &other, 4);
     int is_append = count_of_words > 3;
     if (got == HECHDORAM_OK && is_append) {
         size_t key_len = bytes_of(words[2]), len = bytes_of(words[3]);
@@ -343,6 +347,161 @@ static void do_close(void) {
     }
 #endif
     tell_done(hechdoram_close(&store), "closed");
+}
+
+/* ---- Tables */
+
+static void do_tables(void) {
+    static hechdoram_name names[3]; /* fewer than there are, so that it is asked again */
+    size_t count = 0;
+    int got = hechdoram_tables(store, NULL, 0, names, 3, &count);
+    if (got == HECHDORAM_OK) printf("tables");
+    while (got == HECHDORAM_OK && count > 0) {
+        for (size_t i = 0; i < count; i++) putchar(' '), tell(names[i].bytes, names[i].len);
+        hechdoram_name last = names[count - 1];
+        got = hechdoram_tables(store, last.bytes, last.len, names, 3, &count);
+    }
+    if (got == HECHDORAM_OK) putchar('\n');
+    else tell_error(got, hechdoram_said(store));
+}
+
+typedef int name_call(hechdoram *at, const void *name, size_t len);
+
+static void do_name(name_call *call) {
+    size_t len = bytes_of(words[1]);
+    tell_done(call(store, words[1], len), "ok");
+}
+
+static void do_tput(void) {
+    size_t name_len = bytes_of(words[1]), key_len = bytes_of(words[2]), len = bytes_of(words[3]);
+    tell_done(hechdoram_table_put(store, words[1], name_len, words[2], key_len, words[3], len), "ok");
+}
+
+static void do_tdel(void) {
+    size_t name_len = bytes_of(words[1]), key_len = bytes_of(words[2]);
+    tell_done(hechdoram_table_delete(store, words[1], name_len, words[2], key_len), "ok");
+}
+
+static void do_tget(void) {
+    static uint8_t value[1 << 21], some[3];
+    size_t len = 0, other = 0, name_len = bytes_of(words[1]), key_len = bytes_of(words[2]);
+    int got = hechdoram_table_get(store, words[1], name_len, words[2], key_len, value, sizeof value, &len);
+    if (got == HECHDORAM_NOT_FOUND) puts("none");
+    else if (got != HECHDORAM_OK) tell_error(got, hechdoram_said(store));
+    else if (hechdoram_table_get(store, words[1], name_len, words[2], key_len, some, sizeof some, &other) != HECHDORAM_OK ||
+             other != len || memcmp(some, value, len < 3 ? len : 3) != 0)
+        puts("with less room the answer is another");
+    else {
+        printf("value ");
+        tell(value, len);
+        putchar('\n');
+    }
+}
+
+static void do_tcount(void) {
+    uint64_t count = 0;
+    char line[40];
+    size_t len = bytes_of(words[1]);
+    int got = hechdoram_table_count(store, words[1], len, &count);
+    snprintf(line, sizeof line, "count %llu", (unsigned long long)count);
+    tell_done(got, line);
+}
+
+static void tell_row(const hechdoram_row *row) {
+    putchar(' ');
+    tell(row->key, row->key_len);
+    putchar('=');
+    tell(row->value, row->value_len);
+}
+
+/* A walk over a table; only the first pair from a key on. */
+static void do_tscan(int is_first) {
+    hechdoram_range range;
+    hechdoram_table_scan *scan = NULL;
+    hechdoram_row row;
+    size_t name_len = bytes_of(words[1]);
+    memset(&range, 0, sizeof range);
+    for (int i = 2; i < count_of_words; i++) {
+        char *word = is_first ? words[i] : strchr(words[i], '=') + 1;
+        size_t len = bytes_of(word);
+        if (!is_first && words[i][0] == 'p') range.prefix = word, range.prefix_len = len;
+        else if (is_first || words[i][2] == 'a') range.start = word, range.start_len = len;
+        else range.stop = word, range.stop_len = len;
+    }
+    int got = hechdoram_table_scan_begin(store, words[1], name_len, &range, &scan);
+    if (got == HECHDORAM_OK) got = hechdoram_table_scan_next(scan, &row);
+    if (is_first && got == HECHDORAM_NOT_FOUND) printf("none");
+    else if (got >= HECHDORAM_OK) printf(is_first ? "pair" : "pairs");
+    while (got == HECHDORAM_OK) {
+        tell_row(&row);
+        got = is_first ? HECHDORAM_NOT_FOUND : hechdoram_table_scan_next(scan, &row);
+    }
+    if (got != HECHDORAM_NOT_FOUND) tell_error(got, hechdoram_said(store));
+    else puts(is_first || hechdoram_table_scan_next(scan, &row) == got ? "" : " a walk went on after its end");
+    hechdoram_table_scan_end(&scan);
+    hechdoram_table_scan_end(&scan);
+}
+
+static void do_tbatch(void) {
+    static hechdoram_table_change changes[MOST];
+    size_t count = 0;
+    for (int i = 1; i < count_of_words; count++) {
+        hechdoram_table_change *one = changes + count;
+        int is_put = !strcmp(words[i++], "put");
+        one->name_len = bytes_of(words[i]), one->name = words[i++];
+        one->key_len = bytes_of(words[i]), one->key = words[i++];
+        one->value_len = 0, one->value = NULL;
+        if (is_put) one->value_len = bytes_of(words[i]), one->value = words[i++];
+    }
+    tell_done(hechdoram_table_batch(store, changes, count), "ok");
+}
+
+/* The value of this number: its digits, for each seventh 700 times. */
+static size_t value_of(unsigned index, char *value) {
+    size_t len = 0;
+    for (unsigned i = 0; i < (index % 7 == 0 ? 700u : 1u); i++) len += (size_t)sprintf(value + len, "%u", index);
+    return len;
+}
+
+/* Puts so many pairs in one batch, and walks over them. */
+static void do_tmany(void) {
+    enum { MOST_MADE = 3000 };
+    static char keys[MOST_MADE][24], values[MOST_MADE][4096];
+    static hechdoram_table_change changes[MOST_MADE];
+    unsigned count = (unsigned)atol(words[2]), seen = 0;
+    size_t name_len = bytes_of(words[1]);
+    hechdoram_table_scan *scan = NULL;
+    hechdoram_range range;
+    hechdoram_row row;
+    memset(&range, 0, sizeof range);
+    range.prefix = "key", range.prefix_len = 3;
+    HOLDS(count <= MOST_MADE);
+    for (unsigned i = 0; i < count; i++) {
+        hechdoram_table_change *one = changes + i;
+        snprintf(keys[i], sizeof keys[i], "key%08u", i);
+        one->name = words[1], one->name_len = name_len;
+        one->key = keys[i], one->key_len = strlen(keys[i]);
+        one->value = values[i], one->value_len = value_of(i, values[i]);
+    }
+    HOLDS(hechdoram_table_batch(store, changes, count) == HECHDORAM_OK);
+    HOLDS(hechdoram_table_scan_begin(store, words[1], name_len, &range, &scan) == HECHDORAM_OK);
+    for (; hechdoram_table_scan_next(scan, &row) == HECHDORAM_OK; seen++) {
+        const hechdoram_table_change *one = changes + seen;
+        HOLDS(seen < count && row.key_len == one->key_len && !memcmp(row.key, one->key, row.key_len));
+        HOLDS(row.value_len == one->value_len && !memcmp(row.value, one->value, row.value_len));
+    }
+    hechdoram_table_scan_end(&scan);
+    HOLDS(seen == count);
+    printf("walked %u\n", seen);
+}
+
+static void do_kill(void) {
+    char number[24] = "";
+    FILE *file = fopen(words[1], "r");
+    HOLDS(file && fgets(number, sizeof number, file));
+    fclose(file);
+    HOLDS(!kill((pid_t)atol(number), SIGKILL));
+    puts("killed");
 }
 
 /* ---- Whole runs */
@@ -533,7 +692,20 @@ static int is_refused_misuse(void) {
 }
 
 static void answer(const char *name) {
-    if (!strcmp(name, "open")) do_open();
+    if (!strcmp(name, "open")) do_open(hechdoram_open);
+    else if (!strcmp(name, "topen")) do_open(hechdoram_open_tables);
+    else if (!strcmp(name, "tables")) do_tables();
+    else if (!strcmp(name, "create")) do_name(hechdoram_create_table);
+    else if (!strcmp(name, "drop")) do_name(hechdoram_drop_table);
+    else if (!strcmp(name, "tput")) do_tput();
+    else if (!strcmp(name, "tget")) do_tget();
+    else if (!strcmp(name, "tdel")) do_tdel();
+    else if (!strcmp(name, "tcount")) do_tcount();
+    else if (!strcmp(name, "tscan")) do_tscan(0);
+    else if (!strcmp(name, "tnext")) do_tscan(1);
+    else if (!strcmp(name, "tbatch")) do_tbatch();
+    else if (!strcmp(name, "tmany")) do_tmany();
+    else if (!strcmp(name, "kill")) do_kill();
     else if (!strcmp(name, "other") || !strcmp(name, "append")) do_other();
     else if (!strcmp(name, "read")) do_read(0);
     else if (!strcmp(name, "refresh")) do_read(1);
@@ -559,7 +731,7 @@ static void answer(const char *name) {
 }
 
 int main(int count, char **word) {
-    static char line[1 << 20];
+    static char line[1 << 24];
     if (count != 2 || !is_refused_misuse()) return 2;
     program = word[1];
     while (fgets(line, sizeof line, stdin)) {

@@ -24,6 +24,7 @@ const named = 400
 var (
 	program, folder string
 	store           *hechdoram.Store
+	tables          *hechdoram.TableStore
 )
 
 func bytesOf(text string) []byte {
@@ -49,7 +50,7 @@ func namedPair(index int) hechdoram.Pair {
 	return hechdoram.Pair{Key: []byte(fmt.Sprintf("n%04d", index)), Value: []byte(strconv.Itoa(index * 7919))}
 }
 
-func open(folder string, words []string) (*hechdoram.Store, error) {
+func optionsOf(words []string) *hechdoram.Options {
 	options := hechdoram.Options{Program: program}
 	for _, given := range words {
 		name, value, _ := strings.Cut(given, "=")
@@ -65,7 +66,11 @@ func open(folder string, words []string) (*hechdoram.Store, error) {
 			options.MostSegments = number
 		}
 	}
-	return hechdoram.Open(folder, &options)
+	return &options
+}
+
+func open(folder string, words []string) (*hechdoram.Store, error) {
+	return hechdoram.Open(folder, optionsOf(words))
 }
 
 func other(words []string) (string, error) {
@@ -277,10 +282,147 @@ func number(words []string) (string, error) {
 	return fmt.Sprintf("copied frame %d pages %d pairs %d", found.Frame, found.Pages, found.Pairs), err
 }
 
+func tableBatchOf(words []string) []hechdoram.TableChange {
+	changes := []hechdoram.TableChange{}
+	for len(words) > 0 {
+		change := hechdoram.TableChange{Table: string(bytesOf(words[1])), Key: bytesOf(words[2])}
+		if words[0] == "put" {
+			change.Value = bytesOf(words[3])
+			words = words[1:]
+		}
+		changes, words = append(changes, change), words[3:]
+	}
+	return changes
+}
+
+func allOf(table *hechdoram.Table, span hechdoram.Span) ([]hechdoram.Pair, error) {
+	pairs := []hechdoram.Pair{}
+	scan := table.Scan(span)
+	for scan.Next() {
+		pairs = append(pairs, scan.Pair())
+	}
+	return pairs, scan.Err()
+}
+
+// tmany puts so many pairs in one batch, each seventh of them longer, and walks over them.
+func tmany(name string, count int) (string, error) {
+	changes := make([]hechdoram.TableChange, count)
+	for i := range changes {
+		times := map[bool]int{true: 700, false: 1}[i%7 == 0]
+		value := bytes.Repeat([]byte(strconv.Itoa(i)), times)
+		changes[i] = hechdoram.TableChange{Table: name, Key: []byte(fmt.Sprintf("key%08d", i)), Value: value}
+	}
+	if err := tables.Batch(changes); err != nil {
+		return "", err
+	}
+	found, err := allOf(tables.Table(name), hechdoram.Span{Prefix: []byte("key")})
+	for i := range found {
+		if !bytes.Equal(found[i].Key, changes[i].Key) || !bytes.Equal(found[i].Value, changes[i].Value) {
+			return "another pair", nil
+		}
+	}
+	return fmt.Sprintf("walked %d", len(found)), err
+}
+
+func kill(path string) (string, error) {
+	text, err := os.ReadFile(path)
+	if err != nil {
+		return "", err
+	}
+	number, err := strconv.Atoi(strings.TrimSpace(string(text)))
+	if err != nil {
+		return "", err
+	}
+	return "killed", syscall.Kill(number, syscall.SIGKILL)
+}
+
+// ofTable answers a request about the table of the second word.
+func ofTable(words []string) (string, error) {
+	table := tables.Table(string(bytesOf(words[1])))
+	switch words[0] {
+	case "tput":
+		return "ok", table.Put(bytesOf(words[2]), bytesOf(words[3]))
+	case "tdel":
+		return "ok", table.Delete(bytesOf(words[2]))
+	case "tget":
+		value, err := table.Get(bytesOf(words[2]))
+		if value == nil {
+			return "none", err
+		}
+		return "value " + word(value), err
+	case "tnext":
+		return near(table.AtOrAbove, words[2])
+	case "tcount":
+		count, err := table.Count()
+		return fmt.Sprint("count ", count), err
+	case "tscan":
+		pairs, err := allOf(table, spanOf(words[2:]))
+		line := "pairs"
+		for _, pair := range pairs {
+			line += " " + pairWord(pair)
+		}
+		return line, err
+	case "create":
+		_, err := tables.CreateTable(table.Name())
+		return "ok", err
+	case "drop":
+		return "ok", tables.DropTable(table.Name())
+	}
+	count, _ := strconv.Atoi(words[2])
+	return tmany(table.Name(), count)
+}
+
+// ofTables answers a request about tables, of which there are.
+func ofTables(words []string) (string, error) {
+	switch words[0] {
+	case "tables":
+		names, err := tables.Tables()
+		line := "tables"
+		for _, name := range names {
+			line += " " + word([]byte(name))
+		}
+		return line, err
+	case "tbatch":
+		return "ok", tables.Batch(tableBatchOf(words[1:]))
+	case "keep":
+		frame, err := tables.Keep()
+		return fmt.Sprint("frame ", frame), err
+	case "close":
+		return "closed", tables.Close()
+	case "abandon":
+		tables.Abandon()
+		return "abandoned", nil
+	}
+	return ofTable(words)
+}
+
+// openTables ends what was open before.
+func openTables(words []string) (string, error) {
+	if store != nil {
+		store.Abandon()
+	}
+	if tables != nil {
+		tables.Abandon()
+	}
+	next, err := hechdoram.OpenTables(words[1], optionsOf(words[2:]))
+	if err == nil {
+		tables = next
+	}
+	return "opened", err
+}
+
 func answer(words []string) (string, error) {
 	switch words[0] {
+	case "topen":
+		return openTables(words)
+	case "kill":
+		return kill(words[1])
 	case "open":
 		folder = words[1]
+		if tables != nil {
+			tables.Abandon()
+			tables = nil
+		}
 		if store != nil {
 			store.Abandon()
 		}
@@ -299,6 +441,11 @@ func answer(words []string) (string, error) {
 	case "threads":
 		count, _ := strconv.Atoi(words[1])
 		return threads(count)
+	}
+	if tables != nil {
+		return ofTables(words)
+	}
+	switch words[0] {
 	case "close":
 		return "closed", store.Close()
 	case "abandon":
@@ -328,7 +475,7 @@ func errorLine(err error) string {
 func main() {
 	program = os.Args[1]
 	lines := bufio.NewScanner(os.Stdin)
-	lines.Buffer(nil, 1<<22)
+	lines.Buffer(nil, 1<<24)
 	for lines.Scan() {
 		line, err := answer(strings.Fields(lines.Text()))
 		if err != nil {

@@ -1,6 +1,7 @@
 """Answers requests of the table by the Python client, a line each: ask.py PROGRAM. The words of pairs
 are hex in both. It stops at the end of its input, and says what it did not foresee on standard error."""
 
+import os
 import random
 import signal
 import sys
@@ -180,6 +181,74 @@ class Asked:
     def do_abandon(self):
         self.pairs.abandon()
         return "abandoned"
+
+    # ---- tables
+
+    def do_topen(self, folder, *options):
+        self.folder = folder
+        given = dict(option.split("=") for option in options)
+        program = given.pop("program", PROGRAM)
+        self.pairs = hechdoram.open_tables(folder, program, **{name: int(number) for name, number in given.items()})
+        return "opened"
+
+    def table(self, name):
+        return self.pairs.table(bytes_of(name))
+
+    def do_tables(self):
+        return " ".join(["tables", *map(word_of, self.pairs.tables())])
+
+    def do_create(self, name):
+        assert self.pairs.create_table(bytes_of(name)).name == bytes_of(name)
+        return "ok"
+
+    def do_drop(self, name):
+        self.pairs.drop_table(bytes_of(name))
+        return "ok"
+
+    def do_tput(self, name, key, value):
+        self.table(name)[bytes_of(key)] = bytes_of(value)
+        return "ok"
+
+    def do_tget(self, name, key):
+        value = self.table(name).get(bytes_of(key))
+        return "none" if value is None else "value " + word_of(value)
+
+    def do_tdel(self, name, key):
+        self.table(name).delete(bytes_of(key))
+        return "ok"
+
+    def do_tcount(self, name):
+        return "count %d" % self.table(name).count()
+
+    def do_tnext(self, name, key):
+        return told(self.table(name).at_or_above(bytes_of(key)))
+
+    def do_tscan(self, name, *words):
+        bounds = {bound: bytes_of(word) for bound, word in (word.split("=") for word in words)}
+        found = self.table(name).scan(bounds.pop("prefix", b""), **bounds)
+        return " ".join(["pairs", *("%s=%s" % (word_of(key), word_of(value)) for key, value in found)])
+
+    def do_tbatch(self, *words):
+        words = list(words)
+        with self.pairs.batch() as batch:
+            while words:
+                is_put, name, key = words.pop(0) == "put", self.table(words.pop(0)), bytes_of(words.pop(0))
+                batch.put(name, key, bytes_of(words.pop(0))) if is_put else batch.delete(name, key)
+        return "ok"
+
+    def do_tmany(self, name, count):
+        """Puts so many pairs in one batch, each seventh of them longer, and walks over them."""
+        pairs = [(b"key%08d" % index, b"%d" % index * (700 if index % 7 == 0 else 1)) for index in range(int(count))]
+        with self.pairs.batch() as batch:
+            for key, value in pairs:
+                batch.put(bytes_of(name), key, value)
+        assert list(self.table(name).scan(b"key")) == pairs
+        return "walked %d" % len(pairs)
+
+    def do_kill(self, path):
+        with open(path, encoding="ascii") as file:
+            os.kill(int(file.read()), signal.SIGKILL)
+        return "killed"
 
     # ---- whole runs
 

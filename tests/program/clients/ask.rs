@@ -1,9 +1,10 @@
 //! Answers requests of the table by the Rust client, a line each: ask PROGRAM. The words of pairs are
 //! hex in both. With the feature `read` it asks readers too.
 
-use hechdoram::{Batch, Error, Kind, Options, Pair, Result, Span, Store};
+use hechdoram::{Batch, Error, Kind, Options, Pair, Result, Span, Store, TableBatch, TableStore};
 use std::io::{self, BufRead, Write};
-use std::{env, thread};
+use std::process::Command;
+use std::{env, fs, thread};
 
 const NAMED: usize = 400;
 
@@ -53,6 +54,18 @@ fn batch_of(words: &[&str]) -> Batch {
     batch
 }
 
+fn table_batch_of(words: &[&str]) -> TableBatch {
+    let (mut batch, mut words) = (TableBatch::new(), words.iter());
+    while let Some(word) = words.next() {
+        let (table, key) = (bytes_of(words.next().unwrap()), bytes_of(words.next().unwrap()));
+        match *word {
+            "put" => batch.put(table, key, bytes_of(words.next().unwrap())),
+            _ => batch.delete(table, key),
+        };
+    }
+    batch
+}
+
 fn span_of(words: &[&str]) -> Span {
     let bound = |name: &str| words.iter().find_map(|word| word.strip_prefix(name)).map(bytes_of);
     let mut span = bound("prefix=").map_or(Span::all(), Span::prefix);
@@ -69,12 +82,13 @@ struct Asked {
     program: String,
     folder: String,
     store: Option<Store>,
+    tables: Option<TableStore>,
     #[cfg(feature = "read")]
     reader: Option<hechdoram::Reader>,
 }
 
 impl Asked {
-    fn open(&self, folder: &str, words: &[&str]) -> Result<Store> {
+    fn options(&self, words: &[&str]) -> Options {
         let mut options = Options::new().program(&self.program);
         for word in words {
             let (name, value) = word.split_once('=').unwrap();
@@ -86,15 +100,69 @@ impl Asked {
                 _ => options.most_segments(number),
             };
         }
-        options.open(folder)
+        options
+    }
+
+    fn open(&self, folder: &str, words: &[&str]) -> Result<Store> {
+        self.options(words).open(folder)
     }
 
     fn store(&self) -> Result<&Store> {
         self.store.as_ref().ok_or_else(|| panic!("no store was opened"))
     }
 
+    fn do_topen(&mut self, folder: &str, words: &[&str]) -> Result<String> {
+        (self.store, self.tables) = (None, None);
+        self.tables = Some(self.options(words).open_tables(folder)?);
+        Ok("opened".into())
+    }
+
+    /// Puts so many pairs in one batch, each seventh of them longer, and walks over them.
+    fn do_tmany(&self, name: &[u8], count: usize) -> Result<String> {
+        let tables = self.tables.as_ref().expect("no tables were opened");
+        let value = |index: usize| index.to_string().repeat(if index % 7 == 0 { 700 } else { 1 }).into_bytes();
+        let pairs: Vec<Pair> = (0..count).map(|index| (format!("key{index:08}").into_bytes(), value(index))).collect();
+        let mut batch = TableBatch::new();
+        for (key, value) in &pairs {
+            batch.put(name, key, value);
+        }
+        tables.batch(&batch)?;
+        assert!(tables.table(name).scan(Span::prefix("key")).collect::<Result<Vec<Pair>>>()? == pairs);
+        Ok(format!("walked {count}"))
+    }
+
+    fn ask_tables(&self, words: &[&str]) -> Option<Result<String>> {
+        let store = self.tables.as_ref()?;
+        let word = |at: usize| words.get(at).map_or(Vec::new(), |word| bytes_of(word));
+        let ok = |()| "ok".to_string();
+        Some(match words[0] {
+            "tables" => store.tables().map(|names| names.iter().fold("tables".into(), |line, name| line + " " + &hex(name))),
+            "create" => store.create_table(word(1)).map(|table| {
+                assert!(table.name() == word(1));
+                "ok".into()
+            }),
+            "drop" => store.drop_table(word(1)).map(ok),
+            "tput" => store.table(word(1)).put(word(2), word(3)).map(ok),
+            "tdel" => store.table(word(1)).delete(word(2)).map(ok),
+            "tget" => store.table(word(1)).get(word(2)).map(|value| value.map_or("none".into(), |value| format!("value {}", hex(&value)))),
+            "tcount" => store.table(word(1)).count().map(|count| format!("count {count}")),
+            "tnext" => store.table(word(1)).at_or_above(word(2)).map(found),
+            "tscan" => store.table(word(1)).scan(span_of(&words[2..])).collect::<Result<_>>().map(pairs_line),
+            "tbatch" => store.batch(&table_batch_of(&words[1..])).map(ok),
+            "tmany" => self.do_tmany(&word(1), words[2].parse().unwrap()),
+            "keep" => store.keep().map(|frame| frame.map_or("no frame".into(), |frame| format!("frame {frame}"))),
+            "close" => store.close().map(|()| "closed".into()),
+            "abandon" => {
+                store.abandon();
+                Ok("abandoned".into())
+            }
+            _ => return None,
+        })
+    }
+
     fn do_open(&mut self, folder: &str, words: &[&str]) -> Result<String> {
         self.folder = folder.to_string();
+        self.tables = None;
         if let Some(store) = &self.store {
             store.abandon();
         }
@@ -236,11 +304,20 @@ impl Asked {
                 }
                 return self.do_open(words[1], &words[2..]);
             }
+            "topen" => return self.do_topen(words[1], &words[2..]),
+            "kill" => {
+                let number = fs::read_to_string(words[1]).unwrap();
+                assert!(Command::new("kill").args(["-9", number.trim()]).status().unwrap().success());
+                return Ok("killed".into());
+            }
             "other" | "append" => return self.do_other(words),
             "fill" => return self.do_fill(),
             "many" => return self.do_many(words[1].parse().unwrap()),
             "threads" => return self.do_threads(words[1].parse().unwrap()),
             _ => {}
+        }
+        if let Some(answer) = self.ask_tables(words) {
+            return answer;
         }
         #[cfg(feature = "read")]
         if let Some(answer) = self.ask_reader(words) {
@@ -265,6 +342,7 @@ fn main() {
         program: env::args().nth(1).unwrap(),
         folder: String::new(),
         store: None,
+        tables: None,
         #[cfg(feature = "read")]
         reader: None,
     };
