@@ -4,3 +4,4 @@ pub mod LeaveLaws
 pub mod NameLaws
 pub mod WalkLaws
 pub mod WayLaws
+pub mod BatchLaws

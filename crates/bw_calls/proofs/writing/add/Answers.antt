@@ -1,5 +1,5 @@
 use Rattle.bw_calls.proofs.PlainLaws.{gone_on, gone_on_in_vain, gone_on_same}
-use Rattle.std.proofs.Common.{◌-◌}
+use Rattle.std.proofs.Common.{inl, ◌-◌}
 use Rattle.bw_calls.proofs.writing.add.Goals as goal
 
 pub returns-clause-goes_on : goal.returns-clause-goes_on
@@ -18,4 +18,4 @@ returns-clause-stays g c = λ tables h.
 pub returns-clause-leaves : goal.returns-clause-leaves
 returns-clause-leaves g c = λ tables h ts among stops.
     let written = c.chunk_group.ensures.goes_on tables _ h in
-    c.prepare.ensures.leaves ts (tables, among, written.stays) stops
+    c.prepare.ensures.leaves ts (tables, among, inl written.stays) stops

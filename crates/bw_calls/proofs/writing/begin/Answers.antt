@@ -1,3 +1,4 @@
+use Rattle.std.proofs.Common.{inl}
 use Rattle.bw_calls.proofs.PlainLaws.{begun, begun_in_vain, begun_same, itself}
 use Rattle.bw_calls.proofs.writing.begin.Goals as goal
 
@@ -17,4 +18,4 @@ returns-clause-stays g c = λ lawful unnamed.
 pub returns-clause-leaves : goal.returns-clause-leaves
 returns-clause-leaves g c = λ lawful unnamed ts among stops.
     let written = c.first_group.ensures.begins _ _ (itself _ lawful) unnamed in
-    c.prepare.ensures.leaves ts (_, among, written.stays) stops
+    c.prepare.ensures.leaves ts (_, among, inl written.stays) stops
