@@ -28,6 +28,7 @@ use Rattle.bw_calls.specs.Changes.{HasSame, IsFirstOf}
 use Rattle.bw_calls.specs.declared.batching.Change.{Change}
 use Rattle.bw_calls.proofs.PlainLaws.{plain_of, itself, kept_by, moved, same_number, writing_as, wrote}
 use Rattle.bw_calls.proofs.LeaveLaws.{number_moved}
+use Rattle.bw_calls.proofs.OtherLaws.{on_then}
 
 -- ---- rows aside that are there
 
@@ -48,6 +49,15 @@ pub none_aside : (p : Plain) (pair : Option (Bytes × Bytes)) → pair ≡ None 
 none_aside p pair is first k =
     let none : (q : Bytes) → IsTrue (starts_with nat_eq q (6 ∷ [])) → p q ≡ None = subst (IsFirstOf p (6 ∷ [])) is first in
     none (aside_key k) refl
+
+pub none_aside_moved : (m m1 : Map) (pair : Option (Bytes × Bytes)) → m1 ≡ m → pair ≡ None → IsFirstOf (plain_of m) (6 ∷ []) pair → HasNoAside (plain_of m1)
+none_aside_moved m m1 pair same is first = subst (λ (x : Map). HasNoAside (plain_of x)) (sym same) (none_aside (plain_of m) pair is first)
+
+pub first_pair_moved : (m m1 : Map) (prefix key value : Bytes) (pair : Option (Bytes × Bytes)) → m1 ≡ m → pair ≡ Some (key, value) → IsFirstOf (plain_of m) prefix pair
+    → (plain_of m1 key ≡ Some value) × IsTrue (starts_with nat_eq key prefix)
+first_pair_moved m m1 prefix key value pair same is first =
+    let its = first_pair (plain_of m) prefix key value pair is first in
+    (ap (λ (x : Map). plain_of x key) same ∙ its.0, its.1)
 
 -- a row aside goes away
 pub aside_goes : (p : Plain) (key : Bytes) (group : List Record) → IsLawful p → IsTrue (starts_with nat_eq key (6 ∷ [])) → group ≡ Del key ∷ []
@@ -70,10 +80,6 @@ pub stays_by : {A E : Type 0} (p new : Plain) (group : List Record) (r : Result 
 stays_by p new group r lawful done ok err = kept_by (tables_of p) p (after p group) new (itself p lawful) done (wrote r p (after p group) new ok err)
 
 -- ---- changes that are set aside
-
-pub then_ok : {A E : Type 0} {P Q : Type 0} (r : Result A E) → (P → Q) → OnOk r P → OnOk r Q
-then_ok (Ok x) f h = f h
-then_ok (Err e) f h = tt
 
 pub gathered_by : {A E : Type 0} (p new : Plain) (t key row : Bytes) (group : List Record) (r : Result A E) → SetsAside t key row group → OnOk r (new ≡ after p group)
     → OnOk r (FitsAside p row → Gathers p t key (said p (Some row) None) new)
@@ -106,14 +112,14 @@ pub gathers_none : {A E : Type 0} (p new : Plain) (t key row : Bytes) (r : Resul
 gathers_none p new t key row r is h =
     let there : OnOk r (FitsAside p no_row → Gathers p t key None new)
     = subst (λ (x : Bytes). OnOk r (FitsAside p x → Gathers p t key (said p (Some x) None) new)) is h in
-    then_ok r (λ f. f (fits_none p)) there
+    on_then r (λ f. f (fits_none p)) there
 
 pub gathers_short : {A E : Type 0} (p new : Plain) (t key value row : Bytes) (r : Result A E) → row ≡ whole_row value
     → OnOk r (FitsAside p row → Gathers p t key (said p (Some row) None) new) → OnOk r (Gathers p t key (Some value) new)
 gathers_short p new t key value row r is h =
     let there : OnOk r (FitsAside p (whole_row value) → Gathers p t key (Some value) new)
     = subst (λ (x : Bytes). OnOk r (FitsAside p x → Gathers p t key (said p (Some x) None) new)) is h in
-    then_ok r (λ f. f (fits_whole p value)) there
+    on_then r (λ f. f (fits_whole p value)) there
 
 -- a long value, all chunks of which are there under a number that nothing names
 module _ (tables next : Tables) (p mid : Plain) (n value row : Bytes) (g : IsGathering tables next p) (first : chunks_of p n 0 ≡ None)
@@ -155,7 +161,7 @@ pub gathers_long : {A E : Type 0} (p mid new : Plain) (t key n value row : Bytes
     → OnOk r (FitsAside mid row → Gathers mid t key (said mid (Some row) None) new) → OnOk r (Gathers p t key (Some value) new)
 gathers_long p mid new t key n value row len r is names counts long first others same written h =
     let named : head_of row ≡ Some (n, length value) = names ∙ ap (λ (x : ℕ). Some (n, x)) counts in
-    then_ok r (λ f tables next name g its.
+    on_then r (λ f tables next name g its.
     let w : IsWriting tables mid n value (chunks_in (length value)) = writing_as tables p mid n value (chunks_in (length value)) g.stays (written g.stays.lawful) in
     let still = silent tables next p mid n value row g first w others long named in
     let its_fits = fits tables next p mid n value row g first w others long named in
@@ -168,7 +174,7 @@ pub one_aside : {A E : Type 0} (m m1 : Map) (new : Plain) (t : Bytes) (change : 
     → Some t ≡ option_map table_in (plain_of m (name_key change.table)) → OnOk r (Gathers (plain_of m1) t change.key (bytes_in change.value) new)
     → (tables next : Tables) → IsGathering tables next (plain_of m) → OnOk r (IsGathering tables (with_change next change) new)
 one_aside m m1 new t change r same told h tables next g =
-    then_ok r (λ f. f tables next change.table (subst (λ (x : Map). IsGathering tables next (plain_of x)) (sym same) g) (number_moved m m1 change.table t same told)) h
+    on_then r (λ f. f tables next change.table (subst (λ (x : Map). IsGathering tables next (plain_of x)) (sym same) g) (number_moved m m1 change.table t same told)) h
 
 -- one change more
 pub changes_more : (tables : Tables) (changes : List Change) (i : ℕ) (change : Change) → i < length changes → change ≡ get_or changes i change
@@ -210,7 +216,7 @@ standing_by tables p q new h g (inr e) = subst (IsStanding tables) (sym e) g
 
 pub ended : {A E : Type 0} (tables : Tables) (p new : Plain) (group : List Record) (r : Result A E) → EndsBatch group → IsStanding tables p → HasNoAside p
     → OnOk r (new ≡ after p group) → OnOk r (IsTables tables new)
-ended tables p new group r ends stands none ok = then_ok r (λ e. subst (IsTables tables) (sym e) (ends tables p stands none)) ok
+ended tables p new group r ends stands none ok = on_then r (λ e. subst (IsTables tables) (sym e) (ends tables p stands none)) ok
 
 left_or_ended : (tables : Tables) (p q new : Plain) → IsStanding tables p → IsTables tables q → (new ≡ p) ⊎ (new ≡ q) → IsLeft tables new
 left_or_ended tables p q new h g (inl e) = inr (subst (IsStanding tables) (sym e) h)
@@ -244,62 +250,6 @@ left_moved tables m m1 h same = subst (λ (x : Map). IsLeft tables (plain_of x))
 pub mark_told : (m m1 : Map) (key : Bytes) (answer its : Option Bytes) → m1 ≡ m → answer ≡ its → answer ≡ plain_of m key → key ≡ stands_key → plain_of m1 stands_key ≡ its
 mark_told m m1 key answer its same is told at =
     ap (λ (x : Map). plain_of x stands_key) same ∙ ap (plain_of m) (sym at) ∙ sym told ∙ is
-
--- ---- what stands under one number
-
-pub others_then : (n : Bytes) (p q r : Plain) → HasOthers n p q → HasOthers n q r → HasOthers n p r
-others_then n p q r a b = record {
-  names = λ name. b.names name ∙ a.names name;
-  asides = λ k. b.asides k ∙ a.asides k;
-  chunks = λ m i wide other. b.chunks m i wide other ∙ a.chunks m i wide other;
-  doomed = λ m other. b.doomed m other ∙ a.doomed m other;
-}
-
-pub others_here : (n : Bytes) (p : Plain) → HasOthers n p p
-others_here n p = record { names = λ name. refl; asides = λ k. refl; chunks = λ m i wide other. refl; doomed = λ m other. refl }
-
-one_chunk_more : (n value : Bytes) (q : Plain) (i : ℕ) → length n ≡ 8 → HasOthers n q (changed q (chunk_record n value i))
-one_chunk_more n value q i wide = record {
-  names = λ name. refl;
-  asides = λ k. refl;
-  chunks = λ m j its other. ap (λ b. cond b (Some (chunk_of value i)) (chunks_of q m j)) (chunks_apart n m i j wide its other);
-  doomed = λ m other. refl;
-}
-
-pub chunks_others : (p : Plain) (n value : Bytes) (i k : ℕ) → length n ≡ 8 → HasOthers n p (after p (chunk_records n value i k))
-chunks_others p n value i zero wide = others_here n p
-chunks_others p n value i (suc k) wide =
-    subst (HasOthers n p) (sym (fold_push changed p (chunk_records n value i k) (chunk_record n value (i + k))))
-    (others_then n p (after p (chunk_records n value i k)) (changed (after p (chunk_records n value i k)) (chunk_record n value (i + k)))
-    (chunks_others p n value i k wide) (one_chunk_more n value (after p (chunk_records n value i k)) (i + k) wide))
-
-taking_others : (p : Plain) (n : Bytes) → HasOthers n p (after p (taking n))
-taking_others p n = record {
-  names = λ name. refl;
-  asides = λ k. refl;
-  chunks = λ m i wide other. refl;
-  doomed = λ m other. ap (λ b. is_some (cond b (Some []) (p (doomed_key m)))) (same_false m n other);
-}
-
-pub begun_others : {A E : Type 0} (p new : Plain) (n value : Bytes) (to : ℕ) (group : List Record) (r : Result A E) → length n ≡ 8
-    → group ≡ taking n ++ chunk_records n value 0 to → OnOk r (new ≡ after p group) → OnOk r (HasOthers n p new)
-begun_others p new n value to group r wide is ok =
-    let both : HasOthers n p (after (after p (taking n)) (chunk_records n value 0 to))
-    = others_then n p (after p (taking n)) (after (after p (taking n)) (chunk_records n value 0 to)) (taking_others p n) (chunks_others (after p (taking n)) n value 0 to wide) in
-    then_ok r (λ e. subst (HasOthers n p) (sym (e ∙ ap (after p) is ∙ fold-append changed p (taking n) (chunk_records n value 0 to))) both) ok
-
-pub gone_on_others : {A E : Type 0} (p new : Plain) (n value : Bytes) (i k : ℕ) (group : List Record) (r : Result A E) → length n ≡ 8
-    → group ≡ chunk_records n value i k → OnOk r (new ≡ after p group) → OnOk r (HasOthers n p new)
-gone_on_others p new n value i k group r wide is ok =
-    then_ok r (λ e. subst (HasOthers n p) (sym (e ∙ ap (after p) is)) (chunks_others p n value i k wide)) ok
-
-pub first_told : (m m1 : Map) (n k : Bytes) (answer : Option Bytes) → m1 ≡ m → answer ≡ None → answer ≡ plain_of m1 k → k ≡ chunk_key (chunk_place n 0)
-    → chunks_of (plain_of m) n 0 ≡ None
-first_told m m1 n k answer same is told its =
-    ap (λ (x : Map). plain_of x (chunk_key (chunk_place n 0))) (sym same) ∙ ap (plain_of m1) (sym its) ∙ sym told ∙ is
-
-pub all_others : (m m1 : Map) (n : Bytes) (p new : Plain) → m1 ≡ m → HasOthers n (plain_of m1) p → HasOthers n p new → HasOthers n (plain_of m) new
-all_others m m1 n p new same a b = subst (λ (x : Map). HasOthers n (plain_of x) new) same (others_then n (plain_of m1) p new a b)
 
 -- ---- the step
 

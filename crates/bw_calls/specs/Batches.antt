@@ -1,15 +1,17 @@
 -- What a batch makes of tables.
 
-use Rattle.std.specs.Prelude.{ℕ, List, Option, Bool, cond}
+use Rattle.std.specs.Prelude.{ℕ, List, Option, Bool, true, false}
 use Rattle.std.specs.List.{fold}
 use Rattle.std.specs.Option.{option_map}
 use Rattle.std.specs.declared.alloc.Global.{Global}
 use Rattle.std.specs.declared.vec.Vec.{Vec}
 use Rattle.bw_rows.specs.Spelling.{Bytes}
 use Rattle.bw_rows.specs.Meaning.{Plain, Tables, with_value}
-use Rattle.bw_rows.specs.Laws.{HasNumber}
-use Rattle.bw_rows.specs.Batches.{IsGathering}
+use Rattle.bw_rows.specs.Laws.{HasNumber, IsTables}
+use Rattle.bw_rows.specs.Batches.{IsGathering, IsStanding}
 use Rattle.bw_calls.specs.declared.batching.Change.{Change}
+use Rattle.bw_calls.specs.declared.fault.TableFault.{TableFault}
+use Rattle.bw_calls.specs.Standing.{waits}
 
 -- the bytes of a value, if there is one
 abbrev pub bytes_in : Option (Vec ℕ Global) → Option Bytes
@@ -27,3 +29,11 @@ with_changes tables changes = fold with_change tables changes
 abbrev pub Gathers : Plain → Bytes → Bytes → Option Bytes → Plain → Type 0
 Gathers p t key value new =
     (tables next : Tables) (name : Bytes) → IsGathering tables next p → HasNumber p name t → IsGathering tables (with_value next name key value) new
+
+-- what a batch leaves that was refused: if its mark waits, it stands, and else the tables are as they were
+abbrev pub LeftBy : Bool → Tables → Tables → Plain → Type 0
+LeftBy true was changed p = IsStanding changed p
+LeftBy false was changed p = IsTables was p
+
+abbrev pub IsBatchLeftBy : TableFault → Tables → Tables → Plain → Type 0
+IsBatchLeftBy fault was changed p = LeftBy (waits fault) was changed p

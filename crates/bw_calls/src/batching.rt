@@ -6,13 +6,12 @@
 
 ghost use Rattle.std.specs.Prelude.{◌≡◌, ◌<◌, ◌≤◌, [], ◌∷◌, false, None, Some, length, nat_eq, IfErr, IfOk, IsTrue, OnOk};
 ghost use Rattle.std.specs.List.{starts_with};
-ghost use Rattle.bw_rows.specs.Spelling.{Bytes, stands_key};
-ghost use Rattle.bw_rows.specs.Meaning.{Tables, with_value};
-ghost use Rattle.bw_rows.specs.Laws.{HasNumber, IsLawful, IsTables};
+ghost use Rattle.bw_rows.specs.Meaning.{Tables};
+ghost use Rattle.bw_rows.specs.Laws.{IsLawful, IsTables};
 ghost use Rattle.bw_rows.specs.Batches.{said, FitsAside, HasNoAside, IsGathering, IsLeft, IsStanding};
 ghost use Rattle.bw_home.specs.Maps.{maps_of};
 ghost use Rattle.bw_home.specs.Ready.{IsReady};
-ghost use Rattle.bw_calls.specs.Batches.{bytes_in, with_change, with_changes, Gathers};
+ghost use Rattle.bw_calls.specs.Batches.{bytes_in, with_change, with_changes, Gathers, IsBatchLeftBy};
 ghost use Rattle.bw_calls.specs.Changes.{IsFirstOf};
 ghost use Rattle.bw_calls.specs.Lives.{Goes, Reads, Stays};
 ghost use Rattle.bw_calls.specs.Standing.{plain_in, tables_in, waits};
@@ -99,8 +98,8 @@ fn put_aside(
 ) -> Result<(), TableFault>
     requires ready { IsReady home.old holding }
     ensures ready { IsReady home.new holding }
-    ensures gathers { FitsAside (plain_in home.old holding) row
-        → OnOk result (Gathers (plain_in home.old holding) table.bytes key.now
+    ensures gathers { OnOk result (FitsAside (plain_in home.old holding) row
+        → Gathers (plain_in home.old holding) table.bytes key.now
         (said (plain_in home.old holding) (Some row) None) (plain_in home.new holding)) }
     ensures stays { IsLawful (plain_in home.old holding)
         → IsTables (tables_in home.old holding) (plain_in home.new holding) }
@@ -369,7 +368,7 @@ pub fn batch(home: &mut Home, changes: &[Change]) -> Result<(), TableFault>
         → OnOk result (IsLeft (with_changes (tables_in home.old holding) changes.now)
         (plain_in home.new holding)) }
     ensures refused { IsLawful (plain_in home.old holding)
-        → IfErr result (λ fault. IsLeftBy fault (tables_in home.old holding)
+        → IfErr result (λ fault. IsBatchLeftBy fault (tables_in home.old holding)
         (with_changes (tables_in home.old holding) changes.now) (plain_in home.new holding)) }
     ensures leaves { IsLawful (plain_in home.old holding)
         → Goes (tables_in home.old holding)
