@@ -4,3 +4,5 @@ pub mod LeaveLaws
 pub mod NameLaws
 pub mod WalkLaws
 pub mod WayLaws
+pub mod OtherLaws
+pub mod BatchLaws
