@@ -66,7 +66,7 @@ impl Tending {
         if !self.tries(home, wanted) {
             return Ok(false);
         }
-        self.make_one(rt, home)
+        self.make_some(rt, home)
     }
 
     /// Whether a call may be done that writes blocks with so many bytes at most. If there is too little

@@ -84,7 +84,7 @@ pub enum Changed {
 
 /// A store that one writer puts into, with a queue that is long enough for batches. Its new segments
 /// have room for so many bytes, if that is said.
-fn options(capacity: Option<u32>) -> Options {
+pub fn options(capacity: Option<u32>) -> Options {
     let other = Options::default();
     let capacity = capacity.map_or(other.capacity, u64::from);
     Options {

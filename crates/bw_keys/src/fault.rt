@@ -6,6 +6,23 @@ use bw_pairs::{LineFault, PairsFault};
 use std::alloc::{AllocError, AllocFailed};
 use std::io::{self, ErrorKind};
 
+/// Why a task was not done with the tables of a folder, or with its plain pairs.
+#[derive(Debug, Clone, Copy, PartialEq, Eq)]
+pub enum TableRefusal {
+    /// It has tables, and a plain pair would be put or deleted.
+    HasTables,
+    /// It has plain pairs, and a table was named.
+    IsPlain,
+    /// No table has this name.
+    NoTable,
+    /// A table has this name already.
+    Exists,
+    /// There are as many tables as there may be.
+    TooMany,
+    /// Its pairs are not those of tables, though it has their mark.
+    Broken,
+}
+
 /// Why a task was not done, or ended early.
 #[derive(Debug, Clone, Copy)]
 pub enum KeysFault {
@@ -23,6 +40,8 @@ pub enum KeysFault {
     Output,
     /// Nobody reads the output any more.
     Closed,
+    /// Tables were meant and are not there, or the other way round.
+    Table(TableRefusal),
 }
 
 impl KeysFault {

@@ -39,35 +39,43 @@ pub enum Parts {
 
 impl Parts {
     /// Writes an object of JSON.
-    fn write_json<O: Write>(self, output: &mut O, pair: &Pair) -> io::Result<()> {
+    fn write_json<O: Write>(self, output: &mut O, key: &[u8], value: &[u8]) -> io::Result<()> {
         match self {
-            Parts::Both => write_json(output, Some(pair.key()), Some(pair.value())),
-            Parts::Keys => write_json(output, Some(pair.key()), None),
-            Parts::Values => write_json(output, None, Some(pair.value())),
+            Parts::Both => write_json(output, Some(key), Some(value)),
+            Parts::Keys => write_json(output, Some(key), None),
+            Parts::Values => write_json(output, None, Some(value)),
         }
     }
 
     /// Writes a line of CSV.
-    fn write_csv<O: Write>(self, output: &mut O, pair: &Pair) -> io::Result<()> {
+    fn write_csv<O: Write>(self, output: &mut O, key: &[u8], value: &[u8]) -> io::Result<()> {
         match self {
-            Parts::Both => write_csv(output, pair.key(), pair.value()),
-            Parts::Keys => write_csv_field(output, pair.key()),
-            Parts::Values => write_csv_field(output, pair.value()),
+            Parts::Both => write_csv(output, key, value),
+            Parts::Keys => write_csv_field(output, key),
+            Parts::Values => write_csv_field(output, value),
         }
     }
 }
 
 impl Style {
-    /// Writes a pair.
-    fn write<O: Write>(self, output: &mut O, pair: &Pair) -> io::Result<()> {
+    /// Writes a key and its value.
+    pub fn write<O: Write>(self, output: &mut O, key: &[u8], value: &[u8]) -> io::Result<()> {
         match self {
-            Style::Tabs(spelling) => write_pair(output, spelling, pair.key(), pair.value()),
-            Style::Keys(spelling) => write_line(output, spelling, pair.key()),
-            Style::Values(spelling) => write_line(output, spelling, pair.value()),
-            Style::Json(parts) => parts.write_json(output, pair),
-            Style::Csv(parts) => parts.write_csv(output, pair),
-            Style::Dump(letters, _) => write_dumped(output, letters, pair.key(), pair.value()),
+            Style::Tabs(spelling) => write_pair(output, spelling, key, value),
+            Style::Keys(spelling) => write_line(output, spelling, key),
+            Style::Values(spelling) => write_line(output, spelling, value),
+            Style::Json(parts) => parts.write_json(output, key, value),
+            Style::Csv(parts) => parts.write_csv(output, key, value),
+            Style::Dump(letters, _) => write_dumped(output, letters, key, value),
         }
+    }
+
+    /// Whether it writes values.
+    pub fn has_values(self) -> bool {
+        !matches!(
+            self,
+            Style::Keys(_) | Style::Json(Parts::Keys) | Style::Csv(Parts::Keys)
+        )
     }
 }
 
@@ -130,7 +138,9 @@ impl<'a, O: Write> Listing<'a, O> {
         }
         self.left -= 1;
         let style = self.style;
-        style.write(self.output, pair).map_err(KeysFault::of_output)
+        style
+            .write(self.output, key, pair.value())
+            .map_err(KeysFault::of_output)
     }
 
     /// Writes the pairs of a page, in the order of their keys.

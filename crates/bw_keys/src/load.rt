@@ -3,10 +3,11 @@
 
 ghost use Rattle.bw_home.specs.Ready.{IsReady};
 
-use crate::fault::KeysFault;
+use crate::fault::{KeysFault, TableRefusal};
 use crate::full::Admission;
 use crate::measure::last_frame;
 use crate::records::Records;
+use crate::tables::has_tables;
 use crate::tending::{Tending, forget};
 use bw_codec::Record;
 use bw_core::StoreFault;
@@ -47,6 +48,8 @@ pub struct Load<'a, S, W> {
     tending: Tending,
     /// A record that found the queue full.
     waiting: Option<Group>,
+    /// Whether it was looked whether the store has tables.
+    has_looked: bool,
     /// Whether there are no more records.
     is_over: bool,
     /// Why there are none.
@@ -76,6 +79,7 @@ impl<'a, S: Records, W: Watch> Load<'a, S, W> {
             watch,
             tending,
             waiting: None,
+            has_looked: false,
             is_over: false,
             fault: None,
             count: 0,
@@ -301,7 +305,7 @@ impl<'a, S: Records, W: Watch> Load<'a, S, W> {
 }
 
 /// Why the spare that was made for this leg was not added. What wants it would ask for ever.
-fn refused_spare(home: &Home) -> Result<(), KeysFault>
+pub fn refused_spare(home: &Home) -> Result<(), KeysFault>
     requires { IsReady home.now holding }
 {
     match home.added() {
@@ -316,12 +320,36 @@ fn refused_spare(home: &Home) -> Result<(), KeysFault>
 }
 
 impl<S: Records, W: Watch> Load<'_, S, W> {
+    /// Refuses a store that has tables, once.
+    fn look(&mut self, home: &mut Home) -> Result<(), KeysFault>
+        requires { IsReady home.old holding }
+        ensures { IsReady home.new holding }
+    {
+        if self.has_looked {
+            return Ok(());
+        }
+        self.has_looked = true;
+        match has_tables(home)? {
+            true => Err(KeysFault::Table(TableRefusal::HasTables)),
+            false => Ok(()),
+        }
+    }
+
+    /// Why no leg begins here: the store has tables, or it refused the spare that was made for it.
+    fn refused(&mut self, home: &mut Home) -> Result<(), KeysFault>
+        requires { IsReady home.old holding }
+        ensures { IsReady home.new holding }
+    {
+        refused_spare(home)?;
+        self.look(home)
+    }
+
     /// Goes on with the records in a leg; none is answered if another leg has to follow.
     fn go_on<R: System>(&mut self, rt: &R, home: &mut Home) -> Option<Result<u64, KeysFault>>
         requires { IsReady home.old holding }
         ensures { IsReady home.new holding }
     {
-        if let Err(fault) = refused_spare(home) {
+        if let Err(fault) = self.refused(home) {
             self.durable = home.store.durable_of(0);
             return Some(Err(fault));
         }

@@ -1,8 +1,9 @@
 //! What an import would do, by a look at the folder, which stays as it is.
 
 use crate::changes::Effect;
-use crate::fault::KeysFault;
+use crate::fault::{KeysFault, TableRefusal};
 use crate::pages::{pages_if_there, pair_of};
+use crate::tables::have_tables;
 use bw_codec::{Key, Record, Value};
 use bw_home::System;
 use bw_page::Leaves;
@@ -86,8 +87,16 @@ impl Plan {
     }
 }
 
+/// Whether these pages, if there are any, are those of tables.
+fn are_tables(found: Option<&Leaves>) -> bool {
+    match found {
+        Some(leaves) => have_tables(leaves),
+        None => false,
+    }
+}
+
 /// What an import of these pairs would do with a folder. One that is missing, or has no store, has
-/// no key.
+/// no key. One that has tables is refused.
 pub fn planned<R: System, I: Read + Drop, W: Watch>(
     rt: &R,
     dir: &str,
@@ -97,6 +106,9 @@ pub fn planned<R: System, I: Read + Drop, W: Watch>(
     watch: &mut W,
 ) -> Result<Plan, KeysFault> {
     let found = pages_if_there(rt, dir, leases, watch)?;
+    if are_tables(found.as_ref()) {
+        return Err(KeysFault::Table(TableRefusal::HasTables));
+    }
     let all = input_bytes(rt, watch);
     let mut plan = Plan::new(effect);
     plan.note_all(found.as_ref(), pairs, all, watch)?;

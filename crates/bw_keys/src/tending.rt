@@ -6,7 +6,7 @@
 
 ghost use Rattle.bw_home.specs.Ready.{IsReady};
 
-use crate::full::Full;
+use crate::full::{Admission, Full};
 use crate::measure::{Measure, needed_of_oldest, newest, taken};
 use bw_codec::Record;
 use bw_core::{Cleaned, StoreFault};
@@ -327,15 +327,11 @@ impl Tending {
         if self.has_spares(home) {
             return Ok(false);
         }
-        self.make_one(rt, home)
+        self.make_some(rt, home)
     }
 
-    /// Makes a spare, also where more are left than room is made for; `false` if there is no way.
-    pub(crate) fn make_one<R: System>(
-        &mut self,
-        rt: &R,
-        home: &mut Home,
-    ) -> Result<bool, HomeFault>
+    /// Makes room, however many spares are left; `false` if there is no way.
+    pub fn make_some<R: System>(&mut self, rt: &R, home: &mut Home) -> Result<bool, HomeFault>
         requires { IsReady home.old holding }
         ensures { IsReady home.new holding }
     {
@@ -351,6 +347,39 @@ impl Tending {
         }
         self.note_full(home);
         Ok(false)
+    }
+
+    /// Whether the spares have room for a call that adds so many bytes of records, beside those that
+    /// are kept for a flush and a cleaning. If they have not, a spare is made, and the same is asked
+    /// again once it was added.
+    pub fn admits_call<R: System>(
+        &mut self,
+        rt: &R,
+        home: &mut Home,
+        bytes: u64,
+    ) -> Result<Admission, HomeFault>
+        requires { IsReady home.old holding }
+        ensures { IsReady home.new holding }
+    {
+        self.measure.capacity = home.capacity();
+        let kept = self.measure.kept(home, self.most);
+        let wanted = kept.saturating_add(self.measure.segments_of(bytes));
+        if home.store.spares() >= wanted {
+            return Ok(Admission::Yes);
+        }
+        if self.make_some(rt, home)? {
+            Ok(Admission::Room)
+        } else {
+            Ok(Admission::No)
+        }
+    }
+
+    /// Whether what is left of the newest segment has room for so many bytes of records, and a frame
+    /// beside them. So a call that deletes finds room in a full log.
+    pub fn has_rest(&self, home: &Home, bytes: u64) -> bool
+        requires { IsReady home.now holding }
+    {
+        bytes.saturating_add(self.measure.frame) <= self.rest(home)
     }
 
     /// Makes room after a cleaning: another one follows if the log gets shorter by it, so this comes to

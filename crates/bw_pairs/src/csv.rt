@@ -1,6 +1,7 @@
 //! A pair as a line of CSV: key, comma, value. What has a comma or a quote in it stands between quotes,
 //! and what is no text in hex behind `0x`, without quotes.
 
+use crate::buffer::Buffer;
 use crate::fault::LineFault;
 use crate::spelling::{Spelling, is_text, key_from, key_of, value_from, value_of, write_word};
 use arrayvec::ArrayVec;
@@ -68,19 +69,22 @@ enum At {
 
 /// A field of a line.
 #[derive(Drop)]
-struct Field {
-    bytes: ArrayVec<u8, LONGEST>,
-    is_quoted: bool,
+pub struct Field<B> {
+    pub bytes: B,
+    pub is_quoted: bool,
 }
 
 /// A field, as far as it was read.
 #[derive(Drop)]
-struct Reading {
-    field: Field,
+struct Reading<B> {
+    field: Field<B>,
     at: At,
 }
 
-impl Field {
+/// A field of a pair of a store.
+type Short = Field<ArrayVec<u8, LONGEST>>;
+
+impl Short {
     fn key(&self) -> Result<Key, LineFault> {
         let bytes = self.bytes.as_slice();
         if self.is_quoted {
@@ -100,14 +104,11 @@ impl Field {
     }
 }
 
-impl Reading {
+impl<B: Buffer> Reading<B> {
     /// A byte more of the field.
     fn push(&mut self, at: At, byte: u8) -> Result<(), LineFault> {
         self.at = at;
-        match self.field.bytes.try_push(byte) {
-            Ok(()) => Ok(()),
-            Err(_) => Err(LineFault::TooLong),
-        }
+        self.field.bytes.add(byte)
     }
 
     /// Goes on without a byte.
@@ -135,11 +136,12 @@ impl Reading {
     }
 }
 
-/// The first field of a line, and what stands behind its comma, if it has one.
-fn field_of(line: &[u8]) -> Result<(Field, Option<&[u8]>), LineFault> {
+/// The first field of a line, whose bytes go into a buffer that has none, and what stands behind its
+/// comma, if it has one.
+pub fn field_of<B: Buffer>(line: &[u8], bytes: B) -> Result<(Field<B>, Option<&[u8]>), LineFault> {
     let mut reading = Reading {
         field: Field {
-            bytes: ArrayVec::new(),
+            bytes,
             is_quoted: false,
         },
         at: At::Begin,
@@ -158,11 +160,11 @@ fn field_of(line: &[u8]) -> Result<(Field, Option<&[u8]>), LineFault> {
 
 /// The put of a line of CSV.
 pub fn csv_put_of(line: &[u8]) -> Result<Record, LineFault> {
-    let (first, rest) = field_of(line)?;
+    let (first, rest): (Short, Option<&[u8]>) = field_of(line, ArrayVec::new())?;
     let Some(rest) = rest else {
         return Err(LineFault::BadCsv);
     };
-    let (second, rest) = field_of(rest)?;
+    let (second, rest): (Short, Option<&[u8]>) = field_of(rest, ArrayVec::new())?;
     if rest.is_some() {
         return Err(LineFault::BadCsv);
     }
@@ -171,6 +173,6 @@ pub fn csv_put_of(line: &[u8]) -> Result<Record, LineFault> {
 
 /// The delete of its key, the first field.
 pub fn csv_del_of(line: &[u8]) -> Result<Record, LineFault> {
-    let (first, _) = field_of(line)?;
+    let (first, _): (Short, Option<&[u8]>) = field_of(line, ArrayVec::new())?;
     Ok(Record::Del(first.key()?))
 }

@@ -2,6 +2,7 @@
 //! `HEADER=END`, then a line for each key and one for its value, each behind a space, up to
 //! `DATA=END`.
 
+use crate::buffer::Buffer;
 use crate::fault::LineFault;
 use crate::spelling::{decoded, key_from, value_from, write_hex};
 use arrayvec::ArrayVec;
@@ -28,10 +29,26 @@ pub fn write_header<O: Write>(
     letters: Letters,
     mapsize: Option<u64>,
 ) -> io::Result<()> {
+    write_named_header(output, letters, None, mapsize)
+}
+
+/// Writes the header of a dump of a database, with its name if it has one. A name is spelled as
+/// `db_dump` spells it: printable ASCII as it is, and all else with escapes.
+pub fn write_named_header<O: Write>(
+    output: &mut O,
+    letters: Letters,
+    name: Option<&[u8]>,
+    mapsize: Option<u64>,
+) -> io::Result<()> {
     output.write_all(b"VERSION=3\n")?;
     match letters {
         Letters::Hex => output.write_all(b"format=bytevalue\n")?,
         Letters::Print => output.write_all(b"format=print\n")?,
+    }
+    if let Some(name) = name {
+        output.write_all(b"database=")?;
+        write_escaped(output, name)?;
+        output.write_all(b"\n")?;
     }
     output.write_all(b"type=btree\n")?;
     if let Some(size) = mapsize {
@@ -95,8 +112,8 @@ enum Escape {
 
 /// The bytes of a line with escapes, as far as it was read.
 #[derive(Drop)]
-struct Unescaping {
-    bytes: ArrayVec<u8, MAX_VALUE>,
+struct Unescaping<B> {
+    bytes: B,
     escape: Escape,
     too_long: LineFault,
 }
@@ -111,11 +128,11 @@ fn digit_of(letter: u8) -> Result<u8, LineFault> {
     }
 }
 
-impl Unescaping {
+impl<B: Buffer> Unescaping<B> {
     /// A byte of the line was read to its end.
     fn push(&mut self, byte: u8) -> Result<(), LineFault> {
         self.escape = Escape::Outside;
-        match self.bytes.try_push(byte) {
+        match self.bytes.add(byte) {
             Ok(()) => Ok(()),
             Err(_) => Err(self.too_long),
         }
@@ -139,10 +156,11 @@ impl Unescaping {
     }
 }
 
-/// The bytes of a line with escapes; `too_long` where a value has not so many.
-fn unescaped(line: &[u8], too_long: LineFault) -> Result<ArrayVec<u8, MAX_VALUE>, LineFault> {
+/// The bytes of a line with escapes, in a buffer that had none; `too_long` if it has not room for so
+/// many.
+pub fn unescaped<B: Buffer>(line: &[u8], bytes: B, too_long: LineFault) -> Result<B, LineFault> {
     let mut read = Unescaping {
-        bytes: ArrayVec::new(),
+        bytes,
         escape: Escape::Outside,
         too_long,
     };
@@ -156,7 +174,7 @@ fn unescaped(line: &[u8], too_long: LineFault) -> Result<ArrayVec<u8, MAX_VALUE>
 }
 
 /// What stands behind the space of a line of data.
-fn behind_space(line: &[u8]) -> Result<&[u8], LineFault> {
+pub fn behind_space(line: &[u8]) -> Result<&[u8], LineFault> {
     match line.strip_prefix(b" ") {
         Some(text) => Ok(text),
         None => Err(LineFault::NoSpace),
@@ -182,7 +200,7 @@ fn bytes_in(
     let text = behind_space(line)?;
     match letters {
         Letters::Hex => undigited(text, too_long),
-        Letters::Print => unescaped(text, too_long),
+        Letters::Print => unescaped(text, ArrayVec::new(), too_long),
     }
 }
 

@@ -57,6 +57,18 @@ pub enum LineFault {
     /// A quote of a line of CSV has no end there, or something stands behind it.
     #[error("bad quotes")]
     BadQuotes,
+    #[error("a key of a table has 1 to 124 bytes")]
+    BadRowKey,
+    #[error("a value of a table has 0 to 16777216 bytes")]
+    BadLong,
+    #[error("a name of a table has 1 to 127 bytes")]
+    BadName,
+    /// The header of a dump of several databases has no line `database=`.
+    #[error("a database without a name")]
+    NoName,
+    /// Only the databases of a dump have names.
+    #[error("only --format dump and print have names")]
+    NotDump,
 }
 
 /// Why no pair was read.

@@ -30,7 +30,7 @@ pub enum Source {
 
 /// How far that was read.
 #[derive(Debug, Clone, Copy, PartialEq, Eq)]
-enum Form {
+pub enum Form {
     /// A pair a line.
     Words,
     /// A pair a line, whose words are their own bytes.
@@ -45,6 +45,19 @@ enum Form {
     Data(Letters),
     /// A dump behind its end.
     Ended,
+}
+
+impl Source {
+    /// The form of an input before its first line.
+    pub fn form(self) -> Form {
+        match self {
+            Source::Words => Form::Words,
+            Source::Raw => Form::Raw,
+            Source::Json => Form::Json,
+            Source::Csv => Form::Csv,
+            Source::Dump => Form::Dump,
+        }
+    }
 }
 
 /// What comes next.
@@ -108,13 +121,7 @@ impl<I: Read + Drop> Pairs<I> {
         let lines = Lines::new(alloc, input, READS, LONGEST).map_err(PairsFault::of_read)?;
         Ok(Pairs {
             lines,
-            form: match source {
-                Source::Words => Form::Words,
-                Source::Raw => Form::Raw,
-                Source::Json => Form::Json,
-                Source::Csv => Form::Csv,
-                Source::Dump => Form::Dump,
-            },
+            form: source.form(),
             skips,
             deletes: false,
             skipped: Skipped {

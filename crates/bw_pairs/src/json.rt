@@ -1,6 +1,7 @@
 //! A pair as a line of JSON: an object of its key and its value, as texts, or in base64 where they are
 //! no UTF-8.
 
+use crate::buffer::Buffer;
 use crate::fault::LineFault;
 use crate::spelling::{key_from, value_from};
 use arrayvec::ArrayVec;
@@ -11,6 +12,10 @@ use std::io::{self, Write};
 
 /// How many letters of base64 the longest value has.
 const LETTERS: usize = (MAX_VALUE + 2) / 3 * 4;
+
+/// How many bytes are written in base64 at once: whole groups of three, so that only the last part
+/// has signs behind it that stand for nothing.
+const PART: usize = MAX_VALUE / 3 * 3;
 
 // ---- out
 
@@ -36,12 +41,14 @@ fn write_text<O: Write>(output: &mut O, text: &[u8]) -> io::Result<()> {
     output.write_all(b"\"")
 }
 
-/// Writes bytes in base64, between quotes.
+/// Writes bytes in base64, between quotes, a part after the other.
 fn write_base64<O: Write>(output: &mut O, bytes: &[u8]) -> io::Result<()> {
-    let mut room = [0u8; LETTERS];
-    let count = STANDARD.encode_slice(bytes, &mut room).unwrap_or(0);
     output.write_all(b"\"")?;
-    output.write_all(room.get(..count).unwrap_or(&[]))?;
+    for part in bytes.chunks(PART) {
+        let mut room = [0u8; LETTERS];
+        let count = STANDARD.encode_slice(part, &mut room).unwrap_or(0);
+        output.write_all(room.get(..count).unwrap_or(&[]))?;
+    }
     output.write_all(b"\"")
 }
 
@@ -81,29 +88,21 @@ type Text = ArrayVec<u8, LETTERS>;
 
 /// A line, as far as it is not read.
 #[derive(Clone, Copy)]
-struct Rest<'a> {
-    bytes: &'a [u8],
-}
-
-/// Adds a byte to a text.
-fn push(text: &mut Text, byte: u8) -> Result<(), LineFault> {
-    match text.try_push(byte) {
-        Ok(()) => Ok(()),
-        Err(_) => Err(LineFault::TooLong),
-    }
+pub struct Rest<'a> {
+    pub bytes: &'a [u8],
 }
 
 /// Adds a letter, by its number.
-fn push_letter(text: &mut Text, code: u32) -> Result<(), LineFault> {
+fn push_letter<B: Buffer>(text: &mut B, code: u32) -> Result<(), LineFault> {
     let Some(letter) = char::from_u32(code) else {
         return Err(LineFault::BadJson);
     };
     let mut room = [0u8; 4];
     let letters = letter.encode_utf8(&mut room);
-    match text.try_extend_from_slice(letters.as_bytes()) {
-        Ok(()) => Ok(()),
-        Err(_) => Err(LineFault::TooLong),
+    for byte in letters.as_bytes() {
+        text.add(*byte)?;
     }
+    Ok(())
 }
 
 /// The value of a hex digit.
@@ -118,7 +117,7 @@ fn digit_of(letter: u8) -> Result<u32, LineFault> {
 
 impl Rest<'_> {
     /// Reads a byte.
-    fn next(&mut self) -> Result<u8, LineFault> {
+    pub fn next(&mut self) -> Result<u8, LineFault> {
         match self.bytes {
             [first, rest @ ..] => {
                 self.bytes = rest;
@@ -129,13 +128,13 @@ impl Rest<'_> {
     }
 
     /// Reads over blanks, and tells the byte behind them.
-    fn peek(&mut self) -> Option<u8> {
+    pub fn peek(&mut self) -> Option<u8> {
         self.bytes = self.bytes.trim_ascii_start();
         self.bytes.first().copied()
     }
 
     /// Reads this byte, behind blanks.
-    fn expect(&mut self, byte: u8) -> Result<(), LineFault> {
+    pub fn expect(&mut self, byte: u8) -> Result<(), LineFault> {
         if self.peek() != Some(byte) {
             return Err(LineFault::BadJson);
         }
@@ -166,7 +165,7 @@ impl Rest<'_> {
     }
 
     /// Reads a letter by its number.
-    fn numbered(&mut self, text: &mut Text) -> Result<(), LineFault> {
+    fn numbered<B: Buffer>(&mut self, text: &mut B) -> Result<(), LineFault> {
         let unit = self.unit()?;
         let code = match unit {
             0xd800..=0xdbff => self.second_unit(unit)?,
@@ -176,29 +175,29 @@ impl Rest<'_> {
     }
 
     /// Reads what stands behind a backslash.
-    fn escape(&mut self, text: &mut Text) -> Result<(), LineFault> {
+    fn escape<B: Buffer>(&mut self, text: &mut B) -> Result<(), LineFault> {
         match self.next()? {
-            b'n' => push(text, b'\n'),
-            b'r' => push(text, b'\r'),
-            b't' => push(text, b'\t'),
-            b'b' => push(text, 8),
-            b'f' => push(text, 12),
+            b'n' => text.add(b'\n'),
+            b'r' => text.add(b'\r'),
+            b't' => text.add(b'\t'),
+            b'b' => text.add(8),
+            b'f' => text.add(12),
             b'u' => self.numbered(text),
-            letter @ (b'"' | b'\\' | b'/') => push(text, letter),
+            letter @ (b'"' | b'\\' | b'/') => text.add(letter),
             _ => Err(LineFault::BadJson),
         }
     }
 
-    /// Reads a text between quotes.
-    fn text(&mut self) -> Result<Text, LineFault> {
+    /// Reads a text between quotes into a buffer that has none.
+    pub fn text<B: Buffer>(&mut self, bytes: B) -> Result<B, LineFault> {
         self.expect(b'"')?;
-        let mut text = ArrayVec::new();
+        let mut text = bytes;
         for _ in 0..self.bytes.len() {
             match self.next()? {
                 b'"' => return Ok(text),
                 b'\\' => self.escape(&mut text)?,
                 0..=0x1f => return Err(LineFault::BadJson),
-                byte => push(&mut text, byte)?,
+                byte => text.add(byte)?,
             }
         }
         Err(LineFault::BadJson)
@@ -254,9 +253,9 @@ impl Members {
 
     /// Reads a member.
     fn read(&mut self, rest: &mut Rest<'_>) -> Result<(), LineFault> {
-        let name = rest.text()?;
+        let name: Text = rest.text(ArrayVec::new())?;
         rest.expect(b':')?;
-        let text = rest.text()?;
+        let text: Text = rest.text(ArrayVec::new())?;
         self.note(name.as_slice(), &text)
     }
 }

@@ -88,7 +88,7 @@ pub fn value_from(bytes: &[u8]) -> Result<Value, LineFault> {
 
 /// The bytes that a word stands for: its own, or those of its hex digits behind `0x`, which come to
 /// the front of `room`.
-fn bytes_of<'a>(
+pub fn bytes_of<'a>(
     word: &'a [u8],
     room: &'a mut [u8; MAX_VALUE],
     too_long: LineFault,

@@ -17,7 +17,6 @@ mod program;
 mod replay;
 mod rows;
 mod shell;
-mod standin;
 mod tabled;
 mod tables;
 mod tended;

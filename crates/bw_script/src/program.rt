@@ -183,11 +183,11 @@ fn tell_stop<E: Write>(errors: &mut E, folders: Folders<'_>, stop: Stop) -> Resu
         }
         Stop::HasTables => {
             out.named("folder ", folders.dir);
-            out.text(b": it has tables, and no pairs of its own: give --tables\n");
+            out.text(b": it has tables: bwlog serve --tables serves them\n");
         }
         Stop::NoTables => {
             out.named("folder ", folders.dir);
-            out.text(b": it has pairs of its own, and no tables: leave out --tables\n");
+            out.text(b": it has pairs that are no table's\n");
         }
         Stop::Within => {
             out.named("folder ", folders.dir);

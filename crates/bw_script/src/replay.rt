@@ -10,6 +10,7 @@ use crate::events::{tell_cleaned, tell_numbers, tell_refused, tell_reopened, tel
 use crate::mark::{Kind, kind_of};
 use crate::shell::{HELP, PROMPT, Shell, tell_text};
 use crate::tended::{Served, Tending};
+use bw_calls::Change;
 use bw_codec::Record;
 use bw_device::MAX_LEASES;
 use bw_home::{Added, Home, Legs, with_store_at};
@@ -17,7 +18,7 @@ use bw_look::Printer;
 use bw_pairs::{Lines, READS};
 use bw_watch::{Event, Watch, Work, folder_bytes};
 use bw_words::{
-    Change, Command, Condition, Fault, LONGEST, LONGEST_OF_TABLES, MOST_BATCH, Manner, Met, Miss,
+    Command, Condition, Fault, LONGEST, LONGEST_OF_TABLES, MOST_BATCH, Manner, Met, Miss,
     NotTyped, Options, PROTOCOL, Reading, Refusal, Request, Stop, System, TableCall, TableLine, Typed,
     leases_in, missed, no_input, parse, parse_change, parse_request, parse_table_line, parse_typed,
     print, print_found, refuse, refuse_after,

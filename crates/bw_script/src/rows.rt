@@ -6,6 +6,7 @@
 
 ghost use Rattle.bw_home.specs.Ready.{IsReady};
 
+use bw_calls::Change;
 use bw_codec::{Key, Pair};
 use bw_core::StoreFault;
 use bw_home::Home;
@@ -13,7 +14,7 @@ use bw_keys::above;
 use bw_rows::{
     Head, Name, RowKey, TableNumber, name_key, row_key, stands_key,
 };
-use bw_words::{Change, Miss, TableCall};
+use bw_words::{Miss, TableCall};
 use std::alloc::Global;
 
 /// How many pairs of the store are looked at in one search.
@@ -23,6 +24,9 @@ const PART: usize = 512;
 /// rows do.
 const DOOMED: u8 = 2;
 const GONE: u8 = 3;
+
+/// Those of names, rows aside, chunks and rows.
+const NAME: u8 = 1;
 const ASIDE: u8 = 6;
 const CHUNK: u8 = 7;
 const ROW: u8 = 8;
@@ -108,6 +112,27 @@ pub fn number_of(home: &mut Home, name: &Name) -> Result<Option<TableNumber>, St
             bytes: [*high, *low],
         })),
         _ => Ok(None),
+    }
+}
+
+/// The least name of a table above this one, or of all.
+pub fn next_name(home: &mut Home, above_name: Option<&Name>) -> Result<Option<Name>, StoreFault>
+    requires { IsReady home.old holding }
+    ensures { IsReady home.new holding }
+{
+    let from = match above_name {
+        Some(name) => above(name_key(name).as_slice()),
+        None => front_of(NAME, &[]),
+    };
+    let Some(from) = from else {
+        return Ok(None);
+    };
+    match home.next_at(&from)? {
+        Some((key, _)) => match key.as_slice() {
+            [NAME, bytes @ ..] => Ok(Name::new(bytes).ok()),
+            _ => Ok(None),
+        },
+        None => Ok(None),
     }
 }
 

@@ -25,7 +25,24 @@ fn only_deletes(call: &TableCall) -> bool {
 
 /// Whether a refusal may leave something half done.
 fn leaves_some(fault: &TableFault) -> bool {
-    matches!(fault, TableFault::NotMade(_) | TableFault::Waits(_))
+    matches!(
+        fault,
+        TableFault::NotMade(_) | TableFault::Waits(_) | TableFault::Unfinished
+    )
+}
+
+/// Whether a call that was done may have left something half done: a batch that is not carried out.
+fn has_left(home: &mut Home, call: &TableCall) -> bool
+    requires { IsReady home.old holding }
+    ensures { IsReady home.new holding }
+{
+    if !matches!(call, TableCall::Batch(_)) {
+        return false;
+    }
+    match has_batch(home) {
+        Ok(stands) => stands,
+        Err(_) => true,
+    }
 }
 
 /// How many records were taken since the store was opened.
@@ -148,7 +165,10 @@ impl Tending {
         let written = write_tables(home, call);
         self.count_taken(home);
         match written {
-            Ok(answer) => Ok(Served::Answer(answer)),
+            Ok(answer) => {
+                self.owes |= has_left(home, call);
+                Ok(Served::Answer(answer))
+            }
             Err(fault) => {
                 self.owes |= leaves_some(&fault);
                 Err(Miss::from(fault))

@@ -3,13 +3,15 @@
 ghost use Rattle.bw_home.specs.Ready.{IsReady};
 
 use crate::answers::Answer;
-use crate::rows::{number_of, sum_of_table};
-use crate::standin::{batch, next_name};
-use bw_calls::{TableFault, create, delete, drop_table, first, get, next_above, next_at, put};
+use crate::rows::{next_name, number_of, sum_of_table};
+use bw_calls::{
+    Change, TableFault, batch, create, delete, drop_table, get, next_above, next_at, put,
+};
+use bw_core::StoreFault;
 use bw_home::Home;
 use bw_look::{Printer, write_word};
 use bw_rows::{Name, RowKey};
-use bw_words::{Change, Miss, Refusal, TableCall, write_long_word};
+use bw_words::{Miss, Refusal, TableCall, write_long_word};
 use std::alloc::Global;
 use std::io::Write;
 
@@ -150,7 +152,7 @@ fn name_behind(
     home: &mut Home,
     above: Option<&Name>,
     found: &[Name],
-) -> Result<Option<Name>, TableFault>
+) -> Result<Option<Name>, StoreFault>
     requires { IsReady home.old holding }
     ensures { IsReady home.new holding }
 {

@@ -5,6 +5,7 @@ use crate::request::{MOST_PAIRS, Request, path_of};
 use crate::script::{
     Command, Fault, Reading, alone, bytes_of, number_of, single, text_up_to,
 };
+use bw_calls::Change;
 use bw_codec::limits::MAX_VALUE;
 use bw_rows::limits::{MAX_LEN, MAX_NAME, MAX_ROW_KEY};
 use bw_rows::{Name, RowKey};
@@ -19,14 +20,6 @@ pub const MOST_CHANGES: u32 = 65_536;
 
 /// The most bytes that the keys and values of one batch have together.
 pub const MOST_BATCH: usize = 67_108_864;
-
-// STAND-IN for bw_calls::Change.
-#[derive(Drop)]
-pub struct Change {
-    pub table: Name,
-    pub key: RowKey,
-    pub value: Option<Vec<u8>>,
-}
 
 /// A call on tables.
 #[derive(Drop)]

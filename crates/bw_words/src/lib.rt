@@ -19,7 +19,7 @@ mod table;
 mod typed;
 
 pub use calls::{
-    Change, LONGEST_OF_TABLES, MOST_BATCH, TableCall, TableLine, parse_change, parse_table_line,
+    LONGEST_OF_TABLES, MOST_BATCH, TableCall, TableLine, parse_change, parse_table_line,
 };
 pub use found::{print_found, write_found};
 pub use miss::Miss;

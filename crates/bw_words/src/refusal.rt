@@ -32,6 +32,8 @@ pub enum Refusal {
     NotTables,
     /// A value is longer than any may be.
     TooLong,
+    /// A batch stands that is not carried out yet.
+    Unfinished,
 }
 
 impl Refusal {
@@ -77,6 +79,7 @@ impl Refusal {
             Refusal::Exists => "E22 Exists",
             Refusal::TooMany => "E23 TooMany",
             Refusal::NotTables => "E24 NotTables",
+            Refusal::Unfinished => "E25 Unfinished",
         }
     }
 }
@@ -179,6 +182,7 @@ impl From<TableFault> for Refusal {
             TableFault::TooMany => Refusal::TooMany,
             TableFault::TooLong => Refusal::TooLong,
             TableFault::NotTables => Refusal::NotTables,
+            TableFault::Unfinished => Refusal::Unfinished,
             TableFault::NoMemory => Refusal::NO_MEMORY,
             TableFault::NotRead(cause) => Refusal::Store(cause),
             TableFault::NotMade(fault) | TableFault::NotKept(fault) => {
