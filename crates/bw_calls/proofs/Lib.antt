@@ -6,3 +6,4 @@ pub mod WalkLaws
 pub mod WayLaws
 pub mod OtherLaws
 pub mod BatchLaws
+pub mod SmallLaws
