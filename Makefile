@@ -65,6 +65,7 @@ test:
 	python3 tests/program/steady.py
 	python3 tests/program/full.py
 	python3 tests/program/people.py crates/bwlog/out/bwlog 100000
+	python3 tests/program/tables.py
 	python3 tests/program/terminal.py
 	python3 tests/program/pages.py
 	python3 tests/program/growth.py

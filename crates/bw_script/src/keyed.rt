@@ -1,12 +1,12 @@
-//! `bwlog put`, `get`, `del`, `list`, `count`, `import` and `export`: what `bw_keys` does with the
-//! keys of a folder. Here is what is told of it, all but the pairs on standard error, and the exit
-//! status.
+//! `bwlog put`, `get`, `del`, `list`, `count`, `import`, `export` and `tables`: what `bw_keys` does
+//! with the keys of a folder, and `bw_named` with its tables. Here is what is told of it, all but the
+//! pairs on standard error, and the exit status.
 
 use bw_core::StoreFault;
 use bw_device::MAX_LEASES;
 use bw_file::FolderFault;
 use bw_home::HomeFault;
-use bw_keys::{Changed, Effect, KeysFault, Loaded, Plan, Task, Told, perform};
+use bw_keys::{Changed, Effect, KeysFault, Loaded, Plan, TableRefusal, Task, Told, perform};
 use bw_look::Printer;
 use bw_pairs::LineFault;
 use bw_segments::{tell_far, tell_located};
@@ -103,6 +103,20 @@ fn tell_home<E: Write>(out: &mut Printer<'_, E>, dir: &str, fault: HomeFault) ->
     }
 }
 
+/// Says what is amiss with tables, and gives the exit status.
+fn tell_table<E: Write>(out: &mut Printer<'_, E>, dir: &str, refusal: TableRefusal) -> u8 {
+    out.named("folder ", dir);
+    out.text(match refusal {
+        TableRefusal::HasTables => b": it has tables: --table says which one is meant\n",
+        TableRefusal::IsPlain => b": it has pairs that are no table's\n",
+        TableRefusal::NoTable => b": no table has this name: bwlog tables --create makes one\n",
+        TableRefusal::Exists => b": a table has this name already\n",
+        TableRefusal::TooMany => b": it has 65536 tables, and no more can be made\n",
+        TableRefusal::Broken => b": its pairs are not those of tables\n",
+    });
+    4
+}
+
 /// Says why a task was not done, and gives the exit status.
 fn tell_fault<E: Write>(out: &mut Printer<'_, E>, dir: &str, fault: KeysFault) -> u8 {
     match fault {
@@ -131,6 +145,7 @@ fn tell_fault<E: Write>(out: &mut Printer<'_, E>, dir: &str, fault: KeysFault) -
             6
         }
         KeysFault::Closed => 0,
+        KeysFault::Table(refusal) => tell_table(out, dir, refusal),
     }
 }
 
@@ -167,9 +182,9 @@ fn tell_changed<E: Write>(out: &mut Printer<'_, E>, dir: &str, changed: Changed)
 }
 
 /// The word of a key that a task gets, by its position.
-fn word_at<'b>(task: &'b Task<'_>, position: usize) -> Option<&'b str> {
+fn word_at<'b>(task: Option<&'b Task<'_>>, position: usize) -> Option<&'b str> {
     match task {
-        Task::Get(words, _) => match words.as_slice().get(position) {
+        Some(Task::Get(words, _)) => match words.as_slice().get(position) {
             Some(word) => Some(*word),
             None => None,
         },
@@ -178,7 +193,11 @@ fn word_at<'b>(task: &'b Task<'_>, position: usize) -> Option<&'b str> {
 }
 
 /// Says which keys have no value, by their words, and gives the exit status.
-fn tell_missing<E: Write>(out: &mut Printer<'_, E>, task: &Task<'_>, missing: &[usize]) -> u8 {
+fn tell_missing<E: Write>(
+    out: &mut Printer<'_, E>,
+    task: Option<&Task<'_>>,
+    missing: &[usize],
+) -> u8 {
     for position in missing {
         if let Some(word) = word_at(task, *position) {
             out.line("no value: ", word);
@@ -188,7 +207,12 @@ fn tell_missing<E: Write>(out: &mut Printer<'_, E>, task: &Task<'_>, missing: &[
 }
 
 /// Says what an end has to say, and gives the exit status.
-fn told<E: Write>(end: &Result<Told, KeysFault>, dir: &str, task: &Task<'_>, errors: &mut E) -> u8 {
+fn told<E: Write>(
+    end: &Result<Told, KeysFault>,
+    dir: &str,
+    task: Option<&Task<'_>>,
+    errors: &mut E,
+) -> u8 {
     let mut out = Printer::new(errors);
     let status = match end {
         Ok(Told::Done) => 0,
@@ -255,6 +279,44 @@ fn performed<R: Host, I: Read, O: Write, E: Write + IsTerminal>(
     end
 }
 
+/// Does a task over tables, and tells the same of it.
+fn performed_named<R: Host, I: Read, O: Write, E: Write + IsTerminal>(
+    rt: &R,
+    dir: &str,
+    task: &bw_named::Task<'_>,
+    input: &mut I,
+    output: &mut O,
+    errors: &mut E,
+    is_shown: bool,
+) -> Result<Told, KeysFault> {
+    let mut watch = Progress::new(rt, Some(dir), errors, is_shown);
+    let end = bw_named::perform(rt, dir, MAX_LEASES, task, input, output, &mut watch);
+    watch.rest();
+    end
+}
+
+/// Says what a task came to, and answers the exit status. The outputs are flushed before.
+fn finished<R: Host, O: Write, E: Write>(
+    rt: &R,
+    dir: &str,
+    task: Option<&Task<'_>>,
+    end: Result<Told, KeysFault>,
+    output: &mut O,
+    errors: &mut E,
+) -> u8 {
+    let end = written(end, output);
+    let status = told(&end, dir, task, errors);
+    let is_told = match refusal_of(&end) {
+        Some(refusal) => tell_files(rt, dir, refusal, errors).is_ok(),
+        None => true,
+    };
+    if is_told && errors.flush().is_ok() {
+        status
+    } else {
+        6
+    }
+}
+
 /// Does a task over the keys of a folder, and answers the exit status: 0, also where nobody reads
 /// the output any more; 1 where a key has no value; 2 where a word is no key or value; 3 at a line
 /// that is no pair; 4, 5 and 6 as of `run`. The outputs are flushed before it answers.
@@ -268,15 +330,27 @@ pub fn keys<R: Host, I: Read, O: Write, E: Write + IsTerminal>(
     is_shown: bool,
 ) -> u8 {
     let end = performed(rt, dir, task, input, output, errors, is_shown);
-    let end = written(end, output);
-    let status = told(&end, dir, task, errors);
-    let is_told = match refusal_of(&end) {
-        Some(refusal) => tell_files(rt, dir, refusal, errors).is_ok(),
-        None => true,
-    };
-    if is_told && errors.flush().is_ok() {
-        status
-    } else {
-        6
+    finished(rt, dir, Some(task), end, output, errors)
+}
+
+/// The task over the keys of one table, if it is one.
+fn inner<'b>(task: &'b bw_named::Task<'b>) -> Option<&'b Task<'b>> {
+    match task {
+        bw_named::Task::Table(_, task) => Some(task),
+        _ => None,
     }
+}
+
+/// Does a task over tables, and answers the exit status as `keys` does.
+pub fn tables<R: Host, I: Read, O: Write, E: Write + IsTerminal>(
+    rt: &R,
+    dir: &str,
+    task: &bw_named::Task<'_>,
+    input: &mut I,
+    output: &mut O,
+    errors: &mut E,
+    is_shown: bool,
+) -> u8 {
+    let end = performed_named(rt, dir, task, input, output, errors, is_shown);
+    finished(rt, dir, inner(task), end, output, errors)
 }

@@ -1,7 +1,7 @@
 //! The program over any reader and writers: the command line, what it asks for, and the exit
 //! status.
 
-use crate::keyed::keys;
+use crate::keyed::{keys, tables};
 use crate::replay::replay;
 use bw_file::FolderFault;
 use bw_look::Printer;
@@ -38,7 +38,7 @@ fn go<R: Host, I: Read, O: Write, W: Watch>(
         Mode::Upgrade(None) => upgrade(rt, input, output),
         Mode::Upgrade(Some(path)) => upgrade_folder(rt, *path, output, watch),
         // `run` does these.
-        Mode::Keys(..) => Ok(Met::NOTHING),
+        Mode::Keys(..) | Mode::Named(..) => Ok(Met::NOTHING),
     }
 }
 
@@ -386,6 +386,9 @@ pub fn run<R: Host, I: Read, O: Write, E: Write + IsTerminal>(
     }
     if let Mode::Keys(dir, task) = &mode {
         return keys(rt, *dir, task, input, output, errors, is_shown);
+    }
+    if let Mode::Named(dir, task) = &mode {
+        return tables(rt, *dir, task, input, output, errors, is_shown);
     }
     let mode = if is_typed && is_shown {
         mode.on_terminal()

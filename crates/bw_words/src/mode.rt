@@ -62,6 +62,8 @@ pub enum Report {
 pub enum Mode<'a> {
     /// This is done with the keys of a folder.
     Keys(&'a str, Task<'a>),
+    /// This is done with its tables.
+    Named(&'a str, bw_named::Task<'a>),
     /// The lines of the input are done over a store, in this manner.
     Lines(Options<'a>, Manner),
     /// Each writer's script is run by a thread of its own over a store.
@@ -160,7 +162,7 @@ impl<'a> Mode<'a> {
             | Mode::Compact(ends, _)
             | Mode::Salvage(ends)
             | Mode::Restore(ends, _) => Some(ends.to),
-            Mode::Keys(dir, _) => Some(*dir),
+            Mode::Keys(dir, _) | Mode::Named(dir, _) => Some(*dir),
         }
     }
 
@@ -190,6 +192,7 @@ impl<'a> Mode<'a> {
             Mode::Lines(..) | Mode::Threads(..) => true,
             Mode::Scan(dir) | Mode::Look(_, dir) | Mode::Upgrade(dir) => dir.is_none(),
             Mode::Keys(_, task) => task.reads_input(),
+            Mode::Named(_, task) => task.reads_input(),
             _ => false,
         }
     }

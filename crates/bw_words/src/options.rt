@@ -92,6 +92,7 @@ fn option_of<'a>(alloc: Global, row: &Row, room: Room) -> Result<Arg<'a>, AllocE
                 .required_unless_present(other)?,
         ),
         Kind::TextAlone(name, other) => option.value_name(name).conflicts_with(other),
+        Kind::TextBut(name, others) => option.value_name(name).conflicts_with_all(others),
         Kind::Beside(needed, other) => option
             .action(ArgAction::SetTrue)
             .requires_arg(needed)?

@@ -11,26 +11,26 @@ use std::alloc::{AllocError, Global};
 const KEY: Row = Row {
     name: "KEY",
     kind: Kind::Word,
-    help: "1 to 128 bytes; 0x and hex digits stand for any bytes",
+    help: "1 to 128 bytes, in a table to 124; 0x and hex digits stand for any bytes",
 };
 
 const KEY_WORDS: Row = Row {
     kind: Kind::Words,
-    help: "one or more, of 1 to 128 bytes; 0x and hex digits stand for any bytes",
+    help: "one or more, of 1 to 128 bytes, in a table to 124; 0x and hex digits stand for any bytes",
     ..KEY
 };
 
 const KEYS_OR: Row = Row {
     kind: Kind::WordsOr(&["prefix", "from", "to"]),
-    help: "one or more, of 1 to 128 bytes, in place of --prefix, --from and --to; 0x and hex digits \
-        stand for any bytes",
+    help: "one or more, of 1 to 128 bytes, in a table to 124, in place of --prefix, --from and --to; \
+        0x and hex digits stand for any bytes",
     ..KEY
 };
 
 const VALUE: Row = Row {
     name: "VALUE",
     kind: Kind::Word,
-    help: "0 to 512 bytes, in hex likewise; - for all bytes of standard input",
+    help: "0 to 512 bytes, in a table to 16777216, in hex likewise; - for all bytes of standard input",
 };
 
 const NEW_DIR: Row = Row {
@@ -43,6 +43,54 @@ const DIR: Row = Row {
     name: "dir",
     kind: Kind::Needed,
     help: "the folder of the store",
+};
+
+const TABLE: Row = Row {
+    name: "table",
+    kind: Kind::Text("NAME"),
+    help: "the table that is meant, by its name of 1 to 127 bytes, in hex likewise [default: the plain \
+        pairs of a folder without tables]",
+};
+
+const LISTED_TABLE: Row = Row {
+    kind: Kind::TextBut("NAME", &["reverse", "last"]),
+    ..TABLE
+};
+
+const NEW_TABLE: Row = Row {
+    kind: Kind::TextBut("NAME", &["dry-run", "named"]),
+    help: "the table that is meant, by its name of 1 to 127 bytes, in hex likewise, which is made where \
+        it is missing [default: the plain pairs of a folder without tables]",
+    ..TABLE
+};
+
+const OUT_TABLE: Row = Row {
+    kind: Kind::TextBut("NAME", &["named"]),
+    ..TABLE
+};
+
+const NAMED_IN: Row = Row {
+    name: "named",
+    kind: Kind::Alone(&["dry-run", "delete", "raw"]),
+    help: "each database of a dump goes into the table of its name, which is made where it is missing",
+};
+
+const NAMED_OUT: Row = Row {
+    name: "named",
+    kind: Kind::Alone(&["from", "to", "prefix"]),
+    help: "all tables, each as a database of its name in the dump",
+};
+
+const CREATE: Row = Row {
+    name: "create",
+    kind: Kind::TextAlone("NAME", "drop"),
+    help: "makes a table of this name, of 1 to 127 bytes, and the folder where it is missing",
+};
+
+const DROP: Row = Row {
+    name: "drop",
+    kind: Kind::Text("NAME"),
+    help: "drops the table of this name with all its keys",
 };
 
 const RAW: Row = Row {
@@ -187,23 +235,23 @@ const ROOM: Row = Row {
 };
 
 /// These modes.
-pub const FORMS: [Form; 7] = [
+pub const FORMS: [Form; 8] = [
     Form {
         name: "put",
         about: "Puts a value at a key, and answers once it is durable",
-        options: &[KEY, VALUE, NEW_DIR, RAW_WORDS],
+        options: &[KEY, VALUE, NEW_DIR, TABLE, RAW_WORDS],
         example: "Example: bwlog put --dir store greeting hello",
     },
     Form {
         name: "get",
         about: "Prints the value of each key, a line each; where one has none, nothing, with exit status 1",
-        options: &[KEY_WORDS, DIR, RAW, HEX],
+        options: &[KEY_WORDS, DIR, TABLE, RAW, HEX],
         example: "Example: bwlog get --dir store greeting",
     },
     Form {
         name: "del",
         about: "Deletes keys, as far as they are there, and answers once that is durable",
-        options: &[KEYS_OR, DIR, LEAST, ABOVE, PREFIX],
+        options: &[KEYS_OR, DIR, TABLE, LEAST, ABOVE, PREFIX],
         example: "Example: bwlog del --dir store greeting",
     },
     Form {
@@ -211,6 +259,7 @@ pub const FORMS: [Form; 7] = [
         about: "Prints each key and its value, with a tab between",
         options: &[
             DIR,
+            LISTED_TABLE,
             LEAST,
             ABOVE,
             PREFIX,
@@ -228,22 +277,31 @@ pub const FORMS: [Form; 7] = [
     Form {
         name: "count",
         about: "Prints how many keys there are",
-        options: &[DIR, LEAST, ABOVE, PREFIX],
+        options: &[DIR, TABLE, LEAST, ABOVE, PREFIX],
         example: "Example: bwlog count --dir store --prefix user:",
     },
     Form {
         name: "import",
         about: "Puts all pairs of standard input, and answers once they are durable",
         options: &[
-            NEW_DIR, IN_FORMAT, RAW_LINES, SKIP, DELETE, KEEP_OLD, DRY_RUN, ROOM,
+            NEW_DIR, NEW_TABLE, NAMED_IN, IN_FORMAT, RAW_LINES, SKIP, DELETE, KEEP_OLD, DRY_RUN,
+            ROOM,
         ],
         example: "Example: mdb_dump other | bwlog import --dir store --format dump",
     },
     Form {
         name: "export",
         about: "Writes all pairs to standard output, for import or for other stores",
-        options: &[DIR, LEAST, ABOVE, PREFIX, OUT_FORMAT, MAPSIZE],
+        options: &[
+            DIR, OUT_TABLE, NAMED_OUT, LEAST, ABOVE, PREFIX, OUT_FORMAT, MAPSIZE,
+        ],
         example: "Example: bwlog export --dir store --format dump | db_load other.db",
+    },
+    Form {
+        name: "tables",
+        about: "Prints the names of the tables, one a line, or makes or drops one",
+        options: &[NEW_DIR, CREATE, DROP],
+        example: "Example: bwlog tables --dir store --create users",
     },
 ];
 
@@ -354,9 +412,41 @@ fn import_in(found: &ArgMatches<'_>) -> Import {
     }
 }
 
-/// A task over the folder that was named.
+/// A task over the folder that was named, or over the table.
 fn keys<'a>(found: &ArgMatches<'a>, task: Task<'a>) -> Mode<'a> {
-    Mode::Keys(word_in(found, "dir"), task)
+    let dir = word_in(found, "dir");
+    match text_in(found, "table") {
+        Some(name) => Mode::Named(dir, bw_named::Task::Table(name, task)),
+        None => Mode::Keys(dir, task),
+    }
+}
+
+/// What the words after `import` say.
+fn imported_in<'a>(found: &ArgMatches<'a>) -> Mode<'a> {
+    let wanted = import_in(found);
+    if found.get_flag("named") {
+        return Mode::Named(word_in(found, "dir"), bw_named::Task::Import(wanted));
+    }
+    keys(found, Task::Import(wanted))
+}
+
+/// What the words after `export` say.
+fn exported_in<'a>(found: &ArgMatches<'a>) -> Mode<'a> {
+    let style = style_in(found);
+    if found.get_flag("named") {
+        return Mode::Named(word_in(found, "dir"), bw_named::Task::Export(style));
+    }
+    keys(found, Task::Export(range_in(found), style))
+}
+
+/// What the words after `tables` say.
+fn tables_in<'a>(found: &ArgMatches<'a>) -> Mode<'a> {
+    let task = match (text_in(found, "create"), text_in(found, "drop")) {
+        (Some(name), _) => bw_named::Task::Create(name),
+        (None, Some(name)) => bw_named::Task::Drop(name),
+        (None, None) => bw_named::Task::Names,
+    };
+    Mode::Named(word_in(found, "dir"), task)
 }
 
 /// What is deleted: the keys that were named, or all of a stretch.
@@ -404,11 +494,13 @@ pub fn keys_in<'a>(
         return Ok(Some(keys(found, Task::Count(range_in(found)))));
     }
     if let Some(found) = matches.subcommand_matches("import") {
-        return Ok(Some(keys(found, Task::Import(import_in(found)))));
+        return Ok(Some(imported_in(found)));
     }
     if let Some(found) = matches.subcommand_matches("export") {
-        let task = Task::Export(range_in(found), style_in(found));
-        return Ok(Some(keys(found, task)));
+        return Ok(Some(exported_in(found)));
+    }
+    if let Some(found) = matches.subcommand_matches("tables") {
+        return Ok(Some(tables_in(found)));
     }
     some_in(alloc, matches)
 }

@@ -30,6 +30,8 @@ pub enum Kind {
     Text(&'static str),
     /// Any text, by the name of its value, and another option may not be given then.
     TextAlone(&'static str, &'static str),
+    /// Any text, by the name of its value, and none of these options may be given then.
+    TextBut(&'static str, &'static [&'static str]),
     /// Any text, which has to be given, without the name of an option before it.
     Word,
     /// One such text, or more.

@@ -1,0 +1,5 @@
+use Rattle.bw_home.specs.Ready.{IsReady}
+use Rattle.bw_named.proofs.listing.List.pairs.Given as goal
+
+abbrev pub invariant-rows : goal.invariant-rows
+invariant-rows g l = IsReady l.home (λ z. (goal.Segment-dyn g z).holding z.1)
