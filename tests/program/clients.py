@@ -382,7 +382,19 @@ def try_examples(room):
             expect(do(*words, cwd=own, env=env), "lib/b=2\nlib/a=1\n", "the example of " + language)
             expect(do(PROGRAM, "list", "--dir", "store", cwd=own), "greeting\thello\nlib/a\t1\nlib/b\t2\n", "what it kept")
             ran.append(language)
-    return "the examples of USING run: " + ", ".join(ran)
+    return "the examples of USING run: " + ", ".join([*ran, try_tables(room)])
+
+
+def try_tables(room):
+    """The example of tables prints what it has to, and its folder has what was kept."""
+    with open(PAGE, encoding="utf-8") as file:
+        text = re.search(r"^## Tables in the clients\n\n```python\n(.*?)^```$", file.read(), re.M | re.S)[1]
+    env = {**os.environ, "PATH": os.path.dirname(PROGRAM) + os.pathsep + os.environ["PATH"], "PYTHONPATH": PYTHON}
+    expect(do(sys.executable, "-c", text, cwd=room, env=env), "names 1\nusers 2\n18=Bob, Paris\n", "the example of tables")
+    with subprocess.Popen([PROGRAM, "serve", "--tables", "--dir=" + os.path.join(room, "shop")], stdin=subprocess.PIPE, stdout=subprocess.PIPE, text=True) as child:
+        found = child.communicate("count users\nget users 18\nscan names 0x00 9\n")[0].splitlines()[1:]
+    expect(found, ["count 2", "value 0x426f622c205061726973", "pairs 1 0x426f62203138=0x"], "what it kept")
+    return "tables"
 
 
 # ---- what is installed
