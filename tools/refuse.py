@@ -109,6 +109,9 @@ CASES = [
     Case("writers", ["threads", "--limit=2", "--flush-every=1"], "".join("put %d %s%d %d\n" % (w, "ab"[w], it, it) for it in range(4) for w in range(2))),
     Case("readers", ["threads", "--readers=2"], "put 0 a 1\nput 1 b 2\ngroup 0 put a 3 put c 4\ndel 1 b\n"),
     Case("requests", ["serve", "--places=2"], "put k v\nput l w\nput m x\nget k\nnext l\nflush\nevict 1\nnext l\npage 1\nstats\nclean\nzap\n"),
+    Case("requests on tables", ["serve", "--tables", "--places=2"],
+         "create t\ncreate u\nput t k v\nput t l 0x" + "07" * 1100 + "\nget t l\nbatch 3\nput t a 1\ndel t k\nput u b 0x" + "08" * 700 + "\n"
+         "scan t 0x00 8\nabove t a 1\nnext t b\ncount u\ntables\ndrop t\nflush\nget u b\nbatch 1\nget\n"),
     Case("room that requests want", ["serve", "--segments=2", "--most-segments=5", "--capacity=65560", "--m=4"],
          "".join("put k%d %s\n" % (it, "v" * 500) + "flush\n" * (it % 40 == 39) for it in range(160)) + "flush\nstats\n"),
     Case("a scan", ["scan"], "\n" + FIRST + "\n42574c\n"),

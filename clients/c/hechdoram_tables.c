@@ -252,7 +252,7 @@ struct hechdoram_table_scan {
     size_t count, most;       /* how many were answered, and asked for */
 };
 
-/* Adds a word of an answer behind the bytes of a walk. */
+/* Adds a word of an answer after the bytes of a walk. */
 static bool keep_word(hechdoram_table_scan *scan, const char *word, const char *end) {
     size_t most = (size_t)(end - word), len = 0;
     if (scan->len + sizeof len + most > scan->room) {

@@ -8,7 +8,7 @@ use bw_home::{Home, HomeFault, System};
 
 impl Tending {
     /// How many spares there have to be so that blocks with so many bytes surely find room, and as many
-    /// are left behind them as are kept.
+    /// are left after them as are kept.
     fn wanted(&mut self, home: &Home, bytes: u64) -> u64
         requires { IsReady home.now holding }
     {
@@ -25,7 +25,7 @@ impl Tending {
         u64::from(home.store.spares()) >= self.wanted(home, bytes)
     }
 
-    /// Whether so many bytes of deletes find room in a log where no room can be made, beside what a
+    /// Whether so many bytes of deletes find room in a log in which no room can be made, beside what a
     /// cleaning wants.
     fn has_room_to_delete(&mut self, home: &mut Home, bytes: u64) -> Result<bool, HomeFault>
         requires { IsReady home.old holding }
@@ -38,7 +38,11 @@ impl Tending {
         let is_enough = bytes <= left;
         self.full = Some(Full {
             taken: full.taken,
-            left: Some(if is_enough { left.saturating_sub(bytes) } else { left }),
+            left: Some(if is_enough {
+                left.saturating_sub(bytes)
+            } else {
+                left
+            }),
         });
         Ok(is_enough)
     }

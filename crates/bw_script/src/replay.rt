@@ -18,8 +18,8 @@ use bw_look::Printer;
 use bw_pairs::{Lines, READS};
 use bw_watch::{Event, Watch, Work, folder_bytes};
 use bw_words::{
-    Command, Condition, Fault, LONGEST, LONGEST_OF_TABLES, MOST_BATCH, Manner, Met, Miss,
-    NotTyped, Options, PROTOCOL, Reading, Refusal, Request, Stop, System, TableCall, TableLine, Typed,
+    Command, Condition, Fault, LONGEST, LONGEST_OF_TABLES, MOST_BATCH, Manner, Met, Miss, NotTyped,
+    Options, PROTOCOL, Reading, Refusal, Request, Stop, System, TableCall, TableLine, Typed,
     leases_in, missed, no_input, parse, parse_change, parse_request, parse_table_line, parse_typed,
     print, print_found, refuse, refuse_after,
 };
@@ -285,7 +285,7 @@ impl<I: Read + Drop, O: Write, W: Watch> Script<'_, I, O, W> {
         Ok(())
     }
 
-    /// The batch of so many further lines. All of them are read, also behind one that is at fault.
+    /// The batch of so many further lines. All of them are read, also after one that is at fault.
     fn read_batch(&mut self, alloc: Global, count: u32) -> Result<Asked, Miss> {
         let mut changes = Vec::new(alloc);
         let mut bytes = 0usize;
@@ -312,7 +312,7 @@ impl<I: Read + Drop, O: Write, W: Watch> Script<'_, I, O, W> {
         }
     }
 
-    /// What the next line asks for where tables are served.
+    /// What the next line asks for if tables are served.
     fn next_of_tables(&mut self, alloc: Global) -> Result<Asked, Miss> {
         let call = self.call.take();
         if let (true, Some(call)) = (self.is_again, call) {
@@ -504,7 +504,7 @@ impl<I: Read + Drop, O: Write, W: Watch> Script<'_, I, O, W> {
         }
     }
 
-    /// Does a call on tables, and makes room behind it where one spare is left. A spare is only made.
+    /// Does a call on tables, and makes room after it if one spare is left. A spare is only made.
     fn do_tables<R: System>(
         &mut self,
         rt: &R,

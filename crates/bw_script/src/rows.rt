@@ -11,9 +11,7 @@ use bw_codec::{Key, Pair};
 use bw_core::StoreFault;
 use bw_home::Home;
 use bw_keys::above;
-use bw_rows::{
-    Head, Name, RowKey, TableNumber, name_key, row_key, stands_key,
-};
+use bw_rows::{Head, Name, RowKey, TableNumber, name_key, row_key, stands_key};
 use bw_words::{Miss, TableCall};
 use std::alloc::Global;
 
@@ -23,12 +21,16 @@ const PART: usize = 512;
 /// The kinds of keys that say what is left half done: numbers whose chunks go away, and tables whose
 /// rows do.
 const DOOMED: u8 = 2;
+
 const GONE: u8 = 3;
 
 /// Those of names, rows aside, chunks and rows.
 const NAME: u8 = 1;
+
 const ASIDE: u8 = 6;
+
 const CHUNK: u8 = 7;
+
 const ROW: u8 = 8;
 
 /// More than a call adds to the log beside what is counted: a few records, and the splits of their
@@ -186,7 +188,7 @@ fn sum_over(alloc: Global, home: &mut Home, front: &Key) -> Result<Sum, StoreFau
     Ok(sum)
 }
 
-/// The key of a kind, and of what stands behind it. What a key of the store has no room for is none.
+/// The key of a kind, and of what follows it. What a key of the store has no room for is none.
 fn front_of(kind: u8, number: &[u8]) -> Option<Key> {
     let mut bytes = [0u8; 9];
     let end = number.len().min(8) + 1;
@@ -195,7 +197,7 @@ fn front_of(kind: u8, number: &[u8]) -> Option<Key> {
     Key::new(&bytes[..end]).ok()
 }
 
-/// What the pairs come to that stand behind this number.
+/// What the pairs come to whose keys have this number after their kind.
 fn sum_of(alloc: Global, home: &mut Home, kind: u8, number: &[u8]) -> Result<Sum, StoreFault>
     requires { IsReady home.old holding }
     ensures { IsReady home.new holding }
@@ -215,7 +217,7 @@ pub fn sum_of_table(alloc: Global, home: &mut Home, table: TableNumber) -> Resul
 }
 
 /// What goes away with a key that says that something is left half done.
-fn sum_behind(alloc: Global, home: &mut Home, key: &[u8]) -> Result<Sum, StoreFault>
+fn sum_after(alloc: Global, home: &mut Home, key: &[u8]) -> Result<Sum, StoreFault>
     requires { IsReady home.old holding }
     ensures { IsReady home.new holding }
 {
@@ -243,8 +245,10 @@ fn sum_of_kind(alloc: Global, home: &mut Home, kind: u8) -> Result<Sum, StoreFau
         if !key.as_slice().starts_with(&[kind]) {
             break;
         }
-        let behind = sum_behind(alloc, home, key.as_slice())?;
-        sum = sum.and(behind).and(Sum::of(key.as_slice(), value.as_slice()));
+        let after = sum_after(alloc, home, key.as_slice())?;
+        sum = sum
+            .and(after)
+            .and(Sum::of(key.as_slice(), value.as_slice()));
         from = above(key.as_slice());
     }
     Ok(sum)
@@ -259,13 +263,16 @@ pub fn left_bytes(alloc: Global, home: &mut Home) -> Result<u64, StoreFault>
     let gone = sum_of_kind(alloc, home, GONE)?;
     let doomed = sum_of_kind(alloc, home, DOOMED)?;
     let aside = sum_of(alloc, home, ASIDE, &[])?;
-    let rows = aside.count.saturating_mul(2 * (128 + 512) + RECORD + NUMBER);
-    Ok(gone
-        .and(doomed)
-        .and(aside)
-        .bytes
-        .saturating_add(rows)
-        .saturating_add(CALL))
+    let rows = aside
+        .count
+        .saturating_mul(2 * (128 + 512) + RECORD + NUMBER);
+    Ok(
+        gone.and(doomed)
+            .and(aside)
+            .bytes
+            .saturating_add(rows)
+            .saturating_add(CALL),
+    )
 }
 
 /// How many bytes the old value of a key takes that goes away.
@@ -333,7 +340,11 @@ fn drop_bytes(alloc: Global, home: &mut Home, name: &Name) -> Result<u64, StoreF
 pub fn quick_bytes(call: &TableCall) -> Option<u64> {
     match call {
         TableCall::Change(change) => {
-            Some(new_bytes(change).saturating_add(LONGEST_OLD).saturating_add(CALL))
+            Some(
+                new_bytes(change)
+                    .saturating_add(LONGEST_OLD)
+                    .saturating_add(CALL),
+            )
         }
         TableCall::Drop(_) | TableCall::Batch(_) => None,
         _ => Some(CALL),

@@ -14,7 +14,7 @@ use bw_keys::Admission;
 use bw_words::{Miss, System, TableCall};
 use std::alloc::Global;
 
-/// Whether a call only deletes, so that it is let in where a log is full.
+/// Whether a call only deletes, so that it is let in if a log is full.
 fn only_deletes(call: &TableCall) -> bool {
     match call {
         TableCall::Drop(_) => true,
@@ -94,7 +94,7 @@ impl Tending {
         }
     }
 
-    /// Whether a call may be done behind a refusal to finish what is left half done: one that only
+    /// Whether a call may be done after a refusal to finish what is left half done: one that only
     /// looks may, if no batch stands, since the tables are the same then.
     fn goes_on(&self, home: &mut Home, call: &TableCall, miss: Miss) -> Result<(), Miss>
         requires { IsReady home.old holding }
@@ -211,7 +211,7 @@ impl Tending {
         self.called(rt, home, call)
     }
 
-    /// Does a call behind an append that failed: nothing is changed.
+    /// Does a call after an append that failed: nothing is changed.
     fn called_failed(
         &mut self,
         alloc: Global,
@@ -230,7 +230,7 @@ impl Tending {
         Ok(Served::Answer(read_tables(alloc, home, call)?))
     }
 
-    /// Does a call on tables, and makes room where it wants some. A spare that is made is not added
+    /// Does a call on tables, and makes room if it wants some. A spare that is made is not added
     /// here: the same is asked again once it was.
     pub fn serve_tables<R: System>(
         &mut self,

@@ -34,7 +34,7 @@ pub enum TableAnswer {
     Names(Vec<Name>),
 }
 
-/// Whether there is a table of this name: where nothing was found, it is told if there is none.
+/// Refuses a name that no table has: if nothing was found, this says why.
 fn has_table(home: &mut Home, name: &Name) -> Result<(), Miss>
     requires { IsReady home.old holding }
     ensures { IsReady home.new holding }
@@ -76,7 +76,7 @@ struct Start<'a> {
     is_above: bool,
 }
 
-/// The pair behind those that were found, or the first of a walk.
+/// The pair after those that were found, or the first of a walk.
 fn next_of(
     home: &mut Home,
     name: &Name,
@@ -147,8 +147,8 @@ fn count(alloc: Global, home: &mut Home, name: &Name) -> Result<Answer, Miss>
     }
 }
 
-/// The name of the table behind those that were found, or the first above another one.
-fn name_behind(
+/// The name of the table after those that were found, or the first above another one.
+fn name_after(
     home: &mut Home,
     above: Option<&Name>,
     found: &[Name],
@@ -169,7 +169,7 @@ fn names(alloc: Global, home: &mut Home, above: Option<&Name>, most: u32) -> Res
 {
     let mut found = Vec::new(alloc);
     'names: for _ in 0..most {
-        match name_behind(home, above, found.as_slice())? {
+        match name_after(home, above, found.as_slice())? {
             Some(name) => found.push(name)?,
             None => break,
         }
@@ -238,7 +238,7 @@ fn write_row<O: Write>(out: &mut Printer<'_, O>, row: &Row) {
     write_long_word(out, row.1.as_slice());
 }
 
-/// How many pairs there are, each behind a space, and whether there would be more.
+/// How many pairs there are, each after a space, and whether there would be more.
 fn write_rows<O: Write>(out: &mut Printer<'_, O>, rows: &[Row], is_cut: bool) {
     out.named("pairs ", rows.len());
     for row in rows {
@@ -251,7 +251,7 @@ fn write_rows<O: Write>(out: &mut Printer<'_, O>, rows: &[Row], is_cut: bool) {
     out.text(b"\n");
 }
 
-/// How many names there are, and each behind a space.
+/// How many names there are, and each after a space.
 fn write_names<O: Write>(out: &mut Printer<'_, O>, names: &[Name]) {
     out.named("tables ", names.len());
     for name in names {

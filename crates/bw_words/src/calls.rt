@@ -2,9 +2,7 @@
 
 use crate::miss::Miss;
 use crate::request::{MOST_PAIRS, Request, path_of};
-use crate::script::{
-    Command, Fault, Reading, alone, bytes_of, number_of, single, text_up_to,
-};
+use crate::script::{Command, Fault, Reading, alone, bytes_of, number_of, single, text_up_to};
 use bw_calls::Change;
 use bw_codec::limits::MAX_VALUE;
 use bw_rows::limits::{MAX_LEN, MAX_NAME, MAX_ROW_KEY};
@@ -56,7 +54,7 @@ impl TableCall {
     }
 }
 
-/// What a line asks for where tables are served.
+/// What a line asks for if tables are served.
 #[derive(Drop)]
 pub enum TableLine {
     Call(TableCall),
@@ -185,7 +183,11 @@ fn names_of(words: &mut SplitWhitespace<'_>, reading: Reading) -> Result<TableCa
 }
 
 /// A call that takes a table and a key.
-fn at_key(name: &str, words: &mut SplitWhitespace<'_>, reading: Reading) -> Result<TableCall, Fault> {
+fn at_key(
+    name: &str,
+    words: &mut SplitWhitespace<'_>,
+    reading: Reading,
+) -> Result<TableCall, Fault> {
     let (table, key) = two(words)?;
     let table = name_of(reading, table)?;
     let key = row_key_of(reading, key)?;
@@ -241,7 +243,7 @@ fn plain_of(name: &str) -> Option<Request> {
     }
 }
 
-/// What a line asks for where tables are served. What is none of that is a fault; a refused growth
+/// What a line asks for if tables are served. What is none of that is a fault; a refused growth
 /// is refused.
 pub fn parse_table_line(alloc: Global, line: &[u8], reading: Reading) -> Result<TableLine, Miss> {
     let text = text_up_to(line, LONGEST_OF_TABLES)?.unwrap_or("");

@@ -1,8 +1,8 @@
 //! What is refused, by number and name.
 
+use bw_calls::TableFault;
 use bw_care::RecoverCause;
 use bw_core::StoreFault;
-use bw_calls::TableFault;
 use bw_device::{NotMade, NotTaken};
 use bw_home::MapFault;
 use std::error::Error;
@@ -165,7 +165,7 @@ impl From<StoreFault> for Refusal {
     }
 }
 
-/// Why the store below was refused, where a map over it was.
+/// Why the store below was refused, if a map over it was.
 fn cause_of(fault: MapFault) -> StoreFault {
     match fault {
         MapFault::NotPut(Some(cause)) | MapFault::Waits(cause) | MapFault::NotKept(cause) => cause,

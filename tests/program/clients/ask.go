@@ -387,6 +387,9 @@ func ofTables(words []string) (string, error) {
 	case "keep":
 		frame, err := tables.Keep()
 		return fmt.Sprint("frame ", frame), err
+	case "reopen":
+		found, err := tables.Reopen()
+		return fmt.Sprintf("reopened frame %d lost %d", found.Frame, found.Lost), err
 	case "close":
 		return "closed", tables.Close()
 	case "abandon":

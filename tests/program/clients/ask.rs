@@ -136,7 +136,7 @@ impl Asked {
         let word = |at: usize| words.get(at).map_or(Vec::new(), |word| bytes_of(word));
         let ok = |()| "ok".to_string();
         Some(match words[0] {
-            "tables" => store.tables().map(|names| names.iter().fold("tables".into(), |line, name| line + " " + &hex(name))),
+            "tables" => store.tables().map(|names| names.iter().fold("tables".to_string(), |line, name| line + " " + &hex(name))),
             "create" => store.create_table(word(1)).map(|table| {
                 assert!(table.name() == word(1));
                 "ok".into()
@@ -151,6 +151,7 @@ impl Asked {
             "tbatch" => store.batch(&table_batch_of(&words[1..])).map(ok),
             "tmany" => self.do_tmany(&word(1), words[2].parse().unwrap()),
             "keep" => store.keep().map(|frame| frame.map_or("no frame".into(), |frame| format!("frame {frame}"))),
+            "reopen" => store.reopen().map(|found| format!("reopened frame {} lost {}", found.frame, found.lost)),
             "close" => store.close().map(|()| "closed".into()),
             "abandon" => {
                 store.abandon();
