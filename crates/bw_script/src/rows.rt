@@ -6,7 +6,9 @@
 
 ghost use Rattle.bw_home.specs.Ready.{IsReady};
 
+use arrayvec::ArrayVec;
 use bw_calls::Change;
+use bw_codec::limits::MAX_KEY;
 use bw_codec::{Key, Pair};
 use bw_core::StoreFault;
 use bw_home::Home;
@@ -190,11 +192,10 @@ fn sum_over(alloc: Global, home: &mut Home, front: &Key) -> Result<Sum, StoreFau
 
 /// The key of a kind, and of what follows it. What a key of the store has no room for is none.
 fn front_of(kind: u8, number: &[u8]) -> Option<Key> {
-    let mut bytes = [0u8; 9];
-    let end = number.len().min(8) + 1;
-    bytes[0] = kind;
-    bytes[1..end].copy_from_slice(&number[..end - 1]);
-    Key::new(&bytes[..end]).ok()
+    let mut bytes: ArrayVec<u8, MAX_KEY> = ArrayVec::new();
+    bytes.try_push(kind).ok()?;
+    bytes.try_extend_from_slice(number).ok()?;
+    Key::new(bytes.as_slice()).ok()
 }
 
 /// What the pairs come to whose keys have this number after their kind.

@@ -20,8 +20,9 @@ pub fn write_long_word<O: Write>(out: &mut Printer<'_, O>, bytes: &[u8]) {
     out.text(b"0x");
     let mut room = [0u8; 2 * PART];
     for part in bytes.chunks(PART) {
-        let digits = &mut room[..2 * part.len()];
-        if hex::encode_to_slice(part, digits).is_ok() {
+        let count = part.len().min(PART);
+        let digits = &mut room[..2 * count];
+        if hex::encode_to_slice(&part[..count], digits).is_ok() {
             out.text(digits);
         }
     }
