@@ -56,7 +56,10 @@ pub fn kind_of(home: &mut Home) -> Result<Kind, StoreFault>
     let Some(last) = last_kind(home)? else {
         return Ok(Kind::Empty);
     };
-    if last <= LAST && has_mark(home)? {
+    if last > LAST {
+        return Ok(Kind::Plain);
+    }
+    if has_mark(home)? {
         Ok(Kind::Tables)
     } else {
         Ok(Kind::Plain)

@@ -100,7 +100,10 @@ impl Tending {
         requires { IsReady home.old holding }
         ensures { IsReady home.new holding }
     {
-        if call.writes() || has_batch(home)? {
+        if call.writes() {
+            return Err(miss);
+        }
+        if has_batch(home)? {
             return Err(miss);
         }
         Ok(())
@@ -128,6 +131,16 @@ impl Tending {
         }
     }
 
+    /// Whether there is room for a call, as far as that is told without a look at the store.
+    fn has_quick_room(&mut self, home: &Home, call: &TableCall) -> bool
+        requires { IsReady home.now holding }
+    {
+        match quick_bytes(call) {
+            Some(bytes) => self.room.has_room(home, bytes),
+            None => false,
+        }
+    }
+
     /// Whether there is room for a call, or a spare was made on the way to it.
     fn admits_call<R: System>(
         &mut self,
@@ -138,10 +151,8 @@ impl Tending {
         requires { IsReady home.old holding }
         ensures { IsReady home.new holding }
     {
-        if let Some(bytes) = quick_bytes(call) {
-            if self.room.has_room(home, bytes) {
-                return Ok(Admission::Yes);
-            }
+        if self.has_quick_room(home, call) {
+            return Ok(Admission::Yes);
         }
         let bytes = bytes_of(rt.alloc(), home, call)?;
         Ok(self.room.reserve(rt, home, bytes, only_deletes(call))?)
@@ -202,7 +213,10 @@ impl Tending {
         requires { IsReady home.old holding }
         ensures { IsReady home.new holding }
     {
-        if self.room.first_look(rt, home)? || self.room.take_waiting(rt, home)? {
+        if self.room.first_look(rt, home)? {
+            return Ok(Served::Room);
+        }
+        if self.room.take_waiting(rt, home)? {
             return Ok(Served::Room);
         }
         if self.finish_before(rt, home, call)? {
@@ -224,9 +238,7 @@ impl Tending {
         if call.writes() {
             return Err(Miss::from(StoreFault::Failed));
         }
-        if self.owes {
-            self.goes_on(home, call, Miss::from(StoreFault::Failed))?;
-        }
+        self.goes_on(home, call, Miss::from(StoreFault::Failed))?;
         Ok(Served::Answer(read_tables(alloc, home, call)?))
     }
 
