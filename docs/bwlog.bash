@@ -2,7 +2,7 @@
 _bwlog() {
     local mode="${COMP_WORDS[1]}" last="${COMP_WORDS[COMP_CWORD-1]}" word="${COMP_WORDS[COMP_CWORD]}"
     if [ "$COMP_CWORD" -eq 1 ]; then
-        COMPREPLY=($(compgen -W "put get del list count import export replay serve shell threads scan print stats picture verify copy follow salvage restore upgrade help --help --version" -- "$word"))
+        COMPREPLY=($(compgen -W "put get del list count import export tables replay serve shell threads scan print stats picture verify copy follow salvage restore upgrade help --help --version" -- "$word"))
         return
     fi
     case "$mode $last" in
@@ -13,6 +13,7 @@ _bwlog() {
         "count --dir") COMPREPLY=($(compgen -d -- "$word")); return ;;
         "import --dir") COMPREPLY=($(compgen -d -- "$word")); return ;;
         "export --dir") COMPREPLY=($(compgen -d -- "$word")); return ;;
+        "tables --dir") COMPREPLY=($(compgen -d -- "$word")); return ;;
         "replay --dir") COMPREPLY=($(compgen -d -- "$word")); return ;;
         "serve --dir") COMPREPLY=($(compgen -d -- "$word")); return ;;
         "shell --dir") COMPREPLY=($(compgen -d -- "$word")); return ;;
@@ -38,13 +39,14 @@ _bwlog() {
         "verify --format") COMPREPLY=($(compgen -W "lines json" -- "$word")); return ;;
     esac
     case "$mode" in
-        put) COMPREPLY=($(compgen -W "--dir --raw --help" -- "$word")) ;;
-        get) COMPREPLY=($(compgen -W "--dir --raw --hex --help" -- "$word")) ;;
-        del) COMPREPLY=($(compgen -W "--dir --from --to --prefix --help" -- "$word")) ;;
-        list) COMPREPLY=($(compgen -W "--dir --from --to --prefix --limit --last --reverse --keys --values --format --raw --hex --help" -- "$word")) ;;
-        count) COMPREPLY=($(compgen -W "--dir --from --to --prefix --help" -- "$word")) ;;
-        import) COMPREPLY=($(compgen -W "--dir --format --raw --skip --delete --keep-old --dry-run --capacity --help" -- "$word")) ;;
-        export) COMPREPLY=($(compgen -W "--dir --from --to --prefix --format --mapsize --help" -- "$word")) ;;
+        put) COMPREPLY=($(compgen -W "--dir --table --raw --help" -- "$word")) ;;
+        get) COMPREPLY=($(compgen -W "--dir --table --raw --hex --help" -- "$word")) ;;
+        del) COMPREPLY=($(compgen -W "--dir --table --from --to --prefix --help" -- "$word")) ;;
+        list) COMPREPLY=($(compgen -W "--dir --table --from --to --prefix --limit --last --reverse --keys --values --format --raw --hex --help" -- "$word")) ;;
+        count) COMPREPLY=($(compgen -W "--dir --table --from --to --prefix --help" -- "$word")) ;;
+        import) COMPREPLY=($(compgen -W "--dir --table --named --format --raw --skip --delete --keep-old --dry-run --capacity --help" -- "$word")) ;;
+        export) COMPREPLY=($(compgen -W "--dir --table --named --from --to --prefix --format --mapsize --help" -- "$word")) ;;
+        tables) COMPREPLY=($(compgen -W "--dir --create --drop --help" -- "$word")) ;;
         replay) COMPREPLY=($(compgen -W "--writers --places --m --frame --segments --capacity --dir --take --raw --reuse --most-segments --help" -- "$word")) ;;
         serve) COMPREPLY=($(compgen -W "--places --m --frame --segments --capacity --dir --raw --most-segments --log --every --help" -- "$word")) ;;
         shell) COMPREPLY=($(compgen -W "--dir --help" -- "$word")) ;;

@@ -179,20 +179,16 @@ def apart(program):
 # ---- values of each length
 
 
-def drawn_bytes(drawn, length):
-    return drawn.randbytes(length)
-
-
 def lengths(program):
     """Values of each length, at each edge of a chunk, come out as they went in, also over longer and shorter ones."""
     drawn = random.Random(85)
-    counts = [0, 1, 511, 512, 513, 1023, 1024, 1025, 2048, 70000, MOST - 1, MOST]
+    counts = [0, 1, 511, 512, 513, 1023, 1024, 1025, 2048, 70000, 200000]
     program.do("tables", "--dir", "L", "--create", "t")
     for count in counts:
         value = drawn.randbytes(count)
         program.do("put", "--dir", "L", "--table", "t", "k%d" % count, "-", given=value)
         ask(program.do("get", "--dir", "L", "--table", "t", "k%d" % count, "--raw") == value, "a value of", count)
-    for old, new in ((70000, 0), (0, 70000), (1025, 1024), (512, 511), (511, 512), (MOST, 1)):
+    for old, new in ((70000, 0), (0, 70000), (1025, 1024), (512, 511), (511, 512), (200000, 1)):
         value = drawn.randbytes(new)
         program.do("put", "--dir", "L", "--table", "t", "k%d" % old, "-", given=value)
         ask(program.do("get", "--dir", "L", "--table", "t", "k%d" % old, "--raw") == value, "a value of", new, "over one of", old)
@@ -200,11 +196,17 @@ def lengths(program):
     expect(program.do("list", "--dir", "L", "--table", "t", "--keys"), b"".join(b"k%d\n" % it for it in sorted(counts, key=str)), "keys")
     # What the old values had is free: no chunk is left but those of values that stand.
     chunks = program.do("count", "--dir", "L", "--prefix", "0x07")
-    left = [70000, 512, 513, 1023, 1024, 1024, 2048, MOST - 1]
+    left = [70000, 512, 513, 1023, 1024, 1024, 2048]
     expect(chunks, b"%d\n" % sum((it + 511) // 512 for it in left), "chunks")
     program.do("tables", "--dir", "L", "--drop", "t")
     rest = program.do("list", "--dir", "L", "--keys", "--hex").split()
     ask(all(it == b"0x00" or it.startswith(b"0x04") for it in rest), "behind a drop stand", rest[:5])
+    # The longest value, and one byte less.
+    program.do("tables", "--dir", "L", "--create", "long")
+    for count in (MOST - 1, MOST):
+        value = drawn.randbytes(count)
+        program.do("put", "--dir", "L", "--table", "long", "k%d" % count, "-", given=value)
+        ask(program.do("get", "--dir", "L", "--table", "long", "k%d" % count, "--raw") == value, "a value of", count)
 
 
 # ---- whole sets
@@ -311,7 +313,7 @@ def named(program):
     expect(program.do("get", "--dir", "N", "--table", "l\\m", "k"), b"v\n", "a name with a backslash")
     program.says(["import", "--dir", "N", "--format", "dump", "--named"], 3, tells="line 4: a database without a name\n", given=dump_of({b"k": b"v"}))
     program.says(
-        ["import", "--dir", "N", "--table", "a", "--format", "dump"], 3, tells="line 8: a second database in one dump\nimported 1 before that, which are durable\n",
+        ["import", "--dir", "N", "--table", "a", "--format", "dump"], 3, tells="line 9: a second database in one dump\nimported 1 before that, which are durable\n",
         given=dump_of({b"k": b"v"}, b"a") + dump_of({b"k": b"v"}, b"b"),
     )
 
@@ -343,16 +345,16 @@ def others(program):
 def over_and_over(program):
     """Long values that take each other's place want few segments, and small segments enough of them."""
     drawn = random.Random(3)
-    value = drawn.randbytes(300000)
-    lines = b"".join(b"k%d\t0x%s\n" % (it % 3, (value[it:] + value[:it]).hex().encode()) for it in range(200))
-    expect(program.do("import", "--dir", "O", "--table", "t", given=lines), b"imported 200\n", "over and over")
-    for it in (197, 198, 199):
+    value = drawn.randbytes(150000)
+    lines = b"".join(b"k%d\t0x%s\n" % (it % 3, (value[it:] + value[:it]).hex().encode()) for it in range(100))
+    expect(program.do("import", "--dir", "O", "--table", "t", given=lines), b"imported 100\n", "over and over")
+    for it in (97, 98, 99):
         ask(program.do("get", "--dir", "O", "--table", "t", "k%d" % (it % 3), "--raw") == value[it:] + value[:it], "value", it)
     many = program.segments("O")
-    ask(many <= 12, many, "segments for three values of 300,000 bytes")
-    lines = b"".join(b"k%d\t0x%s\n" % (it, (value[it:] + value[:it]).hex().encode()) for it in range(20))
-    expect(program.do("import", "--dir", "S", "--table", "t", "--capacity", "65560", given=lines), b"imported 20\n", "small segments")
-    for it in (0, 19):
+    ask(many <= 12, many, "segments for three values of 150,000 bytes")
+    lines = b"".join(b"k%d\t0x%s\n" % (it, (value[it:] + value[:it]).hex().encode()) for it in range(12))
+    expect(program.do("import", "--dir", "S", "--table", "t", "--capacity", "65560", given=lines), b"imported 12\n", "small segments")
+    for it in (0, 11):
         ask(program.do("get", "--dir", "S", "--table", "t", "k%d" % it, "--raw") == value[it:] + value[:it], "value", it)
     program.do("tables", "--dir", "S", "--drop", "t")
     expect(program.do("count", "--dir", "S", "--prefix", "0x07"), b"0\n", "chunks behind a drop")
