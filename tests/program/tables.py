@@ -301,11 +301,11 @@ def effects(program):
 
 def named(program):
     """The databases of a dump go into tables of their names, and come out as they were."""
-    sets = {b"a": {b"k": b"v" * 3000}, b"ab": {}, b"b \\ c": {b"x": b"", b"y": b"2"}, b"\xff\x00": {bytes([it]): bytes([it]) * 600 for it in range(256)}}
+    sets = {b"a": {b"k": b"v" * 3000}, b"ab": {}, b"b \\ c": {b"x": b"", b"y": b"2"}, b"\xff\x01": {bytes([it]): bytes([it]) * 600 for it in range(256)}}
     spelled = {name: printed(name) for name in sets}
     dump = b"".join(dump_of(sets[name], spelled[name]) for name in sorted(sets))
     expect(program.do("import", "--dir", "N", "--format", "dump", "--named", given=dump), b"imported 259\n", "import")
-    expect(program.do("tables", "--dir", "N"), b"a\nab\nb \\ c\n0xff00\n", "names")
+    expect(program.do("tables", "--dir", "N"), b"a\nab\nb \\ c\n0xff01\n", "names")
     ask(program.do("export", "--dir", "N", "--format", "dump", "--named") == dump, "the named dump")
     ask(program.do("export", "--dir", "N", "--format", "print", "--named") == b"".join(print_of(sets[name], name) for name in sorted(sets)), "the named print")
     # Once more over what is there; a backslash that is no escape is that of LMDB, which writes names as they are.
@@ -415,7 +415,7 @@ def main():
         named(program)
         tried = others(program)
         many = over_and_over(program)
-        most = killed(program, 40 if is_full else 8)
+        most = killed(program, 40 if is_full else 5)
         print("tables: %d segments over and over, up to %d pairs behind a kill; %s" % (many, most, " and ".join(tried) or "LMDB and Berkeley DB are not installed"))
 
 
