@@ -124,7 +124,9 @@ impl Measure {
     pub fn segments_of(&self, bytes: u64) -> u32 {
         let each = self.frames_in(self.room()).max(1);
         let segments = self.frames_of(bytes) / each;
-        u32::try_from(segments).unwrap_or(u32::MAX).saturating_add(1)
+        u32::try_from(segments)
+            .unwrap_or(u32::MAX)
+            .saturating_add(1)
     }
 
     /// About how many bytes of room a cleaning takes that writes so many bytes of pages: at the end of
