@@ -391,7 +391,8 @@ pub fn perform<R: System, I: Read, O: Write, W: Watch>(
     output: &mut O,
     watch: &mut W,
 ) -> Result<Told, KeysFault> {
-    let place = &Place { rt, dir, leases };
+    let place = Place { rt, dir, leases };
+    let place = &place;
     match task {
         Task::Names => names(place, output, watch),
         Task::Create(word) => create(place, name_by(*word)?, watch),
