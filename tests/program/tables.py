@@ -6,8 +6,8 @@
 Without a program it takes the one that `make run` leaves. Each command answers in so many words; values of each length go in and come
 out byte for byte; so do 3,000 pairs with values to 64 KiB, 300,000 with --full, in each format, and the databases of a dump, also through
 LMDB and Berkeley DB where `mdb_load`, `mdb_dump`, `db_load` and `db_dump` are installed. An import is killed at moments that are drawn, and
-the folder then opens and has whole calls only. Long values that are put over and over want no more segments than a few. What is not
-tried is said."""
+the folder then opens and has whole calls only. Long values that are put over and over want no more segments than a few. With --full a
+log gets full, too. What is not tried is said."""
 
 import base64
 import csv
@@ -361,6 +361,20 @@ def over_and_over(program):
     return many
 
 
+def filled(program):
+    """A log that gets full ends an import, which says how many pairs are durable; deletes then go, and puts after them."""
+    lines = b"".join(b"k%03d\t%s\n" % (it, b"v" * 1000000) for it in range(220))
+    ended = program.run("import", "--dir", "U", "--table", "t", "--capacity", "65560", given=lines)
+    tells = ended.stderr.decode().split("\n")
+    count = int(tells[2].split(" ")[1])
+    expect((ended.returncode, ended.stdout, tells[:3]), (4, b"", ["refused E5 NoSegment", "folder U: the log is full, with segments 4096", "imported %d before that, which are durable" % count]), "full")
+    expect(program.do("count", "--dir", "U", "--table", "t"), b"%d\n" % count, "count in a full log")
+    expect(program.do("del", "--dir", "U", "--table", "t", "--prefix", "k05"), b"deleted 10\n", "deletes in a full log")
+    program.do("put", "--dir", "U", "--table", "t", "long", "-", given=b"w" * 1000000)
+    ask(program.do("get", "--dir", "U", "--table", "t", "k%03d" % (count - 1), "--raw") == b"v" * 1000000, "the last value of a full log")
+    ask(program.do("get", "--dir", "U", "--table", "t", "long", "--raw") == b"w" * 1000000, "a value behind the deletes")
+
+
 def killed(program, rounds):
     """Behind a kill in an import the folder opens, and its table has the first pairs of the input, whole, and no other."""
     drawn = random.Random(9)
@@ -415,6 +429,8 @@ def main():
         named(program)
         tried = others(program)
         many = over_and_over(program)
+        if is_full:
+            filled(program)
         most = killed(program, 40 if is_full else 5)
         print("tables: %d segments over and over, up to %d pairs behind a kill; %s" % (many, most, " and ".join(tried) or "LMDB and Berkeley DB are not installed"))
 
