@@ -199,10 +199,12 @@ impl<'a, C: Calls, W: Watch> Run<'a, C, W> {
         requires { IsReady home.old holding }
         ensures { IsReady home.new holding }
     {
-        if !self.calls.only_read() {
-            answer_of(keep(home))?;
-            self.is_kept = true;
+        if self.calls.only_read() {
+            self.stage = Stage::End;
+            return Ok(());
         }
+        answer_of(keep(home))?;
+        self.is_kept = true;
         self.stage = Stage::End;
         Ok(())
     }
