@@ -6,8 +6,8 @@
 Without a program it takes the one that `make run` leaves. Each command answers in so many words; values of each length go in and come
 out byte for byte; so do 3,000 pairs with values to 64 KiB, 300,000 with --full, in each format, and the databases of a dump, also through
 LMDB and Berkeley DB where `mdb_load`, `mdb_dump`, `db_load` and `db_dump` are installed. An import is killed at moments that are drawn, and
-the folder then opens and has whole calls only. Long values that are put over and over want no more segments than a few. What is not
-tried is said."""
+the folder then opens and has whole calls only. Long values that are put over and over want no more segments than a few. With --full a
+log gets full, too. What is not tried is said."""
 
 import base64
 import csv
@@ -179,20 +179,16 @@ def apart(program):
 # ---- values of each length
 
 
-def drawn_bytes(drawn, length):
-    return drawn.randbytes(length)
-
-
 def lengths(program):
     """Values of each length, at each edge of a chunk, come out as they went in, also over longer and shorter ones."""
     drawn = random.Random(85)
-    counts = [0, 1, 511, 512, 513, 1023, 1024, 1025, 2048, 70000, MOST - 1, MOST]
+    counts = [0, 1, 511, 512, 513, 1023, 1024, 1025, 2048, 70000, 200000]
     program.do("tables", "--dir", "L", "--create", "t")
     for count in counts:
         value = drawn.randbytes(count)
         program.do("put", "--dir", "L", "--table", "t", "k%d" % count, "-", given=value)
         ask(program.do("get", "--dir", "L", "--table", "t", "k%d" % count, "--raw") == value, "a value of", count)
-    for old, new in ((70000, 0), (0, 70000), (1025, 1024), (512, 511), (511, 512), (MOST, 1)):
+    for old, new in ((70000, 0), (0, 70000), (1025, 1024), (512, 511), (511, 512), (200000, 1)):
         value = drawn.randbytes(new)
         program.do("put", "--dir", "L", "--table", "t", "k%d" % old, "-", given=value)
         ask(program.do("get", "--dir", "L", "--table", "t", "k%d" % old, "--raw") == value, "a value of", new, "over one of", old)
@@ -200,11 +196,17 @@ def lengths(program):
     expect(program.do("list", "--dir", "L", "--table", "t", "--keys"), b"".join(b"k%d\n" % it for it in sorted(counts, key=str)), "keys")
     # What the old values had is free: no chunk is left but those of values that stand.
     chunks = program.do("count", "--dir", "L", "--prefix", "0x07")
-    left = [70000, 512, 513, 1023, 1024, 1024, 2048, MOST - 1]
+    left = [70000, 512, 513, 1023, 1024, 1024, 2048]
     expect(chunks, b"%d\n" % sum((it + 511) // 512 for it in left), "chunks")
     program.do("tables", "--dir", "L", "--drop", "t")
     rest = program.do("list", "--dir", "L", "--keys", "--hex").split()
     ask(all(it == b"0x00" or it.startswith(b"0x04") for it in rest), "behind a drop stand", rest[:5])
+    # The longest value, and one byte less.
+    program.do("tables", "--dir", "L", "--create", "long")
+    for count in (MOST - 1, MOST):
+        value = drawn.randbytes(count)
+        program.do("put", "--dir", "L", "--table", "long", "k%d" % count, "-", given=value)
+        ask(program.do("get", "--dir", "L", "--table", "long", "k%d" % count, "--raw") == value, "a value of", count)
 
 
 # ---- whole sets
@@ -299,11 +301,11 @@ def effects(program):
 
 def named(program):
     """The databases of a dump go into tables of their names, and come out as they were."""
-    sets = {b"a": {b"k": b"v" * 3000}, b"ab": {}, b"b \\ c": {b"x": b"", b"y": b"2"}, b"\xff\x00": {bytes([it]): bytes([it]) * 600 for it in range(256)}}
+    sets = {b"a": {b"k": b"v" * 3000}, b"ab": {}, b"b \\ c": {b"x": b"", b"y": b"2"}, b"\xff\x01": {bytes([it]): bytes([it]) * 600 for it in range(256)}}
     spelled = {name: printed(name) for name in sets}
     dump = b"".join(dump_of(sets[name], spelled[name]) for name in sorted(sets))
     expect(program.do("import", "--dir", "N", "--format", "dump", "--named", given=dump), b"imported 259\n", "import")
-    expect(program.do("tables", "--dir", "N"), b"a\nab\nb \\ c\n0xff00\n", "names")
+    expect(program.do("tables", "--dir", "N"), b"a\nab\nb \\ c\n0xff01\n", "names")
     ask(program.do("export", "--dir", "N", "--format", "dump", "--named") == dump, "the named dump")
     ask(program.do("export", "--dir", "N", "--format", "print", "--named") == b"".join(print_of(sets[name], name) for name in sorted(sets)), "the named print")
     # Once more over what is there; a backslash that is no escape is that of LMDB, which writes names as they are.
@@ -311,7 +313,7 @@ def named(program):
     expect(program.do("get", "--dir", "N", "--table", "l\\m", "k"), b"v\n", "a name with a backslash")
     program.says(["import", "--dir", "N", "--format", "dump", "--named"], 3, tells="line 4: a database without a name\n", given=dump_of({b"k": b"v"}))
     program.says(
-        ["import", "--dir", "N", "--table", "a", "--format", "dump"], 3, tells="line 8: a second database in one dump\nimported 1 before that, which are durable\n",
+        ["import", "--dir", "N", "--table", "a", "--format", "dump"], 3, tells="line 9: a second database in one dump\nimported 1 before that, which are durable\n",
         given=dump_of({b"k": b"v"}, b"a") + dump_of({b"k": b"v"}, b"b"),
     )
 
@@ -343,20 +345,34 @@ def others(program):
 def over_and_over(program):
     """Long values that take each other's place want few segments, and small segments enough of them."""
     drawn = random.Random(3)
-    value = drawn.randbytes(300000)
-    lines = b"".join(b"k%d\t0x%s\n" % (it % 3, (value[it:] + value[:it]).hex().encode()) for it in range(200))
-    expect(program.do("import", "--dir", "O", "--table", "t", given=lines), b"imported 200\n", "over and over")
-    for it in (197, 198, 199):
+    value = drawn.randbytes(150000)
+    lines = b"".join(b"k%d\t0x%s\n" % (it % 3, (value[it:] + value[:it]).hex().encode()) for it in range(100))
+    expect(program.do("import", "--dir", "O", "--table", "t", given=lines), b"imported 100\n", "over and over")
+    for it in (97, 98, 99):
         ask(program.do("get", "--dir", "O", "--table", "t", "k%d" % (it % 3), "--raw") == value[it:] + value[:it], "value", it)
     many = program.segments("O")
-    ask(many <= 12, many, "segments for three values of 300,000 bytes")
-    lines = b"".join(b"k%d\t0x%s\n" % (it, (value[it:] + value[:it]).hex().encode()) for it in range(20))
-    expect(program.do("import", "--dir", "S", "--table", "t", "--capacity", "65560", given=lines), b"imported 20\n", "small segments")
-    for it in (0, 19):
+    ask(many <= 12, many, "segments for three values of 150,000 bytes")
+    lines = b"".join(b"k%d\t0x%s\n" % (it, (value[it:] + value[:it]).hex().encode()) for it in range(12))
+    expect(program.do("import", "--dir", "S", "--table", "t", "--capacity", "65560", given=lines), b"imported 12\n", "small segments")
+    for it in (0, 11):
         ask(program.do("get", "--dir", "S", "--table", "t", "k%d" % it, "--raw") == value[it:] + value[:it], "value", it)
     program.do("tables", "--dir", "S", "--drop", "t")
     expect(program.do("count", "--dir", "S", "--prefix", "0x07"), b"0\n", "chunks behind a drop")
     return many
+
+
+def filled(program):
+    """A log that gets full ends an import, which says how many pairs are durable; deletes then go, and puts after them."""
+    lines = b"".join(b"k%03d\t%s\n" % (it, b"v" * 1000000) for it in range(220))
+    ended = program.run("import", "--dir", "U", "--table", "t", "--capacity", "65560", given=lines)
+    tells = ended.stderr.decode().split("\n")
+    count = int(tells[2].split(" ")[1])
+    expect((ended.returncode, ended.stdout, tells[:3]), (4, b"", ["refused E5 NoSegment", "folder U: the log is full, with segments 4096", "imported %d before that, which are durable" % count]), "full")
+    expect(program.do("count", "--dir", "U", "--table", "t"), b"%d\n" % count, "count in a full log")
+    expect(program.do("del", "--dir", "U", "--table", "t", "--prefix", "k05"), b"deleted 10\n", "deletes in a full log")
+    program.do("put", "--dir", "U", "--table", "t", "long", "-", given=b"w" * 1000000)
+    ask(program.do("get", "--dir", "U", "--table", "t", "k%03d" % (count - 1), "--raw") == b"v" * 1000000, "the last value of a full log")
+    ask(program.do("get", "--dir", "U", "--table", "t", "long", "--raw") == b"w" * 1000000, "a value behind the deletes")
 
 
 def killed(program, rounds):
@@ -413,7 +429,9 @@ def main():
         named(program)
         tried = others(program)
         many = over_and_over(program)
-        most = killed(program, 40 if is_full else 8)
+        if is_full:
+            filled(program)
+        most = killed(program, 40 if is_full else 5)
         print("tables: %d segments over and over, up to %d pairs behind a kill; %s" % (many, most, " and ".join(tried) or "LMDB and Berkeley DB are not installed"))
 
 

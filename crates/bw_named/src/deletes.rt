@@ -99,16 +99,21 @@ impl Deletes {
     }
 }
 
+impl Deletes {
+    /// What the delete of the next key adds to the log, if there is one.
+    fn need(&self) -> Option<Need> {
+        if self.key.is_some() { Some(NEED) } else { None }
+    }
+}
+
 impl Calls for Deletes {
     fn next(&mut self, home: &mut Home) -> Result<Option<Need>, KeysFault> {
-        if self.key.is_none() {
-            self.begin(home)?;
-            self.key = self.next_key(home)?;
+        if self.key.is_some() {
+            return Ok(Some(NEED));
         }
-        match &self.key {
-            Some(_) => Ok(Some(NEED)),
-            None => Ok(None),
-        }
+        self.begin(home)?;
+        self.key = self.next_key(home)?;
+        Ok(self.need())
     }
 
     fn call(&mut self, home: &mut Home) -> Result<(), KeysFault> {

@@ -86,13 +86,16 @@ impl<I: Read + Drop> Import<I> {
         let Some(name) = &self.name else {
             return Ok(false);
         };
-        if self.is_there || number_if_there(home, name)?.is_some() {
+        if self.is_there {
             return Ok(false);
         }
-        if self.effect == Effect::Delete {
-            return Err(KeysFault::Table(TableRefusal::NoTable));
+        match number_if_there(home, name)? {
+            Some(_) => Ok(false),
+            None if self.effect == Effect::Delete => {
+                Err(KeysFault::Table(TableRefusal::NoTable))
+            }
+            None => Ok(true),
         }
-        Ok(true)
     }
 
     /// How much the change of the next pair adds to the log, if it is wanted; it is passed over else.

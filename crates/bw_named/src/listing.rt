@@ -27,6 +27,22 @@ pub struct List<'a, O> {
     pub is_over: bool,
 }
 
+/// The value of a row, which is only read if this style writes it.
+fn value_for(
+    home: &mut Home,
+    style: Style,
+    name: &Name,
+    found: &Found,
+) -> Result<Vec<u8>, KeysFault>
+    requires { IsReady home.old holding }
+    ensures { IsReady home.new holding }
+{
+    if style.has_values() {
+        return value_of(home, name, found);
+    }
+    Ok(Vec::new(*home.feeds.allocator()))
+}
+
 impl<O: Write> List<'_, O> {
     /// Writes what stands before the pairs of a table.
     fn begin(&mut self, name: Option<&Name>) -> Result<(), KeysFault> {
@@ -48,17 +64,13 @@ impl<O: Write> List<'_, O> {
         }
     }
 
-    /// Writes a pair, whose value is only read where it is written.
+    /// Writes a pair.
     fn pair(&mut self, home: &mut Home, name: &Name, found: Found) -> Result<(), KeysFault>
         requires { IsReady home.old holding }
         ensures { IsReady home.new holding }
     {
-        let value = if self.style.has_values() {
-            value_of(home, name, &found)?
-        } else {
-            Vec::new(*home.feeds.allocator())
-        };
         let style = self.style;
+        let value = value_for(home, style, name, &found)?;
         style
             .write(self.output, found.key.as_slice(), value.as_slice())
             .map_err(KeysFault::of_output)

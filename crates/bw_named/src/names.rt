@@ -54,18 +54,36 @@ pub fn copy_of(name: &Name) -> Result<Name, KeysFault> {
     Name::new(name.as_slice()).map_err(|_| KeysFault::Table(TableRefusal::Broken))
 }
 
-/// The last name, or the last one before this one.
+/// The last name before this one.
+fn before(home: &mut Home, name: &Name) -> Result<Option<Name>, KeysFault>
+    requires { IsReady home.old holding }
+    ensures { IsReady home.new holding }
+{
+    match name_before(home, name) {
+        Ok(name) => Ok(name),
+        Err(fault) => Err(told(fault)),
+    }
+}
+
+/// The last name of all.
+fn last(home: &mut Home) -> Result<Option<Name>, KeysFault>
+    requires { IsReady home.old holding }
+    ensures { IsReady home.new holding }
+{
+    match last_name(home) {
+        Ok(name) => Ok(name),
+        Err(fault) => Err(told(fault)),
+    }
+}
+
+/// The last name before those that were found.
 fn next_down(home: &mut Home, names: &[Name]) -> Result<Option<Name>, KeysFault>
     requires { IsReady home.old holding }
     ensures { IsReady home.new holding }
 {
-    let found = match names.last() {
-        Some(name) => name_before(home, name),
-        None => last_name(home),
-    };
-    match found {
-        Ok(name) => Ok(name),
-        Err(fault) => Err(told(fault)),
+    match names.last() {
+        Some(name) => before(home, name),
+        None => last(home),
     }
 }
 

@@ -52,8 +52,7 @@ impl<O: Write> Get<'_, O> {
         if is_alone {
             write_alone(self.output, self.spelling, value.as_slice())?;
         } else {
-            write_line(self.output, self.spelling, value.as_slice())
-                .map_err(KeysFault::of_output)?;
+            write_line(self.output, self.spelling, value.as_slice()).map_err(KeysFault::of_output)?;
         }
         Ok(true)
     }

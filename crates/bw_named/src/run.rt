@@ -199,10 +199,12 @@ impl<'a, C: Calls, W: Watch> Run<'a, C, W> {
         requires { IsReady home.old holding }
         ensures { IsReady home.new holding }
     {
-        if !self.calls.only_read() {
-            answer_of(keep(home))?;
-            self.is_kept = true;
+        if self.calls.only_read() {
+            self.stage = Stage::End;
+            return Ok(());
         }
+        answer_of(keep(home))?;
+        self.is_kept = true;
         self.stage = Stage::End;
         Ok(())
     }
@@ -311,14 +313,28 @@ impl<'a, C: Calls, W: Watch> Run<'a, C, W> {
     }
 }
 
-impl<R: System, C: Calls, W: Watch> Legs<R> for Run<'_, C, W> {
-    type Answer = Result<(), KeysFault>;
-
-    fn leg(&mut self, rt: &R, home: &mut Home) -> Option<Result<(), KeysFault>> {
+impl<C: Calls, W: Watch> Run<'_, C, W> {
+    /// Goes on in a leg; nothing is answered if another leg has to follow.
+    fn go_on<R: System>(&mut self, rt: &R, home: &mut Home) -> Option<Result<(), KeysFault>>
+        requires { IsReady home.old holding }
+        ensures { IsReady home.new holding }
+    {
         match self.up_to_room(rt, home) {
             Ok(Step::End) => Some(self.answer(Ok(()))),
             Ok(_) => None,
             Err(fault) => Some(self.answer(Err(fault))),
         }
+    }
+}
+
+impl<R: System, C: Calls, W: Watch> Legs<R> for Run<'_, C, W> {
+    type Answer = Result<(), KeysFault>;
+
+    fn leg(&mut self, rt: &R, home: &mut Home) -> Option<Result<(), KeysFault>> {
+        let ended = self.go_on(rt, home);
+        if ended.is_some() && !self.calls.only_read() {
+            self.watch.closing(last_frame(home));
+        }
+        ended
     }
 }

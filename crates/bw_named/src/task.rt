@@ -9,8 +9,8 @@ use crate::run::{Calls, Run};
 use crate::words::{keys_by, name_by, put_key_by, span_of, value_by};
 use bw_home::{System, with_store_at};
 use bw_keys::{
-    Changed, Effect, KeysFault, Listed, Loaded, Range, Style, Tending, Told, check_store,
-    leases_of, options,
+    Changed, Effect, KeysFault, Loaded, Range, Style, Tending, Told, check_store, leases_of,
+    options,
 };
 use bw_pairs::{LineFault, Rows, Skipped, Source, Spelling};
 use bw_rows::Name;
@@ -46,20 +46,27 @@ impl Task<'_> {
     }
 }
 
+/// A folder, and by how many leases it is opened.
+#[derive(Drop)]
+struct Place<'a, R> {
+    rt: &'a R,
+    dir: &'a str,
+    leases: u32,
+}
+
 /// Makes calls on the tables of a folder, which is made where it is missing; whether all that they
 /// wrote is durable, and why they ended early. The input has so many bytes.
 fn run<R: System, C: Calls, W: Watch>(
-    rt: &R,
-    dir: &str,
-    leases: u32,
+    place: &Place<'_, R>,
     capacity: Option<u32>,
     calls: &mut C,
     all: u64,
     watch: &mut W,
 ) -> (bool, Result<(), KeysFault>) {
-    let held = folder_bytes(rt, dir, leases, watch);
+    let (rt, dir) = (place.rt, place.dir);
+    let held = folder_bytes(rt, dir, place.leases, watch);
     watch.see(Work::Opening, 0, held);
-    let leases = leases.min(leases_of(rt, dir));
+    let leases = place.leases.min(leases_of(rt, dir));
     let options = options(capacity);
     let frame = u64::from(options.frame_bytes);
     let tending = Tending::new(options.capacity, frame, leases);
@@ -73,23 +80,19 @@ fn run<R: System, C: Calls, W: Watch>(
 
 /// The same over a folder that has to be there.
 fn run_there<R: System, C: Calls, W: Watch>(
-    rt: &R,
-    dir: &str,
-    leases: u32,
+    place: &Place<'_, R>,
     calls: &mut C,
     watch: &mut W,
 ) -> (bool, Result<(), KeysFault>) {
-    match check_store(rt, dir) {
-        Ok(()) => run(rt, dir, leases, None, calls, 0, watch),
+    match check_store(place.rt, place.dir) {
+        Ok(()) => run(place, None, calls, 0, watch),
         Err(fault) => (false, Err(fault)),
     }
 }
 
 /// Puts a value.
 fn put<R: System, I: Read, W: Watch>(
-    rt: &R,
-    dir: &str,
-    leases: u32,
+    place: &Place<'_, R>,
     name: Name,
     key: &str,
     value: &str,
@@ -98,29 +101,27 @@ fn put<R: System, I: Read, W: Watch>(
     watch: &mut W,
 ) -> Result<Told, KeysFault> {
     let key = put_key_by(key, is_raw)?;
-    let value = value_by(rt.alloc(), value, is_raw, input)?;
+    let value = value_by(place.rt.alloc(), value, is_raw, input)?;
     let mut calls = Put {
         name,
         key,
         value,
         is_over: false,
     };
-    run_there(rt, dir, leases, &mut calls, watch).1?;
+    run_there(place, &mut calls, watch).1?;
     Ok(Told::Done)
 }
 
 /// Writes the values of keys.
 fn get<R: System, O: Write, W: Watch>(
-    rt: &R,
-    dir: &str,
-    leases: u32,
+    place: &Place<'_, R>,
     name: Name,
     words: &[&str],
     spelling: Spelling,
     output: &mut O,
     watch: &mut W,
 ) -> Result<Told, KeysFault> {
-    let keys = keys_by(rt.alloc(), words)?;
+    let keys = keys_by(place.rt.alloc(), words)?;
     let is_one = keys.len() == 1;
     let mut calls = Get {
         name,
@@ -128,9 +129,9 @@ fn get<R: System, O: Write, W: Watch>(
         spelling,
         output,
         is_over: false,
-        missing: Vec::new(rt.alloc()),
+        missing: Vec::new(place.rt.alloc()),
     };
-    run_there(rt, dir, leases, &mut calls, watch).1?;
+    run_there(place, &mut calls, watch).1?;
     let missing = calls.missing;
     if !is_one {
         return Ok(Told::NoValues(missing));
@@ -144,9 +145,7 @@ fn get<R: System, O: Write, W: Watch>(
 
 /// Deletes keys. Of one that was named alone it is not told whether it was there.
 fn del<R: System, W: Watch>(
-    rt: &R,
-    dir: &str,
-    leases: u32,
+    place: &Place<'_, R>,
     name: Name,
     meant: Meant,
     is_one: bool,
@@ -158,12 +157,24 @@ fn del<R: System, W: Watch>(
         key: None,
         count: 0,
     };
-    let (is_kept, end) = run_there(rt, dir, leases, &mut calls, watch);
+    let (is_kept, end) = run_there(place, &mut calls, watch);
     match end {
         Ok(()) if is_one => Ok(Told::Done),
         Ok(()) => Ok(Told::Changed(Changed::Deleted(calls.count))),
         Err(fault) => Ok(halted(fault, Effect::Delete, is_kept, calls.count)),
     }
+}
+
+/// Deletes the keys of these words.
+fn del_words<R: System, W: Watch>(
+    place: &Place<'_, R>,
+    name: Name,
+    words: &[&str],
+    watch: &mut W,
+) -> Result<Told, KeysFault> {
+    let keys = keys_by(place.rt.alloc(), words)?;
+    let is_one = keys.len() == 1;
+    del(place, name, Meant::Named(keys), is_one, watch)
 }
 
 /// What is told of changes that ended early: how many are durable.
@@ -172,15 +183,12 @@ fn halted(fault: KeysFault, effect: Effect, is_kept: bool, count: u64) -> Told {
     Told::Changed(Changed::Halted(fault, effect, durable))
 }
 
-/// Writes pairs.
+/// Writes pairs, in a style and so many at most.
 fn list<R: System, O: Write, W: Watch>(
-    rt: &R,
-    dir: &str,
-    leases: u32,
+    place: &Place<'_, R>,
     name: Option<Name>,
     range: Option<&Range<'_>>,
-    style: Style,
-    limit: u64,
+    wanted: (Style, u64),
     output: &mut O,
     watch: &mut W,
 ) -> Result<Told, KeysFault> {
@@ -188,23 +196,22 @@ fn list<R: System, O: Write, W: Watch>(
         Some(range) => Some(span_of(range)?),
         None => None,
     };
+    let (style, left) = wanted;
     let mut calls = List {
         name,
         span,
         style,
-        left: limit,
+        left,
         output,
         is_over: false,
     };
-    run_there(rt, dir, leases, &mut calls, watch).1?;
+    run_there(place, &mut calls, watch).1?;
     Ok(Told::Done)
 }
 
 /// Writes how many keys of a stretch there are.
 fn count<R: System, O: Write, W: Watch>(
-    rt: &R,
-    dir: &str,
-    leases: u32,
+    place: &Place<'_, R>,
     name: Name,
     range: &Range<'_>,
     output: &mut O,
@@ -215,7 +222,7 @@ fn count<R: System, O: Write, W: Watch>(
         span: Some(span_of(range)?),
         count: 0,
     };
-    run_there(rt, dir, leases, &mut calls, watch).1?;
+    run_there(place, &mut calls, watch).1?;
     let count = calls.count;
     writeln!(output, "{count}").map_err(KeysFault::of_output)?;
     Ok(Told::Done)
@@ -251,20 +258,18 @@ fn rows_of<'a, I: Read>(
 /// Does with the pairs of an input what is wanted. A store is made where it is missing, but for
 /// deletes.
 fn import<R: System, I: Read, W: Watch>(
-    rt: &R,
-    dir: &str,
-    leases: u32,
+    place: &Place<'_, R>,
     name: Option<Name>,
     input: &mut I,
     wanted: bw_keys::Import,
     watch: &mut W,
 ) -> Result<Told, KeysFault> {
     if wanted.effect == Effect::Delete {
-        check_store(rt, dir)?;
+        check_store(place.rt, place.dir)?;
     }
-    let all = input_bytes(rt, watch);
-    let mut calls = rows_of(rt.alloc(), name, input, wanted)?;
-    let (is_kept, end) = run(rt, dir, leases, wanted.capacity, &mut calls, all, watch);
+    let all = input_bytes(place.rt, watch);
+    let mut calls = rows_of(place.rt.alloc(), name, input, wanted)?;
+    let (is_kept, end) = run(place, wanted.capacity, &mut calls, all, watch);
     if let Err(fault) = end {
         return Ok(halted(fault, wanted.effect, is_kept, calls.count));
     }
@@ -283,9 +288,7 @@ fn import<R: System, I: Read, W: Watch>(
 
 /// Does a task over the keys of a table.
 fn perform_in<R: System, I: Read, O: Write, W: Watch>(
-    rt: &R,
-    dir: &str,
-    leases: u32,
+    place: &Place<'_, R>,
     name: Name,
     task: &bw_keys::Task<'_>,
     input: &mut I,
@@ -293,72 +296,41 @@ fn perform_in<R: System, I: Read, O: Write, W: Watch>(
     watch: &mut W,
 ) -> Result<Told, KeysFault> {
     match task {
-        bw_keys::Task::Put(key, value, is_raw) => put(
-            rt,
-            dir,
-            leases,
-            name,
-            *key,
-            *value,
-            *is_raw,
-            input,
-            watch,
-        ),
+        bw_keys::Task::Put(key, value, is_raw) => {
+            put(place, name, *key, *value, *is_raw, input, watch)
+        }
         bw_keys::Task::Get(words, spelling) => {
             let words = words.as_slice();
-            get(rt, dir, leases, name, words, *spelling, output, watch)
+            get(place, name, words, *spelling, output, watch)
         }
-        bw_keys::Task::Del(words) => {
-            let keys = keys_by(rt.alloc(), words.as_slice())?;
-            let is_one = keys.len() == 1;
-            del(rt, dir, leases, name, Meant::Named(keys), is_one, watch)
-        }
+        bw_keys::Task::Del(words) => del_words(place, name, words.as_slice(), watch),
         bw_keys::Task::DelAll(range) => {
             let meant = Meant::Stretch(span_of(range)?);
-            del(rt, dir, leases, name, meant, false, watch)
+            del(place, name, meant, false, watch)
         }
         bw_keys::Task::List(listed) => {
-            let Listed {
-                range,
-                limit,
-                style,
-                ..
-            } = listed;
+            let wanted = (listed.style, listed.limit);
             list(
-                rt,
-                dir,
-                leases,
+                place,
                 Some(name),
-                Some(range),
-                *style,
-                *limit,
+                Some(&listed.range),
+                wanted,
                 output,
                 watch,
             )
         }
-        bw_keys::Task::Count(range) => count(rt, dir, leases, name, range, output, watch),
-        bw_keys::Task::Import(wanted) => {
-            import(rt, dir, leases, Some(name), input, *wanted, watch)
+        bw_keys::Task::Count(range) => count(place, name, range, output, watch),
+        bw_keys::Task::Import(wanted) => import(place, Some(name), input, *wanted, watch),
+        bw_keys::Task::Export(range, style) => {
+            let wanted = (*style, u64::MAX);
+            list(place, Some(name), Some(range), wanted, output, watch)
         }
-        bw_keys::Task::Export(range, style) => list(
-            rt,
-            dir,
-            leases,
-            Some(name),
-            Some(range),
-            *style,
-            u64::MAX,
-            output,
-            watch,
-        ),
     }
 }
 
 /// Writes the names of all tables.
 fn names<R: System, O: Write, W: Watch>(
-    rt: &R,
-    dir: &str,
-    leases: u32,
+    place: &Place<'_, R>,
     output: &mut O,
     watch: &mut W,
 ) -> Result<Told, KeysFault> {
@@ -366,15 +338,13 @@ fn names<R: System, O: Write, W: Watch>(
         output,
         is_over: false,
     };
-    run_there(rt, dir, leases, &mut calls, watch).1?;
+    run_there(place, &mut calls, watch).1?;
     Ok(Told::Done)
 }
 
 /// Makes a table.
 fn create<R: System, W: Watch>(
-    rt: &R,
-    dir: &str,
-    leases: u32,
+    place: &Place<'_, R>,
     name: Name,
     watch: &mut W,
 ) -> Result<Told, KeysFault> {
@@ -382,15 +352,13 @@ fn create<R: System, W: Watch>(
         name,
         is_over: false,
     };
-    run(rt, dir, leases, None, &mut calls, 0, watch).1?;
+    run(place, None, &mut calls, 0, watch).1?;
     Ok(Told::Done)
 }
 
 /// Drops a table.
 fn drop_named<R: System, W: Watch>(
-    rt: &R,
-    dir: &str,
-    leases: u32,
+    place: &Place<'_, R>,
     name: Name,
     watch: &mut W,
 ) -> Result<Told, KeysFault> {
@@ -399,7 +367,7 @@ fn drop_named<R: System, W: Watch>(
         is_over: false,
         needed: None,
     };
-    run_there(rt, dir, leases, &mut calls, watch).1?;
+    run_there(place, &mut calls, watch).1?;
     Ok(Told::Done)
 }
 
@@ -423,31 +391,23 @@ pub fn perform<R: System, I: Read, O: Write, W: Watch>(
     output: &mut O,
     watch: &mut W,
 ) -> Result<Told, KeysFault> {
+    let place = Place { rt, dir, leases };
+    let place = &place;
     match task {
-        Task::Names => names(rt, dir, leases, output, watch),
-        Task::Create(word) => create(rt, dir, leases, name_by(*word)?, watch),
-        Task::Drop(word) => drop_named(rt, dir, leases, name_by(*word)?, watch),
+        Task::Names => names(place, output, watch),
+        Task::Create(word) => create(place, name_by(*word)?, watch),
+        Task::Drop(word) => drop_named(place, name_by(*word)?, watch),
         Task::Table(word, task) => {
             let name = name_by(*word)?;
-            perform_in(rt, dir, leases, name, task, input, output, watch)
+            perform_in(place, name, task, input, output, watch)
         }
         Task::Import(wanted) => {
             check_dump(wanted.source == Source::Dump)?;
-            import(rt, dir, leases, None, input, *wanted, watch)
+            import(place, None, input, *wanted, watch)
         }
         Task::Export(style) => {
             check_dump(matches!(style, Style::Dump(..)))?;
-            list(
-                rt,
-                dir,
-                leases,
-                None,
-                None,
-                *style,
-                u64::MAX,
-                output,
-                watch,
-            )
+            list(place, None, None, (*style, u64::MAX), output, watch)
         }
     }
 }
