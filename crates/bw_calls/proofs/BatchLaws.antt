@@ -24,7 +24,7 @@ use Rattle.bw_rows.proofs.ChunkLaws.{all_joined}
 use Rattle.bw_tables.specs.Writing.{chunk_record, chunk_records, taking, IsWriting}
 use Rattle.bw_tables.specs.Calls.{CarriesOut, EndsBatch, MakesBatch, SetsAside}
 use Rattle.bw_calls.specs.Batches.{bytes_in, with_change, with_changes, Gathers}
-use Rattle.bw_calls.specs.Changes.{HasSame, IsFirstOf}
+use Rattle.bw_calls.specs.Changes.{HasSame, HasSameMarks, IsFirstOf}
 use Rattle.bw_calls.specs.declared.batching.Change.{Change}
 use Rattle.bw_calls.proofs.PlainLaws.{plain_of, itself, kept_by, moved, same_number, writing_as, wrote}
 use Rattle.bw_calls.proofs.LeaveLaws.{number_moved}
@@ -78,6 +78,9 @@ aside_comes p place row group lawful is =
 pub stays_by : {A E : Type 0} (p new : Plain) (group : List Record) (r : Result A E) → IsLawful p → IsTables (tables_of p) (after p group)
     → OnOk r (new ≡ after p group) → IfErr r (λ e. (new ≡ p) ⊎ (new ≡ after p group)) → IsTables (tables_of p) new
 stays_by p new group r lawful done ok err = kept_by (tables_of p) p (after p group) new (itself p lawful) done (wrote r p (after p group) new ok err)
+
+pub none_still : (p new : Plain) → HasSameMarks p new → HasNoAside p → HasNoAside new
+none_still p new same none k = same.asides k ∙ none k
 
 -- ---- changes that are set aside
 

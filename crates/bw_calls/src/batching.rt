@@ -298,6 +298,8 @@ fn end_batch(home: &mut Home) -> Result<(), TableFault>
     ensures left { (tables : Tables) → IsStanding tables (plain_in home.old holding)
         → HasNoAside (plain_in home.old holding)
         → IsLeft tables (plain_in home.new holding) }
+    ensures none { HasNoAside (plain_in home.old holding)
+        → HasNoAside (plain_in home.new holding) }
     ensures leaves { (tables : Tables) → IsStanding tables (plain_in home.old holding)
         → HasNoAside (plain_in home.old holding)
         → Stays tables home.old home.new holding }
@@ -313,6 +315,7 @@ fn carry_all(home: &mut Home) -> Result<(), TableFault>
         → OnOk result (IsTables tables (plain_in home.new holding)) }
     ensures left { (tables : Tables) → IsStanding tables (plain_in home.old holding)
         → IsLeft tables (plain_in home.new holding) }
+    ensures none { OnOk result (HasNoAside (plain_in home.new holding)) }
     ensures leaves { (tables : Tables) → IsStanding tables (plain_in home.old holding)
         → Stays tables home.old home.new holding }
 {
@@ -336,6 +339,7 @@ pub(crate) fn settle(home: &mut Home) -> Result<(), TableFault>
         → OnOk result (IsTables tables (plain_in home.new holding)) }
     ensures left { (tables : Tables) → IsLeft tables (plain_in home.old holding)
         → IsLeft tables (plain_in home.new holding) }
+    ensures none { OnOk result (HasNoAside (plain_in home.new holding)) }
     ensures leaves { (tables : Tables) → IsLeft tables (plain_in home.old holding)
         → Stays tables home.old home.new holding }
 {

@@ -5,7 +5,7 @@ ghost use Rattle.bw_rows.specs.Law.{is_doomed};
 ghost use Rattle.bw_rows.specs.Laws.{HasNoChunk, IsLawful, IsTables};
 ghost use Rattle.bw_home.specs.Maps.{maps_of};
 ghost use Rattle.bw_home.specs.Ready.{IsReady};
-ghost use Rattle.bw_calls.specs.Changes.{HasSameNames, IsClean, IsCollecting};
+ghost use Rattle.bw_calls.specs.Changes.{HasSameMarks, IsClean, IsCollecting};
 ghost use Rattle.bw_calls.specs.Lives.{Reads, Stays};
 ghost use Rattle.bw_calls.specs.Standing.{plain_in, tables_in, waits};
 
@@ -81,7 +81,7 @@ fn drop_chunk(home: &mut Home, number: Number, i: u32) -> Result<(), TableFault>
     ensures stays { IsLawful (plain_in home.old holding)
         → is_doomed (plain_in home.old holding) number.bytes ≡ true
         → IsCollecting (tables_in home.old holding) (plain_in home.new holding) number.bytes }
-    ensures names { HasSameNames (plain_in home.old holding) (plain_in home.new holding) }
+    ensures marks { HasSameMarks (plain_in home.old holding) (plain_in home.new holding) }
     ensures before { IfErr result (λ fault. waits fault ≡ false) }
     ensures leaves { IsLawful (plain_in home.old holding)
         → is_doomed (plain_in home.old holding) number.bytes ≡ true
@@ -97,7 +97,7 @@ fn free(home: &mut Home, number: Number) -> Result<(), TableFault>
     ensures stays { IsLawful (plain_in home.old holding)
         → HasNoChunk (plain_in home.old holding) number.bytes
         → IsTables (tables_in home.old holding) (plain_in home.new holding) }
-    ensures names { HasSameNames (plain_in home.old holding) (plain_in home.new holding) }
+    ensures marks { HasSameMarks (plain_in home.old holding) (plain_in home.new holding) }
     ensures before { IfErr result (λ fault. waits fault ≡ false) }
     ensures leaves { IsLawful (plain_in home.old holding)
         → HasNoChunk (plain_in home.old holding) number.bytes
@@ -113,7 +113,7 @@ fn collect_doomed(home: &mut Home, number: Number) -> Result<(), TableFault>
     ensures stays { IsLawful (plain_in home.old holding)
         → is_doomed (plain_in home.old holding) number.bytes ≡ true
         → IsTables (tables_in home.old holding) (plain_in home.new holding) }
-    ensures names { HasSameNames (plain_in home.old holding) (plain_in home.new holding) }
+    ensures marks { HasSameMarks (plain_in home.old holding) (plain_in home.new holding) }
     ensures before { IfErr result (λ fault. waits fault ≡ false) }
     ensures leaves { IsLawful (plain_in home.old holding)
         → is_doomed (plain_in home.old holding) number.bytes ≡ true
@@ -134,7 +134,7 @@ pub(crate) fn collect(home: &mut Home, number: Number) -> Result<(), TableFault>
     ensures ready { IsReady home.new holding }
     ensures stays { IsLawful (plain_in home.old holding)
         → IsTables (tables_in home.old holding) (plain_in home.new holding) }
-    ensures names { HasSameNames (plain_in home.old holding) (plain_in home.new holding) }
+    ensures marks { HasSameMarks (plain_in home.old holding) (plain_in home.new holding) }
     ensures before { IfErr result (λ fault. waits fault ≡ false) }
     ensures leaves { IsLawful (plain_in home.old holding)
         → Stays (tables_in home.old holding) home.old home.new holding }
@@ -171,6 +171,8 @@ pub(crate) fn collect_all(home: &mut Home) -> Result<(), TableFault>
     ensures stays { IsLawful (plain_in home.old holding)
         → IsTables (tables_in home.old holding) (plain_in home.new holding) }
     ensures clean { OnOk result (IsClean (plain_in home.new holding)) }
+    ensures marks { OnOk result
+        (HasSameMarks (plain_in home.old holding) (plain_in home.new holding)) }
     ensures leaves { IsLawful (plain_in home.old holding)
         → Stays (tables_in home.old holding) home.old home.new holding }
 {

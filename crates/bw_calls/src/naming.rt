@@ -4,12 +4,12 @@
 //! table gets one that no name and no row has. A table goes away with its name; its rows go away
 //! after that, one by one, and up to the last of them its number is *gone*.
 
-ghost use Rattle.std.specs.Prelude.{◌≡◌, ◌∷◌, true, false, Some, None, IfErr, IfOk, OnOk};
-ghost use Rattle.bw_rows.specs.Laws.{empty_table, with_table, IsLawful, IsNoTable, IsTables};
+ghost use Rattle.std.specs.Prelude.{◌≡◌, ◌⊎◌, ◌∷◌, true, false, Some, None, IfErr, IfOk, OnOk};
+ghost use Rattle.bw_rows.specs.Laws.{empty_table, with_table, IsLawful, HasNoRow, IsNoTable, IsOfTable, IsTables};
 ghost use Rattle.bw_home.specs.Maps.{maps_of};
 ghost use Rattle.bw_home.specs.Ready.{IsReady};
 ghost use Rattle.bw_calls.specs.Standing.{plain_in, tables_in, waits, IsLeftBy};
-ghost use Rattle.bw_calls.specs.Changes.{kind_in, HasNoRow, HasSameNames};
+ghost use Rattle.bw_calls.specs.Changes.{kind_in, HasNoneGone, HasSameAsides, HasSameMarks};
 ghost use Rattle.bw_calls.specs.Lives.{Goes, Reads, Stays};
 ghost use Rattle.bw_calls.specs.Names.{HasLooked, Judges};
 
@@ -106,6 +106,8 @@ fn has_table(home: &mut Home, table: TableNumber) -> Result<bool, TableFault>
     ensures same { (maps_of home.new holding).put ≡ (maps_of home.old holding).put }
     ensures none { IfOk result (λ has. has ≡ false
         → IsNoTable (plain_in home.old holding) table.bytes) }
+    ensures has { IfOk result (λ has. has ≡ true
+        → IsOfTable (plain_in home.old holding) table.bytes) }
     ensures before { IfErr result (λ fault. waits fault ≡ false) }
     ensures leaves { Reads home.old home.new holding }
 {
@@ -265,7 +267,7 @@ fn collect_named(home: &mut Home, old: Option<Head>) -> Result<(), TableFault>
     ensures ready { IsReady home.new holding }
     ensures stays { IsLawful (plain_in home.old holding)
         → IsTables (tables_in home.old holding) (plain_in home.new holding) }
-    ensures names { HasSameNames (plain_in home.old holding) (plain_in home.new holding) }
+    ensures marks { HasSameMarks (plain_in home.old holding) (plain_in home.new holding) }
     ensures before { IfErr result (λ fault. waits fault ≡ false) }
     ensures leaves { IsLawful (plain_in home.old holding)
         → Stays (tables_in home.old holding) home.old home.new holding }
@@ -283,7 +285,7 @@ fn take_row(home: &mut Home, table: TableNumber, key: &RowKey) -> Result<Option<
     ensures stays { IsLawful (plain_in home.old holding)
         → IsNoTable (plain_in home.old holding) table.bytes
         → IsTables (tables_in home.old holding) (plain_in home.new holding) }
-    ensures names { HasSameNames (plain_in home.old holding) (plain_in home.new holding) }
+    ensures marks { HasSameMarks (plain_in home.old holding) (plain_in home.new holding) }
     ensures before { IfErr result (λ fault. waits fault ≡ false) }
     ensures leaves { IsLawful (plain_in home.old holding)
         → IsNoTable (plain_in home.old holding) table.bytes
@@ -301,7 +303,7 @@ fn drop_at(home: &mut Home, table: TableNumber, key: &RowKey) -> Result<(), Tabl
     ensures stays { IsLawful (plain_in home.old holding)
         → IsNoTable (plain_in home.old holding) table.bytes
         → IsTables (tables_in home.old holding) (plain_in home.new holding) }
-    ensures names { HasSameNames (plain_in home.old holding) (plain_in home.new holding) }
+    ensures marks { HasSameMarks (plain_in home.old holding) (plain_in home.new holding) }
     ensures before { IfErr result (λ fault. waits fault ≡ false) }
     ensures leaves { IsLawful (plain_in home.old holding)
         → IsNoTable (plain_in home.old holding) table.bytes
@@ -318,7 +320,7 @@ fn drop_key(home: &mut Home, table: TableNumber, key: &Key) -> Result<(), TableF
     ensures stays { IsLawful (plain_in home.old holding)
         → IsNoTable (plain_in home.old holding) table.bytes
         → IsTables (tables_in home.old holding) (plain_in home.new holding) }
-    ensures names { HasSameNames (plain_in home.old holding) (plain_in home.new holding) }
+    ensures marks { HasSameMarks (plain_in home.old holding) (plain_in home.new holding) }
     ensures before { IfErr result (λ fault. waits fault ≡ false) }
     ensures leaves { IsLawful (plain_in home.old holding)
         → IsNoTable (plain_in home.old holding) table.bytes
@@ -333,14 +335,19 @@ fn drop_key(home: &mut Home, table: TableNumber, key: &Key) -> Result<(), TableF
     drop_at(home, table, &key)
 }
 
-// A number is gone no more.
+// A number is gone no more, which no row has, or which a table has.
 fn forget(home: &mut Home, table: TableNumber) -> Result<(), TableFault>
     requires { IsReady home.old holding }
     ensures ready { IsReady home.new holding }
     ensures stays { IsLawful (plain_in home.old holding)
+        → HasNoRow (plain_in home.old holding) table.bytes
+        ⊎ IsOfTable (plain_in home.old holding) table.bytes
         → IsTables (tables_in home.old holding) (plain_in home.new holding) }
+    ensures asides { HasSameAsides (plain_in home.old holding) (plain_in home.new holding) }
     ensures before { IfErr result (λ fault. waits fault ≡ false) }
     ensures leaves { IsLawful (plain_in home.old holding)
+        → HasNoRow (plain_in home.old holding) table.bytes
+        ⊎ IsOfTable (plain_in home.old holding) table.bytes
         → Stays (tables_in home.old holding) home.old home.new holding }
 {
     ways::prepare(home, Group::one(Record::Del(gone_key(table))))
@@ -353,6 +360,8 @@ fn clear_rows(home: &mut Home, table: TableNumber) -> Result<(), TableFault>
     ensures stays { IsLawful (plain_in home.old holding)
         → IsNoTable (plain_in home.old holding) table.bytes
         → IsTables (tables_in home.old holding) (plain_in home.new holding) }
+    ensures asides { OnOk result
+        (HasSameAsides (plain_in home.old holding) (plain_in home.new holding)) }
     ensures before { IfErr result (λ fault. waits fault ≡ false) }
     ensures leaves { IsLawful (plain_in home.old holding)
         → IsNoTable (plain_in home.old holding) table.bytes
@@ -373,6 +382,8 @@ fn clear(home: &mut Home, table: TableNumber) -> Result<(), TableFault>
     ensures ready { IsReady home.new holding }
     ensures stays { IsLawful (plain_in home.old holding)
         → IsTables (tables_in home.old holding) (plain_in home.new holding) }
+    ensures asides { OnOk result
+        (HasSameAsides (plain_in home.old holding) (plain_in home.new holding)) }
     ensures before { IfErr result (λ fault. waits fault ≡ false) }
     ensures leaves { IsLawful (plain_in home.old holding)
         → Stays (tables_in home.old holding) home.old home.new holding }
@@ -417,6 +428,8 @@ fn first_gone(home: &mut Home) -> Result<Option<TableNumber>, TableFault>
     requires { IsReady home.old holding }
     ensures ready { IsReady home.new holding }
     ensures same { (maps_of home.new holding).put ≡ (maps_of home.old holding).put }
+    ensures none { IfOk result (λ first. first ≡ None
+        → HasNoneGone (plain_in home.old holding)) }
     ensures before { IfErr result (λ fault. waits fault ≡ false) }
     ensures leaves { Reads home.old home.new holding }
 {
@@ -437,6 +450,9 @@ pub(crate) fn clear_gone(home: &mut Home) -> Result<(), TableFault>
     ensures ready { IsReady home.new holding }
     ensures stays { IsLawful (plain_in home.old holding)
         → IsTables (tables_in home.old holding) (plain_in home.new holding) }
+    ensures asides { OnOk result
+        (HasSameAsides (plain_in home.old holding) (plain_in home.new holding)) }
+    ensures none { OnOk result (HasNoneGone (plain_in home.new holding)) }
     ensures before { IfErr result (λ fault. waits fault ≡ false) }
     ensures leaves { IsLawful (plain_in home.old holding)
         → Stays (tables_in home.old holding) home.old home.new holding }

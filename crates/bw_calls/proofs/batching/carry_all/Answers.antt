@@ -1,5 +1,6 @@
 use Rattle.std.proofs.Common.{inr}
 use Rattle.bw_calls.proofs.BatchLaws.{first_pair_moved, none_aside_moved, stands_moved}
+use Rattle.bw_calls.proofs.OtherLaws.{on_any}
 use Rattle.bw_calls.proofs.batching.carry_all.Goals as goal
 
 pub rows-preserved : goal.rows-preserved
@@ -49,3 +50,6 @@ returns-clause-left g c = λ tables stands. inr (c.rows.invariant.1 tables stand
 
 pub returns-clause-leaves : goal.returns-clause-leaves
 returns-clause-leaves g c = c.rows.invariant.2
+
+pub returns-in-None-clause-none : goal.returns-in-None-clause-none
+returns-in-None-clause-none g c = on_any c.end_batch.result (c.end_batch.ensures.none (none_aside_moved _ _ _ c.first_aside.ensures.same c.in-None.is c.in_ok-key.ensures.first))
