@@ -12,12 +12,16 @@ use Rattle.bw_leaf.specs.Changed.{Map}
 use Rattle.bw_walks.specs.Back.{IsLastBelow}
 use Rattle.bw_rows.specs.Spelling.{Bytes, name_key, gone_key, aside_key, row_key, row_place}
 use Rattle.bw_rows.specs.Meaning.{Plain, Tables, tables_of, table_in}
+use Rattle.bw_rows.specs.declared.names.TableNumber.{TableNumber}
 use Rattle.bw_rows.specs.Steps.{after}
 use Rattle.bw_rows.specs.Law.{head_at}
 use Rattle.bw_rows.specs.Laws.{IsLawful, IsTables, IsNoTable, empty_table, with_table, HasNoRow, HasNumber, IsOfTable}
 use Rattle.bw_rows.proofs.NameLaws.{gone_law}
 use Rattle.bw_tables.specs.Calls.{DropsRow, DropsTable, KeepsMarks, MakesTable}
 use Rattle.bw_calls.specs.Changes.{kind_in, HasNoneGone, HasSameAsides, HasSameMarks}
+use Rattle.bw_calls.specs.Lives.{IsIn}
+use Rattle.bw_calls.specs.Standing.{IsLeftBy}
+use Rattle.bw_calls.specs.declared.fault.TableFault.{TableFault}
 use Rattle.bw_calls.specs.Names.{HasLooked, IsNoneFrom, Judges}
 use Rattle.bw_calls.specs.declared.naming.Looked.{Looked}
 use Rattle.bw_calls.specs.declared.naming.Looked.TheVariants.{Below, Last, Taken}
@@ -199,6 +203,11 @@ no_name p name e = no_name_by (p (name_key name)) e where
   no_name_by None is = refl
   no_name_by (Some row) is = absurd (cc is)
 
+pub fresh_told : (answer : Option TableNumber) (m m1 : Map) (name : Bytes) → answer ≡ None
+    → option_map (λ (t : TableNumber). t.bytes) answer ≡ option_map table_in (plain_of m (name_key name)) → m1 ≡ m → plain_of m1 (name_key name) ≡ None
+fresh_told answer m m1 name is told same =
+    ap (λ (x : Map). plain_of x (name_key name)) same ∙ no_name (plain_of m) name (sym (ap (option_map (λ (t : TableNumber). t.bytes)) is) ∙ told)
+
 -- ---- tables that come and go
 
 pub made : (m m1 m2 : Map) (name t : Bytes) (group : List Record) → MakesTable name t group → IsLawful (plain_of m) → plain_of m (name_key name) ≡ None → m1 ≡ m → m2 ≡ m1
@@ -227,3 +236,18 @@ dropped_row m m1 t key old group drops lawful none same was =
 
 pub no_table_moved : (m m1 : Map) (t : Bytes) → m1 ≡ m → IsNoTable (plain_of m) t → IsNoTable (plain_of m1) t
 no_table_moved m m1 t same none = subst (λ (x : Map). IsNoTable (plain_of x) t) (sym same) none
+
+-- a table that came, as the map before a reading tells it
+pub created_moved : {A E : Type 0} (m m1 : Map) (name : Bytes) (r : Result A E) (new : Plain) → m1 ≡ m
+    → OnOk r (IsTables (with_table (tables_of (plain_of m1)) name (Some empty_table)) new) → OnOk r (IsTables (with_table (tables_of (plain_of m)) name (Some empty_table)) new)
+created_moved m m1 name r new same h = subst (λ (x : Map). OnOk r (IsTables (with_table (tables_of (plain_of x)) name (Some empty_table)) new)) same h
+
+pub refused_moved : {A : Type 0} (m m1 : Map) (name : Bytes) (r : Result A TableFault) (new : Plain) → m1 ≡ m
+    → IfErr r (λ fault. IsLeftBy fault (tables_of (plain_of m1)) (with_table (tables_of (plain_of m1)) name (Some empty_table)) new)
+    → IfErr r (λ fault. IsLeftBy fault (tables_of (plain_of m)) (with_table (tables_of (plain_of m)) name (Some empty_table)) new)
+refused_moved m m1 name r new same h =
+    subst (λ (x : Map). IfErr r (λ fault. IsLeftBy fault (tables_of (plain_of x)) (with_table (tables_of (plain_of x)) name (Some empty_table)) new)) same h
+
+pub made_moved : (ts : List Tables) (m m1 : Map) (name : Bytes) → m1 ≡ m → IsIn (with_table (tables_of (plain_of m)) name (Some empty_table)) ts
+    → IsIn (with_table (tables_of (plain_of m1)) name (Some empty_table)) ts
+made_moved ts m m1 name same among = subst (λ (x : Map). IsIn (with_table (tables_of (plain_of x)) name (Some empty_table)) ts) (sym same) among

@@ -5,6 +5,7 @@
 //! after that, one by one, and up to the last of them its number is *gone*.
 
 ghost use Rattle.std.specs.Prelude.{◌≡◌, ◌⊎◌, ◌∷◌, true, false, Some, None, IfErr, IfOk, OnOk};
+ghost use Rattle.bw_rows.specs.Spelling.{name_key};
 ghost use Rattle.bw_rows.specs.Laws.{empty_table, with_table, IsLawful, HasNoRow, IsNoTable, IsOfTable, IsTables};
 ghost use Rattle.bw_home.specs.Maps.{maps_of};
 ghost use Rattle.bw_home.specs.Ready.{IsReady};
@@ -233,6 +234,30 @@ fn nothing() -> Value {
     }
 }
 
+// Makes a table of a name that no table has.
+fn create_new(home: &mut Home, name: &Name) -> Result<(), TableFault>
+    requires { IsReady home.old holding }
+    ensures ready { IsReady home.new holding }
+    ensures created { IsLawful (plain_in home.old holding)
+        → plain_in home.old holding (name_key name.now) ≡ None
+        → OnOk result (IsTables
+        (with_table (tables_in home.old holding) name.now (Some empty_table))
+        (plain_in home.new holding)) }
+    ensures refused { IsLawful (plain_in home.old holding)
+        → plain_in home.old holding (name_key name.now) ≡ None
+        → IfErr result (λ fault. IsLeftBy fault (tables_in home.old holding)
+        (with_table (tables_in home.old holding) name.now (Some empty_table))
+        (plain_in home.new holding)) }
+    ensures leaves { IsLawful (plain_in home.old holding)
+        → plain_in home.old holding (name_key name.now) ≡ None
+        → Goes (tables_in home.old holding)
+        (with_table (tables_in home.old holding) name.now (Some empty_table))
+        home.old home.new holding }
+{
+    let table = free_number(home)?;
+    ways::step(home, create_step(name, table, nothing()))
+}
+
 /// Makes a table with no key. It looks at all names, so it costs more the more tables there are.
 ///
 /// Refused `Exists` if a table has this name, and `TooMany` if there are 65,536. Else as the store
@@ -254,11 +279,10 @@ pub fn create(home: &mut Home, name: &Name) -> Result<(), TableFault>
         (with_table (tables_in home.old holding) name.now (Some empty_table))
         home.old home.new holding }
 {
-    if let Some(_) = number_of(home, name)? {
-        return Err(TableFault::Exists);
+    match number_of(home, name)? {
+        Some(_) => Err(TableFault::Exists),
+        None => create_new(home, name),
     }
-    let table = free_number(home)?;
-    ways::step(home, create_step(name, table, nothing()))
 }
 
 // What a row named goes away, if it named anything.
