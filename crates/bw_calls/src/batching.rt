@@ -6,6 +6,7 @@
 
 ghost use Rattle.std.specs.Prelude.{◌≡◌, ◌<◌, ◌≤◌, [], ◌∷◌, true, false, None, Some, length, nat_eq, IfErr, IfOk, IfSome, IsTrue, OnOk};
 ghost use Rattle.std.specs.List.{starts_with};
+ghost use Rattle.bw_rows.specs.Spelling.{stands_key};
 ghost use Rattle.bw_rows.specs.Meaning.{Tables};
 ghost use Rattle.bw_rows.specs.Laws.{IsLawful, IsTables};
 ghost use Rattle.bw_rows.specs.Batches.{said, FitsAside, HasNoAside, IsGathering, IsLeft, IsStanding};
@@ -485,6 +486,7 @@ pub fn batch(home: &mut Home, changes: &[Change]) -> Result<(), TableFault>
     ensures refused { IsLawful (plain_in home.old holding)
         → IfErr result (λ fault. IsBatchLeftBy fault (tables_in home.old holding)
         (with_changes (tables_in home.old holding) changes.now) (plain_in home.new holding)) }
+    ensures quiet { OnOk result (plain_in home.old holding stands_key ≡ None) }
     ensures leaves { IsLawful (plain_in home.old holding)
         → Goes (tables_in home.old holding)
         (with_changes (tables_in home.old holding) changes.now) home.old home.new holding }

@@ -5,7 +5,7 @@
 //! after that, one by one, and up to the last of them its number is *gone*.
 
 ghost use Rattle.std.specs.Prelude.{◌≡◌, ◌⊎◌, ◌∷◌, true, false, Some, None, IfErr, IfOk, OnOk};
-ghost use Rattle.bw_rows.specs.Spelling.{name_key};
+ghost use Rattle.bw_rows.specs.Spelling.{name_key, stands_key};
 ghost use Rattle.bw_rows.specs.Laws.{empty_table, with_table, IsLawful, HasNoRow, IsNoTable, IsOfTable, IsTables};
 ghost use Rattle.bw_home.specs.Maps.{maps_of};
 ghost use Rattle.bw_home.specs.Ready.{IsReady};
@@ -274,6 +274,7 @@ pub fn create(home: &mut Home, name: &Name) -> Result<(), TableFault>
         → IfErr result (λ fault. IsLeftBy fault (tables_in home.old holding)
         (with_table (tables_in home.old holding) name.now (Some empty_table))
         (plain_in home.new holding)) }
+    ensures quiet { OnOk result (plain_in home.old holding stands_key ≡ None) }
     ensures leaves { IsLawful (plain_in home.old holding)
         → Goes (tables_in home.old holding)
         (with_table (tables_in home.old holding) name.now (Some empty_table))
@@ -431,6 +432,7 @@ pub fn drop_table(home: &mut Home, name: &Name) -> Result<(), TableFault>
     ensures refused { IsLawful (plain_in home.old holding)
         → IfErr result (λ fault. IsLeftBy fault (tables_in home.old holding)
         (with_table (tables_in home.old holding) name.now None) (plain_in home.new holding)) }
+    ensures quiet { OnOk result (plain_in home.old holding stands_key ≡ None) }
     ensures leaves { IsLawful (plain_in home.old holding)
         → Goes (tables_in home.old holding)
         (with_table (tables_in home.old holding) name.now None) home.old home.new holding }
