@@ -48,8 +48,8 @@ pub struct Change {
     pub value: Option<Vec<u8>>,
 }
 
-// The first row aside, with its key of the store.
-fn first_aside(home: &mut Home) -> Result<Option<(Key, Value)>, TableFault>
+// A row aside, by a hint, with its key of the store.
+fn first_aside(home: &mut Home, hint: &Key) -> Result<Option<(Key, Value)>, TableFault>
     requires { IsReady home.old holding }
     ensures ready { IsReady home.new holding }
     ensures same { (maps_of home.new holding).put ≡ (maps_of home.old holding).put }
@@ -57,7 +57,7 @@ fn first_aside(home: &mut Home) -> Result<Option<(Key, Value)>, TableFault>
     ensures before { IfErr result (λ fault. waits fault ≡ false) }
     ensures leaves { Reads home.old home.new holding }
 {
-    ways::first(home, ways::key_of(&[ASIDE]))
+    ways::some_of(home, ways::key_of(&[ASIDE]), hint)
 }
 
 // A row aside goes away, of a batch that does not stand.
@@ -84,9 +84,13 @@ fn clear_asides(home: &mut Home) -> Result<(), TableFault>
     ensures leaves { IsLawful (plain_in home.old holding)
         → Stays (tables_in home.old holding) home.old home.new holding }
 {
+    let mut hint = ways::key_of(&[ASIDE]);
     'rows: for _ in 0..u64::MAX {
-        match first_aside(home)? {
-            Some((key, _)) => drop_aside(home, key)?,
+        match first_aside(home, &hint)? {
+            Some((key, _)) => {
+                hint = key.copy();
+                drop_aside(home, key)?;
+            }
             None => return Ok(()),
         }
     }
@@ -320,9 +324,13 @@ fn carry_all(home: &mut Home) -> Result<(), TableFault>
     ensures leaves { (tables : Tables) → IsStanding tables (plain_in home.old holding)
         → Stays tables home.old home.new holding }
 {
+    let mut hint = ways::key_of(&[ASIDE]);
     'rows: for _ in 0..u64::MAX {
-        match first_aside(home)? {
-            Some((key, aside)) => carry(home, &key, aside)?,
+        match first_aside(home, &hint)? {
+            Some((key, aside)) => {
+                carry(home, &key, aside)?;
+                hint = key;
+            }
             None => return end_batch(home),
         }
     }

@@ -55,8 +55,8 @@ fn index_in(key: &[u8]) -> Option<u32> {
     Some(u32::from_be_bytes(bytes))
 }
 
-// The index of the first chunk of a number; `None` where it has none.
-fn first_left(home: &mut Home, number: Number) -> Result<Option<u32>, TableFault>
+// The index of a chunk of a number, by a hint; `None` where it has none.
+fn first_left(home: &mut Home, number: Number, hint: &Key) -> Result<Option<u32>, TableFault>
     requires { IsReady home.old holding }
     ensures ready { IsReady home.new holding }
     ensures same { (maps_of home.new holding).put ≡ (maps_of home.old holding).put }
@@ -65,7 +65,7 @@ fn first_left(home: &mut Home, number: Number) -> Result<Option<u32>, TableFault
     ensures before { IfErr result (λ fault. waits fault ≡ false) }
     ensures leaves { Reads home.old home.new holding }
 {
-    match ways::first(home, front_of(number))? {
+    match ways::some_of(home, front_of(number), hint)? {
         None => Ok(None),
         Some((key, _)) => match index_in(key.as_slice()) {
             Some(i) => Ok(Some(i)),
@@ -119,9 +119,13 @@ fn collect_doomed(home: &mut Home, number: Number) -> Result<(), TableFault>
         → is_doomed (plain_in home.old holding) number.bytes ≡ true
         → Stays (tables_in home.old holding) home.old home.new holding }
 {
+    let mut hint = front_of(number);
     'chunks: for _ in 0..=MOST {
-        match first_left(home, number)? {
-            Some(i) => drop_chunk(home, number, i)?,
+        match first_left(home, number, &hint)? {
+            Some(i) => {
+                drop_chunk(home, number, i)?;
+                hint = chunk_key(number, i);
+            }
             None => return free(home, number),
         }
     }

@@ -155,8 +155,8 @@ pub(crate) fn front_of(table: TableNumber) -> Key
     ways::key_of(&bytes)
 }
 
-// The first row of a table's number.
-fn first_row(home: &mut Home, table: TableNumber) -> Result<Option<Key>, TableFault>
+// A row of a table's number, by a hint.
+fn first_row(home: &mut Home, table: TableNumber, hint: &Key) -> Result<Option<Key>, TableFault>
     requires { IsReady home.old holding }
     ensures ready { IsReady home.new holding }
     ensures same { (maps_of home.new holding).put ≡ (maps_of home.old holding).put }
@@ -165,7 +165,7 @@ fn first_row(home: &mut Home, table: TableNumber) -> Result<Option<Key>, TableFa
     ensures before { IfErr result (λ fault. waits fault ≡ false) }
     ensures leaves { Reads home.old home.new holding }
 {
-    match ways::first(home, front_of(table))? {
+    match ways::some_of(home, front_of(table), hint)? {
         Some((key, _)) => Ok(Some(key)),
         None => Ok(None),
     }
@@ -185,7 +185,7 @@ fn is_free(home: &mut Home, table: TableNumber) -> Result<bool, TableFault>
     if has_table(home, table)? {
         return Ok(false);
     }
-    match first_row(home, table)? {
+    match first_row(home, table, &front_of(table))? {
         Some(_) => Ok(false),
         None => Ok(true),
     }
@@ -392,9 +392,13 @@ fn clear_rows(home: &mut Home, table: TableNumber) -> Result<(), TableFault>
         → IsNoTable (plain_in home.old holding) table.bytes
         → Stays (tables_in home.old holding) home.old home.new holding }
 {
+    let mut hint = front_of(table);
     'rows: for _ in 0..u64::MAX {
-        match first_row(home, table)? {
-            Some(key) => drop_key(home, table, &key)?,
+        match first_row(home, table, &hint)? {
+            Some(key) => {
+                drop_key(home, table, &key)?;
+                hint = key;
+            }
             None => return forget(home, table),
         }
     }
