@@ -23,7 +23,7 @@ use Rattle.bw_rows.proofs.GatherLaws.{fresh_aside_law, nothing_law, number_law}
 use Rattle.bw_rows.proofs.ChunkLaws.{all_joined}
 use Rattle.bw_tables.specs.Writing.{chunk_record, chunk_records, taking, IsWriting}
 use Rattle.bw_tables.specs.Calls.{CarriesOut, EndsBatch, MakesBatch, SetsAside}
-use Rattle.bw_calls.specs.Batches.{bytes_in, with_change, with_changes, Gathers}
+use Rattle.bw_calls.specs.Batches.{bytes_in, with_change, with_changes, Gathers, LeftBy}
 use Rattle.bw_calls.specs.Changes.{HasSame, HasSameMarks, IsFirstOf}
 use Rattle.bw_calls.specs.declared.batching.Change.{Change}
 use Rattle.bw_calls.proofs.PlainLaws.{plain_of, itself, kept_by, moved, same_number, writing_as, wrote}
@@ -109,6 +109,10 @@ fits_none p = fits_short p no_row refl
 
 fits_whole : (p : Plain) (value : Bytes) → FitsAside p (whole_row value)
 fits_whole p value = fits_short p (whole_row value) refl
+
+pub gathers_as : {A E : Type 0} (p new : Plain) (t key : Bytes) (value other : Option Bytes) (r : Result A E) → value ≡ other → OnOk r (Gathers p t key value new)
+    → OnOk r (Gathers p t key other new)
+gathers_as p new t key value other r same h = subst (λ (v : Option Bytes). OnOk r (Gathers p t key v new)) same h
 
 pub gathers_none : {A E : Type 0} (p new : Plain) (t key row : Bytes) (r : Result A E) → row ≡ no_row
     → OnOk r (FitsAside p row → Gathers p t key (said p (Some row) None) new) → OnOk r (Gathers p t key None new)
@@ -258,3 +262,20 @@ mark_told m m1 key answer its same is told at =
 
 pub stands_by : (tables next : Tables) (p : Plain) (group : List Record) → MakesBatch group → IsGathering tables next p → IsStanding next (after p group)
 stands_by tables next p group makes g = subst (λ (t : Tables). IsStanding t (after p group)) g.makes (makes tables p g.stays g.asides)
+
+pub stands_now : (tables : Tables) (p new : Plain) → IsStanding tables p → new ≡ p → IsStanding tables new
+stands_now tables p new h e = subst (IsStanding tables) (sym e) h
+
+-- what was aside went away, and all changes were set aside then
+pub gathered_all : (was : Tables) (p new : Plain) (changes : List Change) → IsTables was p → HasNoAside p
+    → ((tables next : Tables) → IsGathering tables next p → IsGathering tables (with_changes next changes) new) → IsGathering was (with_changes was changes) new
+gathered_all was p new changes h none gathers = gathers was was (nothing_law was p h none)
+
+-- ---- a batch that was refused
+
+pub batch_before : (was now : Tables) (p : Plain) (b : Bool) → b ≡ false → IsTables was p → LeftBy b was now p
+batch_before was now p b before h = subst (λ (x : Bool). LeftBy x was now p) (sym before) h
+
+pub batch_refused : (was now : Tables) (p q new : Plain) (b : Bool) → IsTables was p → IsLeft now q → new ≡ cond b q p → LeftBy b was now new
+batch_refused was now p q new true h g e = subst (IsLeft now) (sym e) g
+batch_refused was now p q new false h g e = subst (IsTables was) (sym e) h

@@ -14,12 +14,12 @@ returns-in_err-has_table-clause-leaves g c = λ lawful ts among stops. c.has_tab
 pub returns-then-branch-clause-stays : goal.returns-then-branch-clause-stays
 returns-then-branch-clause-stays g c = λ lawful.
     let h = moved _ _ _ (itself _ lawful) c.has_table.ensures.same in
-    behind _ _ _ h (c.forget.ensures.stays h.lawful (inr (table_moved _ _ c.args.table.bytes c.has_table.ensures.same (c.in_ok-has_table.ensures.has c.then-branch.true))))
+    behind _ _ _ h (c.forget.ensures.stays h.lawful (inr (table_moved _ _ c.args.table.bytes c.has_table.ensures.same (c.in_ok-has_table.ensures.has c.if-branch.true))))
 
 pub returns-then-branch-clause-leaves : goal.returns-then-branch-clause-leaves
 returns-then-branch-clause-leaves g c = λ lawful ts among stops.
     let h = moved _ _ _ (itself _ lawful) c.has_table.ensures.same in
-    c.forget.ensures.leaves h.lawful (inr (table_moved _ _ c.args.table.bytes c.has_table.ensures.same (c.in_ok-has_table.ensures.has c.then-branch.true))) ts (in_moved ts _ _ c.has_table.ensures.same among) (c.has_table.ensures.leaves ts stops)
+    c.forget.ensures.leaves h.lawful (inr (table_moved _ _ c.args.table.bytes c.has_table.ensures.same (c.in_ok-has_table.ensures.has c.if-branch.true))) ts (in_moved ts _ _ c.has_table.ensures.same among) (c.has_table.ensures.leaves ts stops)
 
 pub returns-clause-stays : goal.returns-clause-stays
 returns-clause-stays g c = λ lawful.

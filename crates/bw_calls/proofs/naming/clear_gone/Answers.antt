@@ -12,7 +12,7 @@ tables-preserved g c = (
   λ lawful ts among stops.
       let h = moved _ _ _ (c.tables.invariant.1 lawful) c.first_gone.ensures.same in
       c.clear.ensures.leaves h.lawful ts (in_its ts _ _ h among) (c.first_gone.ensures.leaves ts (c.tables.invariant.2 lawful ts among stops)),
-  asides_then _ _ _ (asides_then _ _ _ c.tables.invariant.3 (asides_moved _ _ c.first_gone.ensures.same)) c.in_ok-clear.ensures.asides,
+  asides_then _ _ _ (asides_then _ _ _ c.tables.invariant.3 (asides_moved _ _ c.first_gone.ensures.same)) c.in_ok-clear-in-Some.ensures.asides,
 )
 
 pub returns-in_err-table-clause-stays : goal.returns-in_err-table-clause-stays
