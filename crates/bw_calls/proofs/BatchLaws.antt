@@ -1,32 +1,31 @@
 -- What each call of a batch makes of a plain map.
 
-use Rattle.std.proofs.Common.{ℕ, zero, suc, ◌≡◌, ◌+◌, ◌<◌, ◌⊎◌, inl, inr, Bool, true, false, cond, Option, Some, None, is_some, List, [], ◌∷◌, ◌++◌, length, take, get_or, add-one, refl, sym, ap, subst, ◌∙◌, nat_eq, ◌&&◌, arith}
-use Rattle.std.specs.Prelude.{IsTrue, Result, Ok, Err, OnOk, OnErr, IfOk, IfErr}
-use Rattle.std.specs.List.{fold, starts_with}
-use Rattle.std.specs.Option.{option_map, option_and_then}
+use Rattle.std.proofs.Common.{ℕ, ◌≡◌, ◌+◌, ◌<◌, ◌⊎◌, inl, inr, Bool, true, false, cond, Option, Some, None, is_some, List, [], ◌∷◌, ◌++◌, length, take, get_or, add-one, refl, sym, ap, subst, ◌∙◌, nat_eq, ◌&&◌, arith}
+use Rattle.std.specs.Prelude.{IsTrue, Result, Ok, Err, OnOk, IfErr}
+use Rattle.std.specs.List.{starts_with}
+use Rattle.std.specs.Option.{option_map}
 use Rattle.std.proofs.lemmas.Bool.{true≢false, eqb-true}
 use Rattle.std.proofs.Math.Seq.{take-suc}
-use Rattle.std.proofs.lemmas.List.Sums.{fold_push, fold-append}
+use Rattle.std.proofs.lemmas.List.Sums.{fold_push}
 use Rattle.bw_record.specs.declared.record.Record.{Record}
 use Rattle.bw_record.specs.declared.record.Record.TheVariants.{Put, Del}
 use Rattle.bw_leaf.specs.Changed.{Map}
-use Rattle.bw_rows.specs.Spelling.{Bytes, name_key, doomed_key, stands_key, aside_key, aside_of, row_key, row_place, chunk_key, chunk_place, chunk_of, head_of, head_row, no_row, whole_row, chunks_in}
+use Rattle.bw_rows.specs.Spelling.{Bytes, name_key, stands_key, aside_key, aside_of, row_place, chunk_of, head_of, head_row, no_row, whole_row, chunks_in}
 use Rattle.bw_rows.specs.Meaning.{Plain, Tables, chunks_of, joined, value_by, tables_of, table_in, with_value}
-use Rattle.bw_rows.specs.Law.{head_at, is_doomed, IsWhole}
-use Rattle.bw_rows.specs.Steps.{changed, after, head_in}
-use Rattle.bw_rows.specs.Laws.{IsLawful, IsTables, HasNumber}
-use Rattle.bw_rows.specs.Batches.{said, batched, FitsAside, HasNoAside, HasOthers, IsGathering, IsLeft, IsNotAside, IsStanding}
+use Rattle.bw_rows.specs.Law.{head_at, is_doomed}
+use Rattle.bw_rows.specs.Steps.{after, head_in}
+use Rattle.bw_rows.specs.Laws.{IsLawful, IsTables}
+use Rattle.bw_rows.specs.Batches.{said, FitsAside, HasNoAside, HasOthers, IsGathering, IsLeft, IsNotAside, IsStanding}
 use Rattle.bw_rows.proofs.Values.{same_number as same_head_number}
-use Rattle.bw_rows.proofs.OneKey.{same_false, chunks_apart}
 use Rattle.bw_rows.proofs.BatchLaws.{aside_law}
 use Rattle.bw_rows.proofs.GatherLaws.{fresh_aside_law, nothing_law, number_law}
 use Rattle.bw_rows.proofs.ChunkLaws.{all_joined}
-use Rattle.bw_tables.specs.Writing.{chunk_record, chunk_records, taking, IsWriting}
+use Rattle.bw_tables.specs.Writing.{IsWriting}
 use Rattle.bw_tables.specs.Calls.{CarriesOut, EndsBatch, MakesBatch, SetsAside}
 use Rattle.bw_calls.specs.Batches.{bytes_in, with_change, with_changes, Gathers, LeftBy}
 use Rattle.bw_calls.specs.Changes.{HasSame, HasSameMarks, IsFirstOf}
 use Rattle.bw_calls.specs.declared.batching.Change.{Change}
-use Rattle.bw_calls.proofs.PlainLaws.{plain_of, itself, kept_by, moved, same_number, writing_as, wrote}
+use Rattle.bw_calls.proofs.PlainLaws.{plain_of, itself, kept_by, same_number, writing_as, wrote}
 use Rattle.bw_calls.proofs.LeaveLaws.{number_moved}
 use Rattle.bw_calls.proofs.OtherLaws.{on_then}
 

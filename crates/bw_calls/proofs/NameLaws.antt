@@ -15,7 +15,7 @@ use Rattle.bw_rows.specs.Meaning.{Plain, Tables, tables_of, table_in}
 use Rattle.bw_rows.specs.declared.names.TableNumber.{TableNumber}
 use Rattle.bw_rows.specs.Steps.{after}
 use Rattle.bw_rows.specs.Law.{head_at}
-use Rattle.bw_rows.specs.Laws.{IsLawful, IsTables, IsNoTable, empty_table, with_table, HasNoRow, HasNumber, IsOfTable}
+use Rattle.bw_rows.specs.Laws.{IsLawful, IsTables, IsNoTable, empty_table, with_table, HasNoRow, IsOfTable}
 use Rattle.bw_rows.proofs.NameLaws.{gone_law}
 use Rattle.bw_tables.specs.Calls.{DropsRow, DropsTable, KeepsMarks, MakesTable}
 use Rattle.bw_calls.specs.Changes.{kind_in, HasNoneGone, HasSameAsides, HasSameMarks}

@@ -1,15 +1,15 @@
 -- A small batch goes in as one group.
 
-use Rattle.std.proofs.Common.{ℕ, ◌≡◌, ◌+◌, ◌<◌, ◌≤◌, inl, Bool, true, false, cond, Option, Some, None, List, [], ◌∷◌, ◌++◌, length, take, get_or, refl, sym, ap, subst, ◌∙◌}
+use Rattle.std.proofs.Common.{ℕ, ◌≡◌, ◌+◌, ◌<◌, ◌≤◌, inl, Bool, true, cond, Option, Some, None, List, [], ◌∷◌, ◌++◌, length, take, get_or, refl, sym, ap, subst, ◌∙◌}
 use Rattle.std.specs.Prelude.{Result, Ok, Err, OnOk, IfErr, IfSome}
 use Rattle.std.specs.Result.{is_ok}
-use Rattle.std.specs.Option.{option_map, option_and_then}
+use Rattle.std.specs.Option.{option_map}
 use Rattle.std.proofs.lemmas.List.{take_all}
 use Rattle.std.proofs.lemmas.List.Sums.{fold_push}
 use Rattle.bw_record.specs.declared.record.Record.{Record}
 use Rattle.bw_record.specs.declared.record.Record.TheVariants.{Put}
 use Rattle.bw_leaf.specs.Changed.{Map}
-use Rattle.bw_rows.specs.Spelling.{Bytes, same, name_key, row_key, row_place, head_of, whole_row}
+use Rattle.bw_rows.specs.Spelling.{Bytes, same, name_key, row_key, row_place, whole_row}
 use Rattle.bw_rows.specs.Meaning.{Plain, Tables, tables_of, table_in, value_of, with_value}
 use Rattle.bw_rows.specs.Law.{head_at}
 use Rattle.bw_rows.specs.Laws.{IsLawful, IsTables, HasNumber}

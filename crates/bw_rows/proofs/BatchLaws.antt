@@ -1,19 +1,19 @@
 -- A batch is one step.
 
-use Rattle.std.proofs.Common.{ℕ, ◌≡◌, ◌<◌, Bool, true, false, cond, Option, Some, None, is_some, [], take, refl, sym, ap, ◌∙◌}
+use Rattle.std.proofs.Common.{ℕ, ◌≡◌, true, false, cond, Option, Some, None, is_some, [], take, refl, sym, ap, ◌∙◌}
 use Rattle.std.proofs.lemmas.Bool.{true≢false}
-use Rattle.std.specs.Option.{option_map, option_and_then}
-use Rattle.bw_rows.specs.Spelling.{Bytes, same, name_key, gone_key, stands_key, aside_key, row_key, row_place, chunk_key, chunk_place, head_of, no_row, chunks_in}
-use Rattle.bw_rows.specs.Meaning.{Plain, Table, Tables, chunks_of, over, counted, value_of, found, tables_of, table_in}
-use Rattle.bw_rows.specs.Law.{head_at, is_doomed, HasValues, HasNames, Steps, IsWhole}
-use Rattle.bw_rows.specs.Steps.{with, after, head_in, aside_group, carry_of}
-use Rattle.bw_rows.specs.Laws.{HasHomes, IsKnown, IsLawful, IsTables}
-use Rattle.bw_rows.specs.Batches.{head_aside, HasAsides, IsStanding, said, batched, AsideIsSilent, MarkIsTheStep, CarryIsSilent, EndIsSilent}
-use Rattle.bw_rows.proofs.OneKey.{split, same_self, same_true, same_false}
+use Rattle.std.specs.Option.{option_map}
+use Rattle.bw_rows.specs.Spelling.{Bytes, same, name_key, gone_key, stands_key, aside_key, row_key, row_place, chunk_place, head_of, no_row}
+use Rattle.bw_rows.specs.Meaning.{Plain, Table, Tables, over, counted, value_of, found, table_in}
+use Rattle.bw_rows.specs.Law.{head_at, is_doomed, Steps, IsWhole}
+use Rattle.bw_rows.specs.Steps.{with, after, head_in, carry_of}
+use Rattle.bw_rows.specs.Laws.{HasHomes, IsKnown}
+use Rattle.bw_rows.specs.Batches.{head_aside, HasAsides, IsStanding, said, AsideIsSilent, MarkIsTheStep, CarryIsSilent, EndIsSilent}
+use Rattle.bw_rows.proofs.OneKey.{split, same_self, same_true}
 use Rattle.bw_rows.proofs.Values.{same_optional, step_is_lawful}
 use Rattle.bw_rows.proofs.Records.{still_known, unread_homes, unread_is_lawful, unread_names}
 use Rattle.bw_rows.proofs.Groups.{aside_steps, aside_others, aside_asides}
-use Rattle.bw_rows.proofs.TableLaws.{quiet_row, quiet_found, same_tables}
+use Rattle.bw_rows.proofs.TableLaws.{quiet_found, same_tables}
 
 pub aside_law : AsideIsSilent
 aside_law tables p k row h =

@@ -1,14 +1,13 @@
 -- A batch is written, row by row.
 
-use Rattle.std.proofs.Common.{ℕ, zero, ◌≡◌, ◌<◌, inl, Bool, true, false, cond, Option, Some, None, is_some, length, take, refl, sym, subst, ap, ◌∙◌}
+use Rattle.std.proofs.Common.{ℕ, ◌≡◌, inl, Bool, true, false, cond, Option, Some, None, is_some, take, refl, sym, subst, ap, ◌∙◌}
 use Rattle.std.proofs.lemmas.Bool.{true≢false}
-use Rattle.std.specs.Option.{option_map, option_and_then}
-use Rattle.bw_rows.specs.Spelling.{Bytes, same, name_key, stands_key, aside_key, row_key, row_place, chunk_key, chunk_place, head_of, no_row, chunks_in}
-use Rattle.bw_rows.specs.Meaning.{Plain, Table, Tables, chunks_of, joined, value_by, value_of, found, tables_of, table_in, with_value}
-use Rattle.bw_rows.specs.Law.{is_doomed}
+use Rattle.std.specs.Option.{option_map}
+use Rattle.bw_rows.specs.Spelling.{Bytes, same, name_key, aside_key, row_key, row_place, head_of, no_row, chunks_in}
+use Rattle.bw_rows.specs.Meaning.{Plain, Table, Tables, chunks_of, joined, value_by, found, tables_of, table_in, with_value}
 use Rattle.bw_rows.specs.Steps.{with, head_in}
 use Rattle.bw_rows.specs.Laws.{IsTables, HasNumber}
-use Rattle.bw_rows.specs.Batches.{head_aside, said, batched, FitsAside, HasAsides, HasNoAside, HasOthers, IsGathering, IsNotAside, NothingIsGathered, FreshIsNotAside, ANumberIsSilent, AnAsideIsGathered}
+use Rattle.bw_rows.specs.Batches.{head_aside, said, batched, FitsAside, HasAsides, HasOthers, IsGathering, IsNotAside, NothingIsGathered, FreshIsNotAside, ANumberIsSilent, AnAsideIsGathered}
 use Rattle.bw_rows.proofs.OneKey.{split, same_true}
 use Rattle.bw_rows.proofs.Values.{same_value, same_optional}
 use Rattle.bw_rows.proofs.Records.{still_known, wide_option}

@@ -1,13 +1,12 @@
 -- The group of a step does what a step does.
 
-use Rattle.std.proofs.Common.{ℕ, ◌≡◌, Bool, true, false, cond, Option, Some, None, is_some, List, [], ◌∷◌, ◌++◌, refl, sym, ap, subst, ◌∙◌}
+use Rattle.std.proofs.Common.{ℕ, ◌≡◌, Bool, true, false, cond, Option, Some, None, is_some, [], refl, sym, ap, subst, ◌∙◌}
 use Rattle.std.proofs.lemmas.Bool.{true≢false}
-use Rattle.std.specs.Option.{option_map, option_and_then}
-use Rattle.bw_rows.specs.Spelling.{Bytes, same, name_key, gone_key, stands_key, aside_key, row_key, chunk_key, doomed_key, head_of}
+use Rattle.bw_rows.specs.Spelling.{Bytes, same, name_key, gone_key, stands_key, aside_key, row_key, chunk_key, doomed_key}
 use Rattle.bw_rows.specs.Meaning.{Plain}
 use Rattle.bw_rows.specs.Law.{head_at, is_doomed, HasValues, Steps, IsWhole}
 use Rattle.bw_rows.specs.Steps.{with, after, head_in, row_group, aside_group, step_of, carry_of}
-use Rattle.bw_rows.proofs.OneKey.{split, same_self, same_true, same_false}
+use Rattle.bw_rows.proofs.OneKey.{same_self, same_false}
 use Rattle.bw_rows.proofs.Values.{same_number}
 
 abbrev Head : Type 0

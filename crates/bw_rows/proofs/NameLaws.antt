@@ -1,16 +1,16 @@
 -- Tables come and go in one step.
 
-use Rattle.std.proofs.Common.{ℕ, ◌≡◌, ◌<◌, ◌⊎◌, inl, inr, Bool, true, false, cond, Option, Some, None, is_some, List, [], ◌∷◌, ◌++◌, length, take, drop, refl, sym, ap, ◌∙◌}
+use Rattle.std.proofs.Common.{ℕ, ◌≡◌, ◌⊎◌, inl, inr, Bool, true, false, cond, Option, Some, None, is_some, [], ◌∷◌, ◌++◌, length, take, drop, refl, sym, ap, ◌∙◌}
 use Rattle.std.proofs.lemmas.Bool.{true≢false}
 use Rattle.std.proofs.lemmas.List.{take-append-drop}
-use Rattle.std.specs.Option.{option_map, option_and_then}
+use Rattle.std.specs.Option.{option_map}
 use Rattle.bw_record.specs.declared.record.Record.TheVariants.{Put, Del}
-use Rattle.bw_rows.specs.Spelling.{Bytes, same, mark_key, name_key, gone_key, stands_key, row_key, row_place, head_of, chunks_in}
-use Rattle.bw_rows.specs.Meaning.{Plain, Table, Tables, chunks_of, value_of, found, tables_of, table_in}
-use Rattle.bw_rows.specs.Law.{head_at, is_doomed, HasValues, HasNames, Steps, IsWhole}
-use Rattle.bw_rows.specs.Steps.{with, after, head_in, step_of}
+use Rattle.bw_rows.specs.Spelling.{Bytes, same, mark_key, name_key, gone_key, stands_key, row_key, row_place}
+use Rattle.bw_rows.specs.Meaning.{Plain, Table, Tables, value_of, found, tables_of, table_in}
+use Rattle.bw_rows.specs.Law.{head_at, HasNames, Steps, IsWhole}
+use Rattle.bw_rows.specs.Steps.{with, after, step_of}
 use Rattle.bw_rows.specs.Laws.{IsTables, HasHomes, HasNoRow, HasNumber, IsKnown, IsNoTable, IsOfTable, NothingIsLeft, with_table, empty_table, CreateIsTheStep, DropIsTheStep, GoneRowIsLawful, GoneIsLawful}
-use Rattle.bw_rows.proofs.OneKey.{split, same_self, same_true, same_false, rows_apart}
+use Rattle.bw_rows.proofs.OneKey.{split, same_self, same_true, rows_apart}
 use Rattle.bw_rows.proofs.Values.{same_optional, step_is_lawful, step_is_found}
 use Rattle.bw_rows.proofs.Records.{still_known, unread_is_lawful, unread_names}
 use Rattle.bw_rows.proofs.Groups.{group_steps, group_others}
@@ -108,8 +108,8 @@ module _ (tables : Tables) (p : Plain) (name t : Bytes) (h : IsTables tables p) 
       (λ one. inr (ap (λ b. is_some (cond b (Some []) (p (gone_key u)))) (its_own u (sym (ap (λ (x : Bytes). option_map table_in (p (name_key x))) (same_true known.0 name one)) ∙ known.1))))
       (λ two. inl (known.0, ap (λ b. option_map table_in (cond b None (p (name_key known.0)))) two ∙ known.1))
     where
-    its_own : (v : Bytes) → HasNumber p name v → same v t ≡ true
-    its_own v e = ap (λ (x : Bytes). same x t) (same_row v t (sym e ∙ its)) ∙ same_self t
+      its_own : (v : Bytes) → HasNumber p name v → same v t ≡ true
+      its_own v e = ap (λ (x : Bytes). same x t) (same_row v t (sym e ∙ its)) ∙ same_self t
   known_less u (inr gone) = inr (split u t
       (λ one. ap (λ b. is_some (cond b (Some []) (p (gone_key u)))) one)
       (λ two. ap (λ b. is_some (cond b (Some []) (p (gone_key u)))) two ∙ gone))

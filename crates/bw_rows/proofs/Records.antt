@@ -1,16 +1,16 @@
 -- What one record leaves lawful, and the records of a step.
 
-use Rattle.std.proofs.Common.{ℕ, ◌≡◌, ◌<◌, ◌≤◌, ◌⊎◌, inl, inr, Bool, true, false, cond, Option, Some, None, is_some, List, [], ◌∷◌, ◌++◌, ◌&&◌, nat_eq, length, take, drop, refl, sym, ap, ◌∙◌, arith}
+use Rattle.std.proofs.Common.{ℕ, ◌≡◌, ◌≤◌, inl, inr, Bool, true, false, cond, Option, Some, None, is_some, [], ◌∷◌, ◌&&◌, nat_eq, length, take, drop, refl, sym, ap, ◌∙◌, arith}
 use Rattle.std.proofs.lemmas.Bool.{true≢false, eqb-true}
 use Rattle.std.proofs.lemmas.List.{length-take-le}
 use Rattle.std.specs.Option.{option_map, option_and_then}
-use Rattle.bw_rows.specs.Spelling.{Bytes, same, name_key, row_key, chunk_key, chunk_place, doomed_key, gone_key, aside_key, head_of, number_in, chunks_in}
+use Rattle.bw_rows.specs.Spelling.{Bytes, same, name_key, row_key, chunk_key, chunk_place, doomed_key, gone_key, head_of, number_in, chunks_in}
 use Rattle.bw_rows.specs.Meaning.{Plain, chunks_of, joined, value_by, value_of, table_in}
-use Rattle.bw_rows.specs.Law.{head_at, is_doomed, HasValues, HasNames, Steps, IsWhole}
-use Rattle.bw_rows.specs.Steps.{with, after, head_in, step_of, carry_of}
+use Rattle.bw_rows.specs.Law.{head_at, is_doomed, HasValues, HasNames}
+use Rattle.bw_rows.specs.Steps.{with, head_in}
 use Rattle.bw_rows.specs.Laws.{IsUnnamed, HasHomes, HasNoChunk, HasNumber, IsKnown}
-use Rattle.bw_rows.proofs.OneKey.{split, same_self, same_true, same_false, chunks_apart, number_of_place}
-use Rattle.bw_rows.proofs.Values.{same_number, same_value}
+use Rattle.bw_rows.proofs.OneKey.{split, same_true, chunks_apart, number_of_place}
+use Rattle.bw_rows.proofs.Values.{same_number}
 
 -- ---- the width of a head's number
 

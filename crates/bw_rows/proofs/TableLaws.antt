@@ -1,14 +1,14 @@
 -- What each group does to the tables that a map stands for.
 
-use Rattle.std.proofs.Common.{ℕ, ◌≡◌, ◌<◌, inl, Bool, true, false, cond, Option, Some, None, is_some, List, [], ◌∷◌, ◌++◌, length, take, refl, sym, ap, subst, ◌∙◌}
+use Rattle.std.proofs.Common.{ℕ, ◌≡◌, ◌<◌, inl, Bool, true, false, cond, Option, Some, None, is_some, [], length, take, refl, sym, ap, subst, ◌∙◌}
 use Rattle.std.proofs.lemmas.Bool.{true≢false}
-use Rattle.std.specs.Option.{option_map, option_and_then}
-use Rattle.bw_rows.specs.Spelling.{Bytes, same, name_key, stands_key, aside_key, row_key, row_place, chunk_key, chunk_place, doomed_key, free_key, gone_key, head_of, chunks_in}
+use Rattle.std.specs.Option.{option_map}
+use Rattle.bw_rows.specs.Spelling.{Bytes, same, name_key, stands_key, aside_key, row_key, row_place, chunk_key, chunk_place, doomed_key, free_key, gone_key, chunks_in}
 use Rattle.bw_rows.specs.Meaning.{Plain, Table, Tables, chunks_of, joined, over, counted, value_by, value_of, found, tables_of, table_in, with_value}
-use Rattle.bw_rows.specs.Law.{head_at, is_doomed, HasValues, HasNames, Steps, IsWhole}
-use Rattle.bw_rows.specs.Steps.{with, after, head_in, row_group, step_of}
-use Rattle.bw_rows.specs.Laws.{IsLawful, IsTables, IsUnnamed, HasNoChunk, HasChunks, HasHomes, HasNumber, DoomIsLawful, ChunkIsLawful, FreeIsLawful, EndIsLawful, ShortIsTheStep, HeadIsTheStep, FreshIsUnnamed}
-use Rattle.bw_rows.proofs.OneKey.{split, same_self, same_true, same_false, same_behind, rows_apart}
+use Rattle.bw_rows.specs.Law.{head_at, is_doomed, HasNames, Steps, IsWhole}
+use Rattle.bw_rows.specs.Steps.{with, after, head_in, step_of}
+use Rattle.bw_rows.specs.Laws.{IsTables, HasHomes, HasNumber, DoomIsLawful, ChunkIsLawful, FreeIsLawful, EndIsLawful, ShortIsTheStep, HeadIsTheStep, FreshIsUnnamed}
+use Rattle.bw_rows.proofs.OneKey.{split, same_self, same_true, same_behind, rows_apart}
 use Rattle.bw_rows.proofs.Values.{same_number, same_optional, step_is_lawful, step_is_found}
 use Rattle.bw_rows.proofs.HeadLaws.{front_of}
 use Rattle.bw_rows.proofs.Records.{same_number_at, still_known, unread_homes, unread_is_lawful, unread_names, chunk_is_lawful, chunk_is_found, doom_is_lawful, end_is_lawful}

@@ -4,11 +4,11 @@ use Rattle.std.proofs.Common.{ℕ, ◌≡◌, ◌+◌, ◌-◌, ◌<◌, ◌≤�
 use Rattle.std.proofs.lemmas.List.Sums.{fold-append}
 use Rattle.bw_record.specs.declared.record.Record.{Record}
 use Rattle.bw_record.specs.declared.record.Record.TheVariants.{Put, Del}
-use Rattle.bw_rows.specs.Spelling.{Bytes, aside_key, row_key, row_place, name_key, mark_key, gone_key, doomed_key, free_key, stands_key, head_of, head_row, whole_row, no_row, chunks_in}
-use Rattle.bw_rows.specs.Meaning.{Plain, Tables, over, with_value}
+use Rattle.bw_rows.specs.Spelling.{Bytes, aside_key, row_key, row_place, name_key, mark_key, gone_key, doomed_key, free_key, stands_key, head_of, head_row, whole_row, no_row}
+use Rattle.bw_rows.specs.Meaning.{Plain, over, with_value}
 use Rattle.bw_rows.specs.Law.{head_at}
 use Rattle.bw_rows.specs.Steps.{with, changed, after, head_in, row_group, aside_group, step_of, carry_of}
-use Rattle.bw_rows.specs.Laws.{IsTables, IsUnnamed, HasNumber, with_table, empty_table}
+use Rattle.bw_rows.specs.Laws.{IsTables, with_table, empty_table}
 use Rattle.bw_rows.specs.Batches.{said, batched, IsGathering, IsStanding}
 use Rattle.bw_rows.proofs.TableLaws as laws
 use Rattle.bw_rows.proofs.NameLaws.{create_law, drop_law, gone_row_law}

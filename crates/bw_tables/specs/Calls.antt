@@ -1,9 +1,9 @@
 -- What each group of a call makes of the tables.
 
-use Rattle.std.specs.Prelude.{◌≡◌, ◌<◌, ◌+◌, ◌^◌, ℕ, true, List, [], length, take, Option, Some, None}
+use Rattle.std.specs.Prelude.{◌≡◌, ℕ, List, length, Option, Some, None}
 use Rattle.bw_record.specs.declared.record.Record.{Record}
 use Rattle.bw_rows.specs.Spelling.{Bytes, name_key, gone_key, row_place, aside_key, chunks_in}
-use Rattle.bw_rows.specs.Meaning.{Plain, Tables, table_in, with_value}
+use Rattle.bw_rows.specs.Meaning.{Plain, Tables, with_value}
 use Rattle.bw_rows.specs.Law.{head_at}
 use Rattle.bw_rows.specs.Steps.{after}
 use Rattle.bw_rows.specs.Laws.{IsTables, IsUnnamed, IsNoTable, HasNoRow, HasNoChunk, HasNumber, with_table, empty_table}

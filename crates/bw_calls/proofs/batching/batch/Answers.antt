@@ -1,8 +1,8 @@
-use Rattle.std.proofs.Common.{◌≡◌, false, inl, refl, rules}
+use Rattle.std.proofs.Common.{◌≡◌, false, inl, rules}
 use Rattle.std.specs.Prelude.{IfErr}
 use Rattle.bw_home.specs.Maps.{maps_of}
 use Rattle.bw_calls.specs.Standing.{waits}
-use Rattle.bw_calls.proofs.PlainLaws.{plain_of, itself, moved, lawful_moved, err_map}
+use Rattle.bw_calls.proofs.PlainLaws.{itself, moved, lawful_moved, err_map}
 use Rattle.bw_calls.proofs.LeaveLaws.{in_moved}
 use Rattle.bw_calls.proofs.BatchLaws.{batch_before}
 use Rattle.bw_calls.proofs.SmallLaws.{group_moved, group_made, group_refused, made_moved, refused_moved, changes_moved}

@@ -1,7 +1,7 @@
-use Rattle.std.proofs.Common.{◌≡◌, false, inl, inr, refl, rules}
+use Rattle.std.proofs.Common.{◌≡◌, false, inr, rules}
 use Rattle.std.specs.Prelude.{IfErr}
-use Rattle.bw_calls.specs.Standing.{plain_in, waits}
-use Rattle.bw_calls.proofs.PlainLaws.{itself, behind, err_map}
+use Rattle.bw_calls.specs.Standing.{waits}
+use Rattle.bw_calls.proofs.PlainLaws.{behind, err_map}
 use Rattle.bw_calls.proofs.LeaveLaws.{in_its}
 use Rattle.bw_calls.proofs.BatchLaws.{batch_before, batch_refused, gathered_all, stands_by, stands_now}
 use Rattle.bw_calls.proofs.batching.batch_by_rows.Goals as goal

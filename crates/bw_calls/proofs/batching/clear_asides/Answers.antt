@@ -2,7 +2,7 @@ use Rattle.std.proofs.Common.{[], ◌∷◌}
 use Rattle.bw_calls.specs.Standing.{plain_in}
 use Rattle.bw_calls.proofs.PlainLaws.{moved, behind}
 use Rattle.bw_calls.proofs.LeaveLaws.{in_its}
-use Rattle.bw_calls.proofs.BatchLaws.{first_pair, none_aside, none_aside_moved}
+use Rattle.bw_calls.proofs.BatchLaws.{first_pair, none_aside_moved}
 use Rattle.bw_calls.proofs.batching.clear_asides.Goals as goal
 
 pub rows-preserved : goal.rows-preserved

@@ -1,5 +1,5 @@
-use Rattle.std.proofs.Common.{◌≡◌, length, refl}
-use Rattle.bw_calls.proofs.PlainLaws.{behind, on_err}
+use Rattle.std.proofs.Common.{length, refl}
+use Rattle.bw_calls.proofs.PlainLaws.{behind}
 use Rattle.bw_calls.proofs.LeaveLaws.{in_its}
 use Rattle.bw_calls.proofs.BatchLaws.{gathers_long}
 use Rattle.bw_calls.proofs.batching.set_long.Goals as goal

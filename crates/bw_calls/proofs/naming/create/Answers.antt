@@ -1,8 +1,8 @@
-use Rattle.std.proofs.Common.{◌≡◌, false, Some, rules}
+use Rattle.std.proofs.Common.{◌≡◌, false, rules}
 use Rattle.std.specs.Prelude.{IfErr}
 use Rattle.bw_home.specs.Maps.{maps_of}
 use Rattle.bw_calls.specs.Standing.{waits}
-use Rattle.bw_calls.proofs.PlainLaws.{plain_of, itself, moved, lawful_moved, left_before, err_map}
+use Rattle.bw_calls.proofs.PlainLaws.{itself, moved, lawful_moved, left_before, err_map}
 use Rattle.bw_calls.proofs.LeaveLaws.{in_moved}
 use Rattle.bw_calls.proofs.NameLaws.{created_moved, fresh_told, made_moved, refused_moved}
 use Rattle.bw_calls.proofs.naming.create.Goals as goal

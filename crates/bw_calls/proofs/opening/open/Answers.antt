@@ -1,4 +1,4 @@
-use Rattle.std.proofs.Common.{inl, inr, ◌∙◌}
+use Rattle.std.proofs.Common.{inl}
 use Rattle.bw_calls.proofs.PlainLaws.{behind}
 use Rattle.bw_calls.proofs.LeaveLaws.{in_its}
 use Rattle.bw_calls.proofs.OtherLaws.{on_any}
