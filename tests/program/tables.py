@@ -361,6 +361,18 @@ def over_and_over(program):
     return many
 
 
+def in_proportion(program):
+    """Four times as many rows, or a value four times as long, go away in less than ten times as much time of the processor."""
+    took = []
+    for number in (8000, 32000):
+        program.do("import", "--dir", "R", "--table", "rows", given=b"".join(b"%07d\tv\n" % it for it in range(number)))
+        program.do("put", "--dir", "R", "--table", "rows", "long", "-", given=bytes(number * 128))
+        before = os.times().children_user
+        program.do("tables", "--dir", "R", "--drop", "rows")
+        took.append(os.times().children_user - before)
+    ask(took[1] < 10 * max(took[0], 0.05), "a drop took", took)
+
+
 def filled(program):
     """A log that gets full ends an import, which says how many pairs are durable; deletes then go, and puts after them."""
     lines = b"".join(b"k%03d\t%s\n" % (it, b"v" * 1000000) for it in range(220))
@@ -428,6 +440,7 @@ def main():
         effects(program)
         named(program)
         tried = others(program)
+        in_proportion(program)
         many = over_and_over(program)
         if is_full:
             filled(program)
