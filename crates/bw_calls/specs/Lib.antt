@@ -1,5 +1,7 @@
+pub mod Batches
 pub mod Changes
 pub mod Laws
+pub mod Listing
 pub mod Lives
 pub mod Names
 pub mod Standing

@@ -6,7 +6,7 @@ use Rattle.std.specs.FinMap as finite
 use Rattle.bw_device.specs.Holding.{Holding}
 use Rattle.bw_leaf.specs.Changed.{Map}
 use Rattle.bw_rows.specs.Meaning.{Plain, Tables}
-use Rattle.bw_rows.specs.Laws.{IsTables}
+use Rattle.bw_rows.specs.Batches.{IsLeft}
 use Rattle.bw_ring.specs.declared.feed.Feed.{Feed}
 use Rattle.bw_core.specs.Kept.{Kept}
 use Rattle.bw_home.specs.Cuts.{IsMap}
@@ -19,9 +19,9 @@ abbrev pub IsIn : Tables → List Tables → Type 0
 IsIn t [] = ⊥
 IsIn t (x ∷ ts) = (t ≡ x) ⊎ IsIn t ts
 
--- a lawful map, with some of these tables
+-- a map with some of these tables; a batch may stand in it
 abbrev pub HasSome : List Tables → Plain → Type 0
-HasSome ts p = (t : Tables) × IsIn t ts × IsTables t p
+HasSome ts p = (t : Tables) × IsIn t ts × IsLeft t p
 
 -- each of these maps is one
 abbrev pub HaveSome : List Tables → List Map → Type 0

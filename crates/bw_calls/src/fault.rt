@@ -20,6 +20,8 @@ pub enum TableFault {
     NoMemory,
     /// The store has pairs that are no tables'.
     NotTables,
+    /// A batch stands that is not carried out: `open` does that, and until then calls are refused so.
+    Unfinished,
     /// The store was refused to read, or to take what waited before.
     NotRead(StoreFault),
     /// A group was refused before the step of the call. Of a long value the chunks that were written
@@ -42,6 +44,7 @@ impl Display for TableFault {
             TableFault::TooLong => f.write_str("a value has at most 16777216 bytes"),
             TableFault::NoMemory => f.write_str("out of memory"),
             TableFault::NotTables => f.write_str("the pairs are no tables"),
+            TableFault::Unfinished => f.write_str("a batch is not carried out"),
             TableFault::NotRead(cause) => write!(f, "not read: {cause}"),
             TableFault::NotMade(cause) => write!(f, "not made: {cause}"),
             TableFault::NotKept(cause) => write!(f, "not kept: {cause}"),

@@ -8,9 +8,11 @@
 //! call left them (`specs/Lives.antt`, `specs/Laws.antt`).
 #![tactic(auto)]
 
+mod batching;
 mod collecting;
 mod fault;
 mod laws;
+mod listing;
 mod naming;
 mod opening;
 mod reading;
@@ -18,8 +20,10 @@ mod walking;
 mod ways;
 mod writing;
 
+pub use batching::{Change, batch};
 pub use fault::TableFault;
 pub use laws::{a_stop_leaves_tables, an_empty_store_is_lawful, tables_go_on};
+pub use listing::{last_name, name_before};
 pub use naming::{create, drop_table};
 pub use opening::{keep, open};
 pub use reading::get;

@@ -1,6 +1,6 @@
 //! What tables have.
 
-ghost use Rattle.std.specs.Prelude.{◌≡◌, ◌++◌, false, drop, IfErr, IfOk, OnOk};
+ghost use Rattle.std.specs.Prelude.{◌≡◌, ◌++◌, false, None, drop, IfErr, IfOk, OnOk};
 ghost use Rattle.std.specs.Option.{option_map};
 ghost use Rattle.bw_rows.specs.Spelling as spelling;
 ghost use Rattle.bw_rows.specs.Meaning.{chunks_of, or_nothing, table_in, value_of, joined};
@@ -17,7 +17,9 @@ use crate::fault::TableFault;
 use crate::ways;
 use bw_home::Home;
 use bw_rows::limits::MAX_LEN;
-use bw_rows::{Head, Name, Number, RowKey, TableNumber, chunk_count, chunk_key, name_key, row_key};
+use bw_rows::{
+    Head, Name, Number, RowKey, TableNumber, chunk_count, chunk_key, name_key, row_key, stands_key,
+};
 
 /// The number of a table, in what stands at its name.
 pub(crate) fn number_in(row: &[u8]) -> Result<TableNumber, TableFault>
@@ -32,7 +34,22 @@ pub(crate) fn number_in(row: &[u8]) -> Result<TableNumber, TableFault>
     }
 }
 
-/// The number of a table; `None` where no table has this name.
+/// Refuses to go on if a batch stands: rows are not what counts then.
+pub(crate) fn check(home: &mut Home) -> Result<(), TableFault>
+    requires { IsReady home.old holding }
+    ensures ready { IsReady home.new holding }
+    ensures same { (maps_of home.new holding).put ≡ (maps_of home.old holding).put }
+    ensures quiet { OnOk result (plain_in home.old holding spelling.stands_key ≡ None) }
+    ensures before { IfErr result (λ fault. waits fault ≡ false) }
+    ensures leaves { Reads home.old home.new holding }
+{
+    match ways::get(home, &stands_key())? {
+        Some(_) => Err(TableFault::Unfinished),
+        None => Ok(()),
+    }
+}
+
+/// The number of a table; `None` if no table has this name. Refused `Unfinished` if a batch stands.
 pub(crate) fn number_of(home: &mut Home, name: &Name) -> Result<Option<TableNumber>, TableFault>
     requires { IsReady home.old holding }
     ensures ready { IsReady home.new holding }
@@ -42,6 +59,7 @@ pub(crate) fn number_of(home: &mut Home, name: &Name) -> Result<Option<TableNumb
     ensures before { IfErr result (λ fault. waits fault ≡ false) }
     ensures leaves { Reads home.old home.new holding }
 {
+    check(home)?;
     let Some(row) = ways::get(home, &name_key(name))? else {
         return Ok(None);
     };
@@ -146,8 +164,8 @@ pub(crate) fn value_of(home: &mut Home, row: &[u8]) -> Result<Vec<u8>, TableFaul
 
 /// The value of a key of a table; `None` where the key has none, or no table has this name.
 ///
-/// Refused `NotRead` as the store is, `NoMemory`, and `NotTables` where the store has other pairs
-/// than those of tables.
+/// Refused `NotRead` as the store is, `NoMemory`, `NotTables` if the store has other pairs than those
+/// of tables, and `Unfinished` if a batch stands that is not carried out.
 pub fn get(home: &mut Home, name: &Name, key: &RowKey) -> Result<Option<Vec<u8>>, TableFault>
     requires { IsReady home.old holding }
     ensures ready { IsReady home.new holding }

@@ -2,7 +2,8 @@
 
 ghost use Rattle.std.specs.Prelude.{◌≡◌, ◌+◌, ◌*◌, ◌<◌, ◌≤◌, false, Some, None, length, IfErr, IfOk, OnErr, OnOk};
 ghost use Rattle.bw_rows.specs.Spelling.{chunks_in, Bytes};
-ghost use Rattle.bw_rows.specs.Meaning.{Tables, with_value};
+ghost use Rattle.bw_rows.specs.Meaning.{chunks_of, Tables, with_value};
+ghost use Rattle.bw_rows.specs.Batches.{HasOthers};
 ghost use Rattle.bw_rows.specs.Laws.{HasNumber, IsLawful, IsTables, IsUnnamed};
 ghost use Rattle.bw_tables.specs.Writing.{IsWriting};
 ghost use Rattle.bw_home.specs.Maps.{maps_of};
@@ -103,6 +104,8 @@ fn fresh(home: &mut Home) -> Result<Number, TableFault>
     ensures same { (maps_of home.new holding).put ≡ (maps_of home.old holding).put }
     ensures unnamed { IsLawful (plain_in home.old holding)
         → IfOk result (λ number. IsUnnamed (plain_in home.old holding) number.bytes) }
+    ensures first { IfOk result (λ number.
+        chunks_of (plain_in home.old holding) number.bytes 0 ≡ None) }
     ensures before { IfErr result (λ fault. waits fault ≡ false) }
     ensures leaves { Reads home.old home.new holding }
 {
@@ -124,6 +127,8 @@ fn begin(home: &mut Home, number: Number, value: &[u8], to: u32) -> Result<(), T
         → OnOk result (IsWriting (tables_in home.old holding) (plain_in home.new holding)
         number.bytes value.now to) }
     ensures rows { OnOk result (HasSame (plain_in home.old holding) (plain_in home.new holding)) }
+    ensures others { OnOk result (HasOthers number.bytes (plain_in home.old holding)
+        (plain_in home.new holding)) }
     ensures stays { IsLawful (plain_in home.old holding)
         → IsUnnamed (plain_in home.old holding) number.bytes
         → OnErr result (IsTables (tables_in home.old holding) (plain_in home.new holding)) }
@@ -146,6 +151,8 @@ fn add(home: &mut Home, number: Number, value: &[u8], from: u32, to: u32) -> Res
         → IsWriting tables (plain_in home.old holding) number.bytes value.now from
         → OnOk result (IsWriting tables (plain_in home.new holding) number.bytes value.now to) }
     ensures rows { OnOk result (HasSame (plain_in home.old holding) (plain_in home.new holding)) }
+    ensures others { OnOk result (HasOthers number.bytes (plain_in home.old holding)
+        (plain_in home.new holding)) }
     ensures stays { (tables : Tables)
         → IsWriting tables (plain_in home.old holding) number.bytes value.now from
         → OnErr result (IsTables tables (plain_in home.new holding)) }
@@ -181,6 +188,8 @@ fn add_all(
         → IsWriting tables (plain_in home.old holding) number.bytes value.now from
         → OnOk result (IsWriting tables (plain_in home.new holding) number.bytes value.now to) }
     ensures rows { OnOk result (HasSame (plain_in home.old holding) (plain_in home.new holding)) }
+    ensures others { OnOk result (HasOthers number.bytes (plain_in home.old holding)
+        (plain_in home.new holding)) }
     ensures stays { (tables : Tables)
         → IsWriting tables (plain_in home.old holding) number.bytes value.now from
         → OnErr result (IsTables tables (plain_in home.new holding)) }
@@ -205,8 +214,8 @@ fn first_count(count: u32) -> u32
     if count < 2 { count } else { 2 }
 }
 
-// All chunks of a value go in, under a number that no row names.
-fn write(home: &mut Home, value: &[u8]) -> Result<Number, TableFault>
+/// All chunks of a value go in, under a number that no row names.
+pub(crate) fn write(home: &mut Home, value: &[u8]) -> Result<Number, TableFault>
     requires ready { IsReady home.old holding }
     requires few { length value.now ≤ 16777216 }
     ensures ready { IsReady home.new holding }
@@ -214,6 +223,10 @@ fn write(home: &mut Home, value: &[u8]) -> Result<Number, TableFault>
         → IfOk result (λ number. IsWriting (tables_in home.old holding) (plain_in home.new holding)
         number.bytes value.now (chunks_in (length value.now))) }
     ensures rows { OnOk result (HasSame (plain_in home.old holding) (plain_in home.new holding)) }
+    ensures others { IfOk result (λ number. HasOthers number.bytes (plain_in home.old holding)
+        (plain_in home.new holding)) }
+    ensures first { IfOk result (λ number.
+        chunks_of (plain_in home.old holding) number.bytes 0 ≡ None) }
     ensures stays { IsLawful (plain_in home.old holding)
         → OnErr result (IsTables (tables_in home.old holding) (plain_in home.new holding)) }
     ensures before { IfErr result (λ fault. waits fault ≡ false) }

@@ -4,6 +4,7 @@ pub mod Records
 pub mod Groups
 pub mod TableLaws
 pub mod BatchLaws
+pub mod GatherLaws
 pub mod OrderLaws
 pub mod HeadLaws
 pub mod ChunkLaws

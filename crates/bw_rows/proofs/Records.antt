@@ -28,7 +28,7 @@ wide_row (kind ∷ rest) n len e =
     head_wide_by (nat_eq kind 1 && nat_eq (length rest) 16) rest n len
     (λ h. let sixteen : length rest ≡ 16 = eqb-true (length rest) 16 (both_second (nat_eq kind 1) (nat_eq (length rest) 16) h) in omega arith) e
 
-wide_option : (row : Option Bytes) (n : Bytes) (len : ℕ) → head_in row ≡ Some (n, len) → length n ≡ 8
+pub wide_option : (row : Option Bytes) (n : Bytes) (len : ℕ) → head_in row ≡ Some (n, len) → length n ≡ 8
 wide_option None n len e = absurd (cc e)
 wide_option (Some row) n len e = wide_row row n len e
 

@@ -21,7 +21,7 @@ pub quiet_found : (p : Plain) (k : Bytes) → p stands_key ≡ None → found p 
 quiet_found p k quiet = ap (option_map (value_of p)) (quiet_row p k quiet)
 
 -- the table of each name, by what is found at its places
-abbrev tables_by : (Bytes → Option Bytes) → (Bytes → Option Bytes) → Tables
+abbrev pub tables_by : (Bytes → Option Bytes) → (Bytes → Option Bytes) → Tables
 tables_by names at name = option_map (λ row key. at (row_place (table_in row) key)) (names name)
 
 -- where names and what is found stay, the tables do
@@ -37,9 +37,9 @@ number_at p name t row e h =
     ap (λ (o : Option Bytes). elim o as (λ _. Bytes) [ None ↦ table_in row | Some x ↦ x ]) (sym (ap (option_map table_in) e) ∙ h)
 
 -- where one place changed, one key of one table did
-module _ (p : Plain) (name t key : Bytes) (value : Option Bytes) (names : HasNames p) (its : HasNumber p name t) where
+module _ (p : Plain) (at : Bytes → Option Bytes) (name t key : Bytes) (value : Option Bytes) (names : HasNames p) (its : HasNumber p name t) where
   abbrev at_place : Bytes → Option Bytes
-  at_place k = cond (same k (row_place t key)) value (found p k)
+  at_place k = cond (same k (row_place t key)) value (at k)
 
   -- a name's number is two bytes
   wide : (other row : Bytes) → p (name_key other) ≡ Some row → length (table_in row) ≡ 2
@@ -63,29 +63,29 @@ module _ (p : Plain) (name t key : Bytes) (value : Option Bytes) (names : HasNam
 
   table_by : (other : Bytes) (b : Bool) (o : Option Bytes) → same other name ≡ b → p (name_key other) ≡ o
       → option_map {T = Bytes} {U = Table} (λ row q. at_place (row_place (table_in row) q)) o
-      ≡ cond b (option_map {T = Table} {U = Table} (λ table q. cond (same q key) value (table q)) (option_map {T = Bytes} {U = Table} (λ row q. found p (row_place (table_in row) q)) o))
-      (option_map {T = Bytes} {U = Table} (λ row q. found p (row_place (table_in row) q)) o)
+      ≡ cond b (option_map {T = Table} {U = Table} (λ table q. cond (same q key) value (table q)) (option_map {T = Bytes} {U = Table} (λ row q. at (row_place (table_in row) q)) o))
+      (option_map {T = Bytes} {U = Table} (λ row q. at (row_place (table_in row) q)) o)
   table_by other true None one e = refl
   table_by other false None two e = refl
   table_by other true (Some row) one e =
       let t_is : table_in row ≡ t = number_at p name t row (ap (λ (x : Bytes). p (name_key x)) (sym (same_true other name one)) ∙ e) its in
       ap (λ (f : Bytes → Option Bytes). Some f) (λ i q.
-      (ap (λ (b : Bool). cond b value (found p (row_place (table_in row) q)))
+      (ap (λ (b : Bool). cond b value (at (row_place (table_in row) q)))
       (ap (λ (x : Bytes). same (row_place x q) (row_place t key)) t_is ∙ same_behind t q key)) i)
   table_by other false (Some row) two e =
       ap (λ (f : Bytes → Option Bytes). Some f) (λ i q.
-      (ap (λ (b : Bool). cond b value (found p (row_place (table_in row) q)))
+      (ap (λ (b : Bool). cond b value (at (row_place (table_in row) q)))
       (rows_apart t (table_in row) key q its_wide (wide other row e) (another other row e two))) i)
 
-  one_value : tables_by (λ other. p (name_key other)) at_place ≡ with_value (tables_of p) name key value
+  pub one_value : tables_by (λ other. p (name_key other)) at_place ≡ with_value (tables_by (λ other. p (name_key other)) at) name key value
   one_value = λ i other. table_by other (same other name) (p (name_key other)) refl refl i
 
-  pub one_value_of : (new : Plain) → ((other : Bytes) → new (name_key other) ≡ p (name_key other))
-      → ((k : Bytes) → found new k ≡ cond (same k (row_place t key)) value (found p k)) → tables_of new ≡ with_value (tables_of p) name key value
-  one_value_of new kept at =
-      ap (λ (f : Bytes → Option Bytes). tables_by f (found new)) (λ i other. kept other i)
-      ∙ ap (tables_by (λ other. p (name_key other))) (λ i k. at k i)
-      ∙ one_value
+pub one_value_of : (p new : Plain) (name t key : Bytes) (value : Option Bytes) → HasNames p → HasNumber p name t → ((other : Bytes) → new (name_key other) ≡ p (name_key other))
+    → ((k : Bytes) → found new k ≡ cond (same k (row_place t key)) value (found p k)) → tables_of new ≡ with_value (tables_of p) name key value
+one_value_of p new name t key value names its kept at =
+    ap (λ (f : Bytes → Option Bytes). tables_by f (found new)) (λ i other. kept other i)
+    ∙ ap (tables_by (λ other. p (name_key other))) (λ i k. at k i)
+    ∙ one_value p (found p) name t key value names its
 
 -- ---- the laws
 
@@ -152,7 +152,7 @@ step_law tables p name t key row h its whole =
         names = unread_names p new others.0 h.lawful.names;
         quiet = quiet;
       };
-      its = one_value_of p name t key (option_map (value_of p) row) h.lawful.names its new others.0
+      its = one_value_of p new name t key (option_map (value_of p) row) h.lawful.names its others.0
           (λ q. quiet_found new q quiet ∙ step_is_found p new k row h.lawful.values whole steps q
           ∙ ap (cond (same q k) (option_map (value_of p) row)) (sym (quiet_found p q h.lawful.quiet)))
           ∙ ap (λ (ts : Tables). with_value ts name key (option_map (value_of p) row)) h.its;

@@ -1,12 +1,12 @@
 -- A batch: rows that are written aside, the mark that makes them stand, and the groups that carry them out.
 
-use Rattle.std.specs.Prelude.{◌≡◌, ◌<◌, ℕ, [], true, cond, Option, Some, None, is_some}
+use Rattle.std.specs.Prelude.{◌≡◌, ◌<◌, ◌⊎◌, ℕ, [], true, cond, length, Option, Some, None, is_some}
 use Rattle.std.specs.Option.{option_map}
 use Rattle.bw_rows.specs.Spelling.{Bytes, same, name_key, stands_key, aside_key, row_place, no_row, chunks_in}
-use Rattle.bw_rows.specs.Meaning.{Plain, Tables, chunks_of, over, value_of, found, tables_of, table_in}
-use Rattle.bw_rows.specs.Law.{head_at, is_doomed, HasValues, HasNames}
+use Rattle.bw_rows.specs.Meaning.{Plain, Tables, chunks_of, over, value_of, found, tables_of, table_in, with_value}
+use Rattle.bw_rows.specs.Law.{head_at, is_doomed, HasValues, HasNames, IsWhole}
 use Rattle.bw_rows.specs.Steps.{with, after, head_in, carry_of}
-use Rattle.bw_rows.specs.Laws.{IsTables}
+use Rattle.bw_rows.specs.Laws.{IsTables, HasNumber}
 
 -- what the row aside at a place names
 abbrev pub head_aside : Plain → Bytes → Option (Bytes × ℕ)
@@ -38,6 +38,64 @@ said p (Some aside) value = cond (same aside no_row) None (Some (value_of p asid
 -- the tables, with all that stands aside
 abbrev pub batched : Plain → Tables
 batched p name = option_map (λ row key. said p (p (aside_key (row_place (table_in row) key))) (found p (row_place (table_in row) key))) (p (name_key name))
+
+-- these are the tables: no batch stands, or one that is being carried out
+abbrev pub IsLeft : Tables → Plain → Type 0
+IsLeft tables p = IsTables tables p ⊎ IsStanding tables p
+
+-- ---- a batch is being written
+
+-- nothing stands aside
+abbrev pub HasNoAside : Plain → Type 0
+HasNoAside p = (k : Bytes) → p (aside_key k) ≡ None
+
+-- no row aside names this number
+abbrev pub IsNotAside : Plain → Bytes → Type 0
+IsNotAside p n = (k : Bytes) (len : ℕ) → head_aside p k ≡ Some (n, len) → ⊥
+
+-- the tables are as they were, and these are the ones that the batch makes, as far as it is written
+pub record IsGathering (tables next : Tables) (p : Plain) : Type 0 where
+  pub stays : IsTables tables p
+  pub asides : HasAsides p
+  pub makes : batched p ≡ next
+
+-- only what stands under one number is another: its chunks, and whether it is doomed
+pub record HasOthers (n : Bytes) (p new : Plain) : Type 0 where
+  pub names : (name : Bytes) → new (name_key name) ≡ p (name_key name)
+  pub asides : (k : Bytes) → new (aside_key k) ≡ p (aside_key k)
+  pub chunks : (m : Bytes) (i : ℕ) → length m ≡ 8 → (m ≡ n → ⊥) → chunks_of new m i ≡ chunks_of p m i
+  pub doomed : (m : Bytes) → (m ≡ n → ⊥) → is_doomed new m ≡ is_doomed p m
+
+-- a row may be written aside: what it names is doomed, has all its chunks, and is named by no other
+pub record FitsAside (p : Plain) (row : Bytes) : Type 0 where
+  pub whole : IsWhole p (Some row)
+  pub apart : (n : Bytes) (len : ℕ) → head_in (Some row) ≡ Some (n, len) → IsNotAside p n
+
+-- if nothing is aside, a batch makes no change so far
+abbrev pub NothingIsGathered : Type 0
+NothingIsGathered = (tables : Tables) (p : Plain) → IsTables tables p → HasNoAside p → IsGathering tables tables p
+
+-- a number whose first chunk is not there is named by no row aside
+abbrev pub FreshIsNotAside : Type 0
+FreshIsNotAside = (p : Plain) (n : Bytes) → HasAsides p → chunks_of p n 0 ≡ None → IsNotAside p n
+
+-- a long value is written under a number that no row aside names: the batch is as it was
+abbrev pub ANumberIsSilent : Type 0
+ANumberIsSilent = (tables next : Tables) (p new : Plain) (n : Bytes) → IsGathering tables next p → IsNotAside p n → HasOthers n p new → IsTables tables new
+    → IsGathering tables next new × IsNotAside new n
+
+-- a row is written aside: the batch makes one change more
+abbrev pub AnAsideIsGathered : Type 0
+AnAsideIsGathered = (tables next : Tables) (p : Plain) (name t key row : Bytes) → IsGathering tables next p → HasNumber p name t → FitsAside p row
+    → IsGathering tables (with_value next name key (said p (Some row) None)) (with p (aside_key (row_place t key)) (Some row))
+
+pub record ABatchIsGathered : Type 0 where
+  pub nothing : NothingIsGathered
+  pub fresh : FreshIsNotAside
+  pub number : ANumberIsSilent
+  pub aside : AnAsideIsGathered
+
+-- ---- the groups of a batch
 
 -- a row is written aside, or dropped there, before the batch stands: the tables stay
 abbrev pub AsideIsSilent : Type 0

@@ -95,6 +95,11 @@ chunks_in len = (len + 511) / 512
 abbrev pub chunk_of : Bytes → ℕ → Bytes
 chunk_of value i = take 512 (drop (512 * i) value)
 
+-- the number of a row's table and its own key, in the key of a row aside
+abbrev pub aside_of : Bytes → Option (Bytes × Bytes)
+aside_of (kind ∷ high ∷ low ∷ key) = cond (nat_eq kind 6) (Some (high ∷ low ∷ [], key)) None
+aside_of other = None
+
 -- the number of a row's table and its own key, in the key of a row
 abbrev pub row_of : Bytes → Option (Bytes × Bytes)
 row_of (kind ∷ high ∷ low ∷ key) = cond (nat_eq kind 8) (Some (high ∷ low ∷ [], key)) None

@@ -122,3 +122,20 @@ pub fn read_row_key(bytes: &[u8]) -> Option<(TableNumber, &[u8])>
         _ => None,
     }
 }
+
+/// The number of a row's table, and its own key, in the key of the row aside; `None` if this is the
+/// key of no row aside.
+pub fn read_aside_key(bytes: &[u8]) -> Option<(TableNumber, &[u8])>
+    ensures { MatchOption result (spelled.aside_of bytes.now ≡ None)
+        (λ row. spelled.aside_of bytes.now ≡ Some (row.0.bytes, row.1.now)) }
+{
+    match bytes {
+        [ASIDE, high, low, key @ ..] => Some((
+            TableNumber {
+                bytes: [*high, *low],
+            },
+            key,
+        )),
+        _ => None,
+    }
+}

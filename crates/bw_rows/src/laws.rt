@@ -1,6 +1,6 @@
 //! The laws of the spelling and of the groups that calls write.
 
-ghost use Rattle.bw_rows.specs.Batches.{ABatchIsOneStep};
+ghost use Rattle.bw_rows.specs.Batches.{ABatchIsGathered, ABatchIsOneStep};
 ghost use Rattle.bw_rows.specs.Laws.{ChunksMakeTheValue, EachGroupIsLawful, TablesComeAndGo};
 ghost use Rattle.bw_rows.specs.Order.{KeepsOrder, ReadsBack, TablesApart};
 ghost use Rattle.bw_rows.specs.Worked.{AreSpelled, AreTold};
@@ -22,6 +22,12 @@ pub fn each_group_is_lawful()
 /// The mark of a batch makes all its changes. Each other group of it changes no table.
 pub fn a_batch_is_one_step()
     ensures { ABatchIsOneStep }
+{}
+
+/// The rows of a batch are written aside one by one. Each makes one change more of those that its
+/// mark makes.
+pub fn a_batch_is_gathered()
+    ensures { ABatchIsGathered }
 {}
 
 /// A table comes, and goes, in one group. What a dropped one leaves goes away and changes no table.

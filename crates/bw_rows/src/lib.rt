@@ -20,12 +20,12 @@ mod rows;
 
 pub use chunks::{chunk, chunk_count};
 pub use keys::{
-    aside_key, chunk_key, doomed_key, free_key, gone_key, mark_key, name_key, read_row_key,
-    row_key, stands_key,
+    aside_key, chunk_key, doomed_key, free_key, gone_key, mark_key, name_key, read_aside_key,
+    read_row_key, row_key, stands_key,
 };
 pub use laws::{
-    a_batch_is_one_step, chunks_make_the_value, each_group_is_lawful, tables_come_and_go,
-    the_order_is_kept, the_worked_bytes,
+    a_batch_is_gathered, a_batch_is_one_step, chunks_make_the_value, each_group_is_lawful,
+    tables_come_and_go, the_order_is_kept, the_worked_bytes,
 };
 pub use names::{Name, Number, RowKey, TableNumber};
 pub use rows::{Head, is_no_row, no_row, whole};

@@ -4,19 +4,20 @@ use Rattle.std.proofs.Common.{ℕ, ◌≡◌, ◌+◌, ◌-◌, ◌<◌, ◌≤�
 use Rattle.std.proofs.lemmas.List.Sums.{fold-append}
 use Rattle.bw_record.specs.declared.record.Record.{Record}
 use Rattle.bw_record.specs.declared.record.Record.TheVariants.{Put, Del}
-use Rattle.bw_rows.specs.Spelling.{Bytes, row_key, row_place, name_key, mark_key, gone_key, doomed_key, free_key, stands_key, head_of, head_row, whole_row, no_row, chunks_in}
+use Rattle.bw_rows.specs.Spelling.{Bytes, aside_key, row_key, row_place, name_key, mark_key, gone_key, doomed_key, free_key, stands_key, head_of, head_row, whole_row, no_row, chunks_in}
 use Rattle.bw_rows.specs.Meaning.{Plain, Tables, over, with_value}
 use Rattle.bw_rows.specs.Law.{head_at}
 use Rattle.bw_rows.specs.Steps.{with, changed, after, head_in, row_group, aside_group, step_of, carry_of}
 use Rattle.bw_rows.specs.Laws.{IsTables, IsUnnamed, HasNumber, with_table, empty_table}
-use Rattle.bw_rows.specs.Batches.{IsStanding, batched}
+use Rattle.bw_rows.specs.Batches.{said, batched, IsGathering, IsStanding}
 use Rattle.bw_rows.proofs.TableLaws as laws
 use Rattle.bw_rows.proofs.NameLaws.{create_law, drop_law, gone_row_law}
 use Rattle.bw_rows.proofs.BatchLaws.{mark_law, carry_law, end_law}
+use Rattle.bw_rows.proofs.GatherLaws.{gathered_law}
 use Rattle.bw_rows.proofs.OneKey.{split, same_true}
 use Rattle.bw_rows.proofs.HeadLaws.{head_named}
 use Rattle.bw_tables.specs.Writing.{chunk_records, taking, IsWriting}
-use Rattle.bw_tables.specs.Calls.{Begins, GoesOn, MakesLong, MakesShort, Frees, MakesBatch, CarriesOut, EndsBatch, MakesTable, DropsTable, DropsRow, KeepsNames}
+use Rattle.bw_tables.specs.Calls.{Begins, GoesOn, MakesLong, MakesShort, Frees, MakesBatch, CarriesOut, EndsBatch, MakesTable, DropsTable, DropsRow, KeepsNames, SetsAside}
 use Rattle.bw_tables.proofs.WritingLaws.{taking_law, chunks_law, step_law}
 
 -- a number of two bytes in front
@@ -73,6 +74,11 @@ frees n group is tables p h none =
     let ended : IsTables tables (with p (doomed_key n) None) = laws.end_law tables p n h none in
     let freed : IsTables tables (with (with p (doomed_key n) None) (free_key n) (Some [])) = laws.free_law tables (with p (doomed_key n) None) n (Some []) ended in
     subst (λ (g : List Record). IsTables tables (after p g)) (sym is) freed
+
+pub sets_aside : (t key row : Bytes) (group : List Record) → group ≡ Put (aside_key (row_place t key)) row ∷ [] → SetsAside t key row group
+sets_aside t key row group is tables next p name h its fits =
+    let step = gathered_law tables next p name t key row h its fits in
+    subst (λ (g : List Record). IsGathering tables (with_value next name key (said p (Some row) None)) (after p g)) (sym is) step
 
 pub makes_batch : (group : List Record) → group ≡ Put stands_key [] ∷ [] → MakesBatch group
 makes_batch group is tables p h asides =

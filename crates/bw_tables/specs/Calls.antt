@@ -7,7 +7,7 @@ use Rattle.bw_rows.specs.Meaning.{Plain, Tables, table_in, with_value}
 use Rattle.bw_rows.specs.Law.{head_at}
 use Rattle.bw_rows.specs.Steps.{after}
 use Rattle.bw_rows.specs.Laws.{IsTables, IsUnnamed, IsNoTable, HasNoChunk, HasNumber, with_table, empty_table}
-use Rattle.bw_rows.specs.Batches.{HasAsides, IsStanding, batched}
+use Rattle.bw_rows.specs.Batches.{said, batched, FitsAside, HasAsides, IsGathering, IsStanding}
 use Rattle.bw_tables.specs.Writing.{IsWriting}
 
 -- the tables stay, and the first chunks of a value are there behind its number, which no row named
@@ -33,6 +33,12 @@ MakesShort t key value old group =
 -- the tables stay, and a number with no chunk is doomed no more
 abbrev pub Frees : Bytes → List Record → Type 0
 Frees n group = (tables : Tables) (p : Plain) → IsTables tables p → HasNoChunk p n → IsTables tables (after p group)
+
+-- the row of a key is written aside, so the batch makes one change more
+abbrev pub SetsAside : Bytes → Bytes → Bytes → List Record → Type 0
+SetsAside t key row group =
+    (tables next : Tables) (p : Plain) (name : Bytes) → IsGathering tables next p → HasNumber p name t → FitsAside p row
+    → IsGathering tables (with_value next name key (said p (Some row) None)) (after p group)
 
 -- all changes that stand aside are made at once
 abbrev pub MakesBatch : List Record → Type 0

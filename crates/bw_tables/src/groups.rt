@@ -2,10 +2,11 @@
 //! stand behind it.
 
 ghost use Rattle.std.specs.Prelude.{◌≡◌, ◌+◌, ◌-◌, ◌*◌, ◌≤◌, ◌<◌, ◌∷◌, ◌++◌, [], None, Some, length};
+ghost use Rattle.bw_record.specs.declared.record.Record.TheVariants.{Put};
 ghost use Rattle.bw_rows.specs.Spelling as spelling;
 ghost use Rattle.bw_rows.specs.Meaning.{over};
 ghost use Rattle.bw_rows.specs.Steps.{aside_group, row_group};
-ghost use Rattle.bw_tables.specs.Calls.{Begins, CarriesOut, DropsRow, DropsTable, EndsBatch, Frees, GoesOn, KeepsNames, MakesBatch, MakesLong, MakesShort, MakesTable};
+ghost use Rattle.bw_tables.specs.Calls.{Begins, CarriesOut, DropsRow, DropsTable, EndsBatch, Frees, GoesOn, KeepsNames, MakesBatch, MakesLong, MakesShort, MakesTable, SetsAside};
 ghost use Rattle.bw_tables.specs.Writing.{chunk_record, chunk_records, named, row_to, taking};
 
 use bw_record::{Key, Record, Value};
@@ -157,6 +158,15 @@ pub fn free_group(number: Number) -> Group
     let mut group = Group::one(Record::Del(doomed_key(number)));
     add(&mut group, Record::Put(free_key(number), nothing()));
     group
+}
+
+/// A row is written aside: what the row of this key becomes once the batch stands.
+pub fn aside_row(table: TableNumber, key: &RowKey, row: Value) -> Group
+    ensures aside { SetsAside table.bytes key.now row result }
+    ensures record { result
+        ≡ Put (spelling.aside_key (spelling.row_place table.bytes key.now)) row ∷ [] }
+{
+    Group::one(Record::Put(aside_key(table, key), row))
 }
 
 /// The step of a batch, behind its rows aside and their chunks.

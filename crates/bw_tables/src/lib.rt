@@ -9,7 +9,7 @@ mod groups;
 mod laws;
 
 pub use groups::{
-    batch_end, batch_step, carry_row, chunk_group, create_step, delete_step, drop_row, drop_step,
-    first_group, free_group, long_step, short_step,
+    aside_row, batch_end, batch_step, carry_row, chunk_group, create_step, delete_step, drop_row,
+    drop_step, first_group, free_group, long_step, short_step,
 };
 pub use laws::a_put_is_one_step;
