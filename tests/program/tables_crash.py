@@ -261,7 +261,8 @@ def watched(shim, room, script, files, shape):
                              stderr=subprocess.PIPE, check=False, env={"LD_PRELOAD": shim, "WATCH": scene, "WATCH_LOG": log})
     with open(os.path.join(scene, "told"), "rb") as told:
         answers = told.read().split(b"\n")[:-1]
-    ask(ran.returncode == 0 and answers == [b"ok"] * len(script.lines), "the driver:", answers[-3:], ran.stderr)
+    other = [answer for answer in answers if answer != b"ok"]
+    ask(ran.returncode == 0 and not other and len(answers) == len(script.lines), "the driver:", other[:3], len(answers), "of", len(script.lines), ran.stderr)
     return notes_of(log)
 
 
@@ -289,7 +290,7 @@ def one_life(shim, room, draw, script, files, seen, most):
                 tables, is_half = look(image, script.span(answered), seen)
                 count += 1
                 if is_half:
-                    half.append((left, tables))
+                    half.append((dict(left), tables))
         disk.ask(note)
     write(image, disk.stands)
     tables, _ = look(image, script.tables[-1:], seen)

@@ -8,7 +8,6 @@
 
 mod meter;
 mod pairs;
-mod standin;
 mod subject;
 
 use anyhow::{Context, Result};

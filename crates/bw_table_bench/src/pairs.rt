@@ -2,9 +2,8 @@
 
 ghost use Rattle.bw_home.specs.Ready.{IsReady};
 
-use crate::standin::{Change, batch};
 use anyhow::Result;
-use bw_calls::{get, keep, put};
+use bw_calls::{Change, batch, get, keep, put};
 use bw_codec::{Key, Value};
 use bw_home::Home;
 use bw_rows::{Name, RowKey};

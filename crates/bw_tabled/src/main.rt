@@ -9,7 +9,6 @@
 
 mod request;
 mod run;
-mod standin;
 
 use anyhow::{Context, Result};
 use bw_home::{Options, System, with_store_in_legs};

@@ -1,10 +1,10 @@
 //! A line of a script, as what it asks.
 
 use anyhow::{Context, Result, bail};
+use bw_calls::Change;
 use bw_codec::{Key, Value};
 use bw_rows::{Name, RowKey};
 use std::alloc::Global;
-use crate::standin::Change;
 
 /// What a line asks.
 #[derive(Drop)]

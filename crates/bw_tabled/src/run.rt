@@ -3,10 +3,12 @@
 ghost use Rattle.bw_home.specs.Ready.{IsReady};
 
 use crate::request::{Request, request_of};
-use crate::standin::{Change, batch, next_name};
 use anyhow::{Result, bail};
-use bw_calls::{create, delete, drop_table, first, keep, next_above, open, put};
-use bw_codec::{Key, Record, Value};
+use bw_calls::{
+    Change, batch, create, delete, drop_table, first, keep, last_name, name_before, next_above, open,
+    put,
+};
+use bw_codec::{Key, Value};
 use bw_home::{Home, Legs, System};
 use bw_rows::{Name, RowKey};
 use std::alloc::Global;
@@ -157,17 +159,17 @@ fn show_table(out: &mut impl Write, alloc: Global, home: &mut Home, name: &Name)
     bail!("a table without an end")
 }
 
-// Prints all tables in the order of their names.
+// Prints all tables, from the last name to the first.
 fn show<R: System + Print>(rt: &R, home: &mut Home) -> Result<()>
     requires { IsReady home.old holding }
     ensures { IsReady home.new holding }
 {
     let mut out = BufWriter::new(rt.alloc(), io::writer(rt))?;
-    let mut at = next_name(home, None)?;
+    let mut at = last_name(home)?;
     for _ in 0..u64::MAX {
         let Some(name) = at else { break };
         show_table(&mut out, rt.alloc(), home, &name)?;
-        at = next_name(home, Some(&name))?;
+        at = name_before(home, &name)?;
     }
     out.flush()?;
     Ok(())

@@ -1,38 +1,64 @@
-//! Users in a folder, and an index of their names: two tables that stay in step, whatever stops.
+//! Users in a folder, and an index of their names: two tables that agree, whatever stops.
 //!
-//! `user` says how a user is spelled, `users` has the calls: add, rename, remove, look up, list.
+//! `user` says how a user is spelled as bytes. `users` has the calls: add, rename, delete, find by
+//! name, and print all in the order of names.
 #![tactic(auto)]
 
-mod standin;
+ghost use Rattle.bw_home.specs.Ready.{IsReady};
+
 mod user;
 mod users;
 
+use anyhow::Result;
 use bw::{Course, Home, Options, System, with_store};
+use std::alloc::Global;
 use user::User;
 
-/// Adds users, changes some, and prints what is found.
+// Names and cities.
+const USERS: [(&'static str, &'static str); 5] = [
+    ("Alan Turing", "Wilmslow"),
+    ("Ada Lovelace", "London"),
+    ("Grace Murray", "New York"),
+    ("Alan Turing", "Guildford"),
+    ("Nobody", "Nowhere"),
+];
+
+// Adds the users, each under the next number. Then one gets another name, and one goes.
+fn fill(home: &mut Home, alloc: Global) -> Result<()>
+    requires { IsReady home.old holding }
+    ensures { IsReady home.new holding }
+{
+    let mut number = 0u32;
+    for (name, city) in USERS {
+        number = number.saturating_add(1);
+        users::add(home, alloc, number, User { name, city })?;
+    }
+    users::rename(home, alloc, 3, "Grace Hopper")?;
+    users::delete(home, alloc, 5)?;
+    bw_calls::keep(home)?; // and found again, whatever stops
+    Ok(())
+}
+
+/// Fills the tables, if they are empty, and prints what is found.
 #[derive(Drop)]
 struct Tour;
 
 impl<R: System + Print> Course<R> for Tour {
-    type Answer = anyhow::Result<()>;
+    type Answer = Result<()>;
 
-    fn run(self, rt: &R, home: &mut Home) -> anyhow::Result<()> {
-        let alloc = rt.alloc();
+    fn run(self, rt: &R, home: &mut Home) -> Result<()> {
         users::open(home)?;
-        users::add(home, alloc, 1, User { name: "Turing", city: "Wilmslow" })?;
-        users::add(home, alloc, 2, User { name: "Lovelace", city: "London" })?;
-        users::add(home, alloc, 3, User { name: "Murray", city: "New York" })?;
-        users::add(home, alloc, 4, User { name: "Turing", city: "Guildford" })?;
-        users::rename(home, alloc, 3, "Hopper")?;
-        users::remove(home, alloc, 1)?;
-        bw_calls::keep(home)?; // and found again, whatever stops
-
-        println!(rt; "Turing: {:?}", users::named(home, alloc, "Turing")?)?;
+        if users::are_none(home)? {
+            fill(home, rt.alloc())?;
+        }
+        println!(rt;
+            "Alan Turing: {:?}",
+            users::named(home, rt.alloc(), "Alan Turing")?
+        )?;
         users::print_all(rt, home)
     }
 }
 
-fn main(rt: HostRuntime) -> anyhow::Result<()> {
+fn main(rt: HostRuntime) -> Result<()> {
     with_store(&rt, "people", &Options::default(), Tour)?
 }

@@ -1,8 +1,8 @@
 //! A user as bytes: a record of the table `users`, and a key of its index `names`.
 
-use anyhow::{Result, bail};
+use anyhow::{Result, bail, ensure};
 use bw_rows::RowKey;
-use std::alloc::{AllocError, Global};
+use std::alloc::Global;
 use std::str;
 
 /// A user. The name has no zero byte, and at most 119 bytes: the index has room for those.
@@ -23,7 +23,7 @@ impl<'a> User<'a> {
     }
 
     /// The record of a user.
-    pub fn record(&self, alloc: Global) -> Result<Vec<u8>, AllocError> {
+    pub fn record(&self, alloc: Global) -> Result<Vec<u8>> {
         joined(alloc, self.name, self.city.as_bytes())
     }
 }
@@ -54,7 +54,8 @@ pub fn number_in(key: &RowKey) -> Result<u32> {
 }
 
 // A name, a zero, and what follows it.
-fn joined(alloc: Global, name: &str, rest: &[u8]) -> Result<Vec<u8>, AllocError> {
+fn joined(alloc: Global, name: &str, rest: &[u8]) -> Result<Vec<u8>> {
+    ensure!(!name.as_bytes().contains(&0), "a name has no zero byte");
     let mut bytes = Vec::new(alloc);
     bytes.extend_from_slice(name.as_bytes())?;
     bytes.push(0)?;

@@ -1,14 +1,13 @@
 //! The users of a store: a table of them by number, and an index of it by name.
 //!
-//! Each change is one batch over both tables. So whatever stops, the index names the users that are
-//! there, and no others.
+//! Each change is one batch over both tables. So whatever stops, the index has the users that are
+//! there, under the names that they have, and no others.
 
 ghost use Rattle.bw_home.specs.Ready.{IsReady};
 
-use crate::standin::{Change, batch};
 use crate::user::{User, name_front, name_key, number_in, user_key};
 use anyhow::{Result, bail, ensure};
-use bw_calls::{TableFault, create, first, get, next_above, next_at};
+use bw_calls::{Change, TableFault, batch, create, first, get, next_above, next_at};
 use bw_home::Home;
 use bw_rows::{Name, RowKey};
 use std::alloc::Global;
@@ -44,18 +43,31 @@ pub fn open(home: &mut Home) -> Result<()>
     create_once(home, &names()?)
 }
 
-/// Adds a user under a number that nobody has.
-pub fn add(home: &mut Home, alloc: Global, number: u32, user: User<'_>) -> Result<()>
-    requires { IsReady home.old holding }
-    ensures { IsReady home.new holding }
-{
-    let key = user_key(number)?;
-    ensure!(get(home, &users()?, &key)?.is_none(), "number {number} is taken");
-    batch(home, &[
-        Change { table: users()?, key, value: Some(user.record(alloc)?) },
-        Change { table: names()?, key: name_key(alloc, user.name, number)?, value: Some(Vec::new(alloc)) },
-    ])?;
-    Ok(())
+// The change by which a user has this record; without one the user goes.
+fn set(number: u32, record: Option<Vec<u8>>) -> Result<Change> {
+    Ok(Change {
+        table: users()?,
+        key: user_key(number)?,
+        value: record,
+    })
+}
+
+// The change by which the index has a user under a name.
+fn enter(alloc: Global, name: &str, number: u32) -> Result<Change> {
+    Ok(Change {
+        table: names()?,
+        key: name_key(alloc, name, number)?,
+        value: Some(Vec::new(alloc)),
+    })
+}
+
+// The change by which it has no longer.
+fn strike(alloc: Global, name: &str, number: u32) -> Result<Change> {
+    Ok(Change {
+        table: names()?,
+        key: name_key(alloc, name, number)?,
+        value: None,
+    })
 }
 
 // The record of a user.
@@ -69,38 +81,59 @@ fn record_of(home: &mut Home, number: u32) -> Result<Vec<u8>>
     }
 }
 
-/// Gives a user another name. The old key of the index goes, and the new one comes, in the batch
-/// that changes the record.
+/// Adds a user under a number that nobody has.
+pub fn add(home: &mut Home, alloc: Global, number: u32, user: User<'_>) -> Result<()>
+    requires { IsReady home.old holding }
+    ensures { IsReady home.new holding }
+{
+    let taken = get(home, &users()?, &user_key(number)?)?;
+    ensure!(taken.is_none(), "number {number} is taken");
+    let changes = [
+        set(number, Some(user.record(alloc)?))?,
+        enter(alloc, user.name, number)?,
+    ];
+    Ok(batch(home, &changes)?)
+}
+
+/// Gives a user another name.
 pub fn rename(home: &mut Home, alloc: Global, number: u32, name: &str) -> Result<()>
     requires { IsReady home.old holding }
     ensures { IsReady home.new holding }
 {
     let old = record_of(home, number)?;
     let old = User::read(old.as_slice())?;
-    let new = User { name, city: old.city };
-    batch(home, &[
-        Change { table: users()?, key: user_key(number)?, value: Some(new.record(alloc)?) },
-        Change { table: names()?, key: name_key(alloc, old.name, number)?, value: None },
-        Change { table: names()?, key: name_key(alloc, new.name, number)?, value: Some(Vec::new(alloc)) },
-    ])?;
-    Ok(())
+    let new = User {
+        name,
+        city: old.city,
+    };
+    let changes = [
+        set(number, Some(new.record(alloc)?))?,
+        strike(alloc, old.name, number)?,
+        enter(alloc, new.name, number)?,
+    ];
+    Ok(batch(home, &changes)?)
 }
 
 /// Deletes a user.
-pub fn remove(home: &mut Home, alloc: Global, number: u32) -> Result<()>
+pub fn delete(home: &mut Home, alloc: Global, number: u32) -> Result<()>
     requires { IsReady home.old holding }
     ensures { IsReady home.new holding }
 {
     let old = record_of(home, number)?;
     let old = User::read(old.as_slice())?;
-    batch(home, &[
-        Change { table: users()?, key: user_key(number)?, value: None },
-        Change { table: names()?, key: name_key(alloc, old.name, number)?, value: None },
-    ])?;
-    Ok(())
+    let changes = [set(number, None)?, strike(alloc, old.name, number)?];
+    Ok(batch(home, &changes)?)
 }
 
-// What the keys of a walk begin with, and a key of the index.
+/// Whether there are no users.
+pub fn are_none(home: &mut Home) -> Result<bool>
+    requires { IsReady home.old holding }
+    ensures { IsReady home.new holding }
+{
+    Ok(first(home, &users()?)?.is_none())
+}
+
+// The key of a pair. In the index only keys say anything.
 fn key_of(pair: Option<(RowKey, Vec<u8>)>) -> Option<RowKey> {
     let (key, _) = pair?;
     Some(key)
