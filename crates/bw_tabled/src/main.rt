@@ -18,7 +18,7 @@ use std::io::{BufRead, BufReader};
 // The lines of the standard input.
 fn lines_of(rt: &(impl Input + AllocGlobal)) -> Result<Vec<String>> {
     let mut lines = Vec::new(rt.alloc());
-    for line in BufReader::new(rt.alloc(), rt.reader())?.lines(rt.alloc()) {
+    'lines: for line in BufReader::new(rt.alloc(), rt.reader())?.lines(rt.alloc()) {
         lines.push(line?)?;
     }
     Ok(lines)
@@ -41,7 +41,7 @@ fn start<R: System + Print>(rt: &R, words: &[String], lines: &[String]) -> Resul
 
 fn main(rt: HostRuntime) -> Result<()> {
     let mut words = Vec::new(rt.alloc());
-    for word in std::env::args(&rt)? {
+    'words: for word in std::env::args(&rt)? {
         words.push(word)?;
     }
     let lines = lines_of(&rt)?;

@@ -57,7 +57,12 @@ fn raw_of(alloc: Global, key: Option<&str>, value: Option<&str>) -> Result<Reque
 }
 
 // A put, or a delete where there is no value.
-fn change_of(alloc: Global, table: Option<&str>, key: Option<&str>, value: Option<Vec<u8>>) -> Result<Request> {
+fn change_of(
+    alloc: Global,
+    table: Option<&str>,
+    key: Option<&str>,
+    value: Option<Vec<u8>>,
+) -> Result<Request> {
     let table = name_of(alloc, table)?;
     let key = row_key_of(alloc, key)?;
     Ok(Request::Change(Change { table, key, value }))

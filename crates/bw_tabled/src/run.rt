@@ -5,8 +5,8 @@ ghost use Rattle.bw_home.specs.Ready.{IsReady};
 use crate::request::{Request, request_of};
 use anyhow::{Result, bail};
 use bw_calls::{
-    Change, batch, create, delete, drop_table, first, keep, last_name, name_before, next_above, open,
-    put,
+    Change, batch, create, delete, drop_table, first, keep, last_name, name_before, next_above,
+    open, put,
 };
 use bw_codec::{Key, Value};
 use bw_home::{Home, Legs, System};
@@ -151,8 +151,10 @@ fn show_table(out: &mut impl Write, alloc: Global, home: &mut Home, name: &Name)
     let word = word_of(alloc, name.as_slice())?;
     writeln!(out, "table {word}")?;
     let mut pair = first(home, name)?;
-    for _ in 0..u64::MAX {
-        let Some((key, value)) = pair else { return Ok(()) };
+    'pairs: for _ in 0..u64::MAX {
+        let Some((key, value)) = pair else {
+            return Ok(())
+        };
         show_row(out, alloc, &key, value.as_slice())?;
         pair = next_above(home, name, &key)?;
     }
@@ -166,7 +168,7 @@ fn show<R: System + Print>(rt: &R, home: &mut Home) -> Result<()>
 {
     let mut out = BufWriter::new(rt.alloc(), io::writer(rt))?;
     let mut at = last_name(home)?;
-    for _ in 0..u64::MAX {
+    'tables: for _ in 0..u64::MAX {
         let Some(name) = at else { break };
         show_table(&mut out, rt.alloc(), home, &name)?;
         at = name_before(home, &name)?;

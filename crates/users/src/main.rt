@@ -29,7 +29,7 @@ fn fill(home: &mut Home, alloc: Global) -> Result<()>
     ensures { IsReady home.new holding }
 {
     let mut number = 0u32;
-    for (name, city) in USERS {
+    'users: for (name, city) in USERS {
         number = number.saturating_add(1);
         users::add(home, alloc, number, User { name, city })?;
     }

@@ -147,7 +147,7 @@ pub fn named(home: &mut Home, alloc: Global, name: &str) -> Result<Vec<u32>>
     let mut numbers = Vec::new(alloc);
     let front = name_front(alloc, name)?;
     let mut at = key_of(next_at(home, &names()?, &front)?);
-    for _ in 0..u64::MAX {
+    'keys: for _ in 0..u64::MAX {
         let Some(key) = at else { break };
         if !key.as_slice().starts_with(front.as_slice()) {
             break;
@@ -164,7 +164,7 @@ pub fn print_all(rt: &impl Print, home: &mut Home) -> Result<()>
     ensures { IsReady home.new holding }
 {
     let mut at = key_of(first(home, &names()?)?);
-    for _ in 0..u64::MAX {
+    'keys: for _ in 0..u64::MAX {
         let Some(key) = at else { break };
         print_one(rt, home, number_in(&key)?)?;
         at = key_of(next_above(home, &names()?, &key)?);
