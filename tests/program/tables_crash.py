@@ -34,7 +34,7 @@ SEED = int(sys.argv[3]) if len(sys.argv) > 3 else 1
 NAMES = (b"a", b"ab", b"b")
 KEYS = tuple(b"k%d" % number for number in range(5)) + (b"\x00", b"k\x00", b"\xff" * 124)
 # Around each border: a value that stands in its row, one chunk, two, and so many that a call takes several frames.
-LENGTHS = (0, 1, 400, 511, 512, 513, 1024, 1025, 3000, 9000, 30000)
+LENGTHS = (0, 1, 400, 511, 512, 513, 1024, 1025, 3000, 9000, 30000, 60000)
 CHUNK, WHOLE = 512, 511
 # Segments, bytes of each, and the most pairs of a page.
 SHAPES = (("8", "1048576", "32"), ("40", "131104", "4"), ("40", "131104", "32"))
@@ -88,10 +88,11 @@ def drawn_call(draw, tables):
     if not tables or (lacking and kind < 0.15):
         name = draw.choice(lacking)
         return ["create " + word_of(name)], {**tables, name: {}}
-    if kind < 0.19:
-        name = draw.choice(sorted(tables))
+    if kind < 0.21:
+        # The fullest, so that its rows take more than a frame to go away.
+        name = max(sorted(tables), key=lambda name: sum(map(len, tables[name].values())))
         return ["drop " + word_of(name)], {other: rows for other, rows in tables.items() if other != name}
-    if kind < 0.26:
+    if kind < 0.28:
         changes = wide_batch(draw, tables)
     elif kind < 0.46:
         changes = [drawn_change(draw, tables) for _ in range(draw.choice((1, 2, 3, 4, 5, 12)))]
@@ -277,14 +278,16 @@ def one_life(shim, room, draw, script, files, seen, most):
     image, half, count = os.path.join(room, "left"), [], 0
     notes = watched(shim, room, script, files, draw.choice(SHAPES))
     disk, answered = Disk(files, 0), 0
-    every = [note for note in notes if note[3].startswith("store") and note[0] in "wt"]
-    chance = min(1.0, most / (2.0 * max(1, len(every))))
+    every = sum(1 for note in notes if note[3].startswith("store") and note[0] in "wt")
+    chance = most / (2.0 * max(1, every))
     for note in notes:
         if note[3] == "told":
             answered += note[4].count(b"\n")
             continue
         note = without_folder(note)
-        if note[0] in "wt" and draw.random() < chance:
+        # Few writes are amid a drop.
+        is_rare = answered < len(script.lines) and script.lines[answered].startswith("drop ")
+        if note[0] in "wt" and (is_rare or draw.random() < chance):
             for left, _ in list(disk.left(note, draw, 0))[-2:]:
                 write(image, left)
                 tables, is_half = look(image, script.span(answered), seen)
@@ -385,6 +388,8 @@ def main():
                 runs += 3
             for _ in range(KILLS):
                 kills += killed(room, draw, seen)
+        for kind, what in HALF_DONE.items():
+            ask(kind in seen or FOLDERS < 1000, "in no folder", what)
     except Wrong as wrong:
         print("seed %d, run %d: %s" % (SEED, runs, wrong))
         return 1
