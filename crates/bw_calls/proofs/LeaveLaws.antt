@@ -96,7 +96,7 @@ module _ {I : Type 0} {H : I → Type 0} where
       let tables = tables_of (plain_in old v) in
       record {
         map = stays.map is;
-        cuts = subst (HaveSome (tables ∷ [])) (sym keeps.cuts) ((tables, inl refl, itself (plain_in old v) lawful), tt);
+        cuts = subst (HaveSome (tables ∷ [])) (sym keeps.cuts) ((tables, inl refl, inl (itself (plain_in old v) lawful)), tt);
       }
 
 -- ---- tables of maps that are the same
@@ -118,7 +118,7 @@ number_moved m new name t same told = subst (λ (x : Map). HasNumber (plain_of x
 pub after_chunk : (ts : List Tables) (p : Plain) (n : Bytes) (i : ℕ) (group : List Record) → length n ≡ 8 → group ≡ Del (chunk_key (chunk_place n i)) ∷ []
     → IsLawful p → is_doomed p n ≡ true → IsIn (tables_of p) ts → HasSome ts (after p group)
 after_chunk ts p n i group wide is lawful doomed among =
-    subst (λ (g : List Record). HasSome ts (after p g)) (sym is) (tables_of p, among, chunk_goes p n i wide lawful doomed)
+    subst (λ (g : List Record). HasSome ts (after p g)) (sym is) (tables_of p, among, inl (chunk_goes p n i wide lawful doomed))
 
 -- ---- lives
 

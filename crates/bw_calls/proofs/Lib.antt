@@ -4,3 +4,6 @@ pub mod LeaveLaws
 pub mod NameLaws
 pub mod WalkLaws
 pub mod WayLaws
+pub mod OtherLaws
+pub mod BatchLaws
+pub mod SmallLaws

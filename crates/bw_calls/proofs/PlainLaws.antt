@@ -16,6 +16,7 @@ use Rattle.bw_rows.specs.declared.names.TableNumber.{TableNumber}
 use Rattle.bw_rows.specs.Meaning.{Plain, Table, Tables, chunks_of, joined, or_nothing, found, value_by, value_of, tables_of, table_in, with_value}
 use Rattle.bw_rows.specs.Law.{head_at, is_doomed}
 use Rattle.bw_rows.specs.Steps.{changed, after}
+use Rattle.bw_rows.specs.Batches.{HasOthers}
 use Rattle.bw_rows.specs.Laws.{IsLawful, IsTables, IsUnnamed, HasNumber, HasNoChunk}
 use Rattle.bw_rows.proofs.TableLaws.{quiet_found, chunk_law, fresh_law}
 use Rattle.bw_tables.specs.Writing.{chunk_record, chunk_records, taking, IsWriting}
@@ -274,6 +275,7 @@ moved tables m new h same = subst (λ (x : Map). IsTables tables (plain_of x)) (
 pub record Adding (start p : Plain) (n value : Bytes) (from at : ℕ) : Type 0 where
   pub writing : (tables : Tables) → IsWriting tables start n value from → IsWriting tables p n value at
   pub same : HasSame start p
+  pub others : HasOthers n start p
 
 -- chunks are being joined, up to this one
 pub record Joining (start m : Map) (n value : Bytes) (i : ℕ) : Type 0 where

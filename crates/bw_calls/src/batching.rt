@@ -4,15 +4,14 @@
 //! that is the step, so from there on the tables have all its changes. The rows are carried out one
 //! by one after that, and no answer changes. What a stop leaves of that an opening does.
 
-ghost use Rattle.std.specs.Prelude.{◌≡◌, ◌<◌, ◌≤◌, [], ◌∷◌, false, None, Some, length, nat_eq, IfErr, IfOk, IsTrue, OnOk};
+ghost use Rattle.std.specs.Prelude.{◌≡◌, ◌<◌, ◌≤◌, [], ◌∷◌, true, false, None, Some, length, nat_eq, IfErr, IfOk, IfSome, IsTrue, OnOk};
 ghost use Rattle.std.specs.List.{starts_with};
-ghost use Rattle.bw_rows.specs.Spelling.{Bytes, stands_key};
-ghost use Rattle.bw_rows.specs.Meaning.{Tables, with_value};
-ghost use Rattle.bw_rows.specs.Laws.{HasNumber, IsLawful, IsTables};
+ghost use Rattle.bw_rows.specs.Meaning.{Tables};
+ghost use Rattle.bw_rows.specs.Laws.{IsLawful, IsTables};
 ghost use Rattle.bw_rows.specs.Batches.{said, FitsAside, HasNoAside, IsGathering, IsLeft, IsStanding};
 ghost use Rattle.bw_home.specs.Maps.{maps_of};
 ghost use Rattle.bw_home.specs.Ready.{IsReady};
-ghost use Rattle.bw_calls.specs.Batches.{bytes_in, with_change, with_changes, Gathers};
+ghost use Rattle.bw_calls.specs.Batches.{bytes_in, with_change, with_changes, Gathers, IsBatchLeftBy, IsOneRecord, IsShort, IsUpTo};
 ghost use Rattle.bw_calls.specs.Changes.{IsFirstOf};
 ghost use Rattle.bw_calls.specs.Lives.{Goes, Reads, Stays};
 ghost use Rattle.bw_calls.specs.Standing.{plain_in, tables_in, waits};
@@ -26,11 +25,16 @@ use bw_codec::{Key, Record, Value};
 use bw_home::Home;
 use bw_ring::Group;
 use bw_rows::limits::{MAX_LEN, MAX_WHOLE};
-use bw_rows::{Head, Name, RowKey, TableNumber, no_row, read_aside_key, stands_key, whole};
+use bw_rows::{
+    Head, Name, RowKey, TableNumber, no_row, read_aside_key, row_key, stands_key, whole,
+};
 use bw_tables::{aside_row, batch_end, batch_step, carry_row};
 
 // The kind of keys of rows aside.
 const ASIDE: u8 = 6;
+
+// How many records a group may have.
+const MOST: usize = 4;
 
 /// What a batch does with one key of a table.
 #[derive(Debug, Drop)]
@@ -99,8 +103,8 @@ fn put_aside(
 ) -> Result<(), TableFault>
     requires ready { IsReady home.old holding }
     ensures ready { IsReady home.new holding }
-    ensures gathers { FitsAside (plain_in home.old holding) row
-        → OnOk result (Gathers (plain_in home.old holding) table.bytes key.now
+    ensures gathers { OnOk result (FitsAside (plain_in home.old holding) row
+        → Gathers (plain_in home.old holding) table.bytes key.now
         (said (plain_in home.old holding) (Some row) None) (plain_in home.new holding)) }
     ensures stays { IsLawful (plain_in home.old holding)
         → IsTables (tables_in home.old holding) (plain_in home.new holding) }
@@ -354,11 +358,117 @@ fn finish(home: &mut Home) -> Result<(), TableFault>
     collect_all(home)
 }
 
+// ---- a small batch
+
+// The record of a change whose value stands in its row.
+fn short_record(table: TableNumber, change: &Change) -> Option<Record>
+    ensures { IfSome result (λ r. IsShort table.bytes change.now r) }
+{
+    match &change.value {
+        None => Some(Record::Del(row_key(table, &change.key))),
+        Some(value) if value.len() <= MAX_WHOLE => Some(Record::Put(
+            row_key(table, &change.key),
+            whole(value.as_slice()),
+        )),
+        Some(_) => None,
+    }
+}
+
+// The record of a change, if its value stands in its row and the row before it names nothing.
+fn record_of(home: &mut Home, change: &Change) -> Result<Option<Record>, TableFault>
+    requires { IsReady home.old holding }
+    ensures ready { IsReady home.new holding }
+    ensures same { (maps_of home.new holding).put ≡ (maps_of home.old holding).put }
+    ensures found { IfOk result (λ found. IfSome found (λ r.
+        IsOneRecord (plain_in home.old holding) change.now r)) }
+    ensures before { IfErr result (λ fault. waits fault ≡ false) }
+    ensures leaves { Reads home.old home.new holding }
+{
+    let Some(table) = number_of(home, &change.table)? else {
+        return Err(TableFault::NoTable);
+    };
+    match head_of(home, table, &change.key)? {
+        Some(_) => Ok(None),
+        None => Ok(short_record(table, change)),
+    }
+}
+
+// Adds the record of a change to a group that makes those before it; answers whether it has one, and
+// there was room.
+fn join(home: &mut Home, change: &Change, group: &mut Group) -> Result<bool, TableFault>
+    requires { IsReady home.old holding }
+    ensures ready { IsReady home.new holding }
+    ensures same { (maps_of home.new holding).put ≡ (maps_of home.old holding).put }
+    ensures joined { (tables : Tables) → IsUpTo (plain_in home.old holding) tables group.old
+        → IfOk result (λ has. has ≡ true → IsUpTo (plain_in home.old holding)
+        (with_change tables change.now) group.new) }
+    ensures before { IfErr result (λ fault. waits fault ≡ false) }
+    ensures leaves { Reads home.old home.new holding }
+{
+    match record_of(home, change)? {
+        Some(item) => Ok(group.push(item).is_ok()),
+        None => Ok(false),
+    }
+}
+
+// The one group that makes all changes: there are at most four, each value stands in its row, and no
+// row before them names anything. `None` if it is not so.
+fn group_of(home: &mut Home, changes: &[Change]) -> Result<Option<Group>, TableFault>
+    requires { IsReady home.old holding }
+    ensures ready { IsReady home.new holding }
+    ensures same { (maps_of home.new holding).put ≡ (maps_of home.old holding).put }
+    ensures group { IsLawful (plain_in home.old holding)
+        → IfOk result (λ group. IfSome group (λ g. IsUpTo (plain_in home.old holding)
+        (with_changes (tables_in home.old holding) changes.now) g)) }
+    ensures before { IfErr result (λ fault. waits fault ≡ false) }
+    ensures leaves { Reads home.old home.new holding }
+{
+    if changes.is_empty() || changes.len() > MOST {
+        return Ok(None);
+    }
+    let Some(first) = record_of(home, &changes[0])? else {
+        return Ok(None);
+    };
+    let mut group = Group::one(first);
+    'changes: for i in 1..changes.len() {
+        if !join(home, &changes[i], &mut group)? {
+            return Ok(None);
+        }
+    }
+    Ok(Some(group))
+}
+
+// A batch of any size.
+fn batch_by_rows(home: &mut Home, changes: &[Change]) -> Result<(), TableFault>
+    requires ready { IsReady home.old holding }
+    ensures ready { IsReady home.new holding }
+    ensures made { IsLawful (plain_in home.old holding)
+        → OnOk result (IsLeft (with_changes (tables_in home.old holding) changes.now)
+        (plain_in home.new holding)) }
+    ensures refused { IsLawful (plain_in home.old holding)
+        → IfErr result (λ fault. IsBatchLeftBy fault (tables_in home.old holding)
+        (with_changes (tables_in home.old holding) changes.now) (plain_in home.new holding)) }
+    ensures leaves { IsLawful (plain_in home.old holding)
+        → Goes (tables_in home.old holding)
+        (with_changes (tables_in home.old holding) changes.now) home.old home.new holding }
+{
+    clear_asides(home)?;
+    gather(home, changes)?;
+    match ways::step(home, batch_step()) {
+        Ok(()) => {
+            let _ = finish(home);
+            Ok(())
+        }
+        Err(fault) => Err(fault),
+    }
+}
+
 /// Makes any number of changes, in any tables, as one step: a stop leaves all of them or none. A
 /// later change of a key takes the place of an earlier one. It is seen from then on; `Home::keep`
 /// makes it durable.
 ///
-/// It writes each row twice, and the chunks of long values once. Refused `NoTable`, `TooLong`, and
+/// Up to four short values over such ones go in as one group. Else each row is written twice, and the
+/// chunks of long values once. Refused `NoTable`, `TooLong`, and
 /// else as `put` is: after `Waits` the tables have all changes, and after any other none. If what
 /// follows the step is refused, it answers Ok all the same. The batch is then not carried out, nor
 /// is it after `Waits`: until `open` has done so, each call is refused `Unfinished`.
@@ -369,20 +479,15 @@ pub fn batch(home: &mut Home, changes: &[Change]) -> Result<(), TableFault>
         → OnOk result (IsLeft (with_changes (tables_in home.old holding) changes.now)
         (plain_in home.new holding)) }
     ensures refused { IsLawful (plain_in home.old holding)
-        → IfErr result (λ fault. IsLeftBy fault (tables_in home.old holding)
+        → IfErr result (λ fault. IsBatchLeftBy fault (tables_in home.old holding)
         (with_changes (tables_in home.old holding) changes.now) (plain_in home.new holding)) }
     ensures leaves { IsLawful (plain_in home.old holding)
         → Goes (tables_in home.old holding)
         (with_changes (tables_in home.old holding) changes.now) home.old home.new holding }
 {
     check(home)?;
-    clear_asides(home)?;
-    gather(home, changes)?;
-    match ways::step(home, batch_step()) {
-        Ok(()) => {
-            let _ = finish(home);
-            Ok(())
-        }
-        Err(fault) => Err(fault),
+    match group_of(home, changes)? {
+        Some(group) => ways::step(home, group),
+        None => batch_by_rows(home, changes),
     }
 }

@@ -163,7 +163,7 @@ pub fn free_group(number: Number) -> Group
 /// A row is written aside: what the row of this key becomes once the batch stands.
 pub fn aside_row(table: TableNumber, key: &RowKey, row: Value) -> Group
     ensures aside { SetsAside table.bytes key.now row result }
-    ensures record { result
+    ensures item { result
         ≡ Put (spelling.aside_key (spelling.row_place table.bytes key.now)) row ∷ [] }
 {
     Group::one(Record::Put(aside_key(table, key), row))

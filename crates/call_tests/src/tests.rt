@@ -1,14 +1,15 @@
-//! Calls on tables in a folder: values of each length come and go, what was kept is found again, and
-//! an opening finishes what was left half done.
+//! Calls on tables in a folder: values of each length come and go, batches are one step, what was
+//! kept is found again, and an opening finishes what was left half done.
 
 ghost use Rattle.bw_home.specs.Ready.{IsReady};
 
 use bw_calls::{
-    TableFault, create, delete, drop_table, first, get, keep, next_above, next_at, open, put,
+    Change, TableFault, batch, create, delete, drop_table, first, get, keep, last_name,
+    name_before, next_above, next_at, open, put,
 };
 use bw_home::{Home, Legs, Options, System, with_store_in_legs};
-use bw_rows::{Name, Number, RowKey, TableNumber, chunk_key, row_key};
-use bw_tables::{drop_step, first_group};
+use bw_rows::{Name, Number, RowKey, TableNumber, aside_key, chunk_key, no_row, row_key, whole};
+use bw_tables::{aside_row, batch_step, drop_step, first_group};
 use std::alloc::Global;
 use std::fs;
 use std::test::Fail;
@@ -53,13 +54,38 @@ enum Step {
     Leave(u64),
     /// Whether this number has a first chunk.
     Chunk(u64, bool),
+    /// The batch that is made next gives a key this byte so many times.
+    Add(&'static [u8], &'static [u8], u8, usize),
+    /// It drops a key.
+    AddNone(&'static [u8], &'static [u8]),
+    /// All that was added is made.
+    Batch,
+    /// It is refused for this reason, and forgotten.
+    BatchRefused(TableFault),
+    /// A row is written aside alone, as a batch leaves it that is stopped there.
+    Aside(u8, &'static [u8], u8, usize),
+    /// One that takes its row away.
+    AsideNone(u8, &'static [u8]),
+    /// A batch stands, and is not carried out.
+    Stand,
+    /// Whether a table's number has a row aside of this key.
+    AsideRow(u8, &'static [u8], bool),
+    /// A get that is refused for this reason.
+    NotRead(&'static [u8], &'static [u8], TableFault),
+    /// The last name of a table.
+    LastName(&'static [u8]),
+    /// The last below one.
+    Before(&'static [u8], &'static [u8]),
+    /// There is none.
+    NoneBefore(&'static [u8]),
     Open,
     Keep,
 }
 
 use Step::{
-    Above, Absent, At, Chunk, Create, Delete, Drop, Empty, First, Get, Keep, Leave, NoneAbove,
-    NoneAt, NotDropped, NotMade, Open, Put, Refused, Row, Unname,
+    Above, Absent, Add, AddNone, Aside, AsideNone, AsideRow, At, Batch, BatchRefused, Before,
+    Chunk, Create, Delete, Drop, Empty, First, Get, Keep, LastName, Leave, NoneAbove, NoneAt,
+    NoneBefore, NotDropped, NotMade, NotRead, Open, Put, Refused, Row, Stand, Unname,
 };
 
 // A byte so many times.
@@ -210,8 +236,95 @@ fn has_chunk(home: &mut Home, number: u64) -> Result<bool, Fail>
     Ok(chunk.is_some())
 }
 
+// A change that the next batch makes.
+fn add(
+    changes: &mut Vec<Change>,
+    name: &[u8],
+    key: &[u8],
+    value: Option<Vec<u8>>,
+) -> Result<bool, Fail> {
+    changes.push(Change {
+        table: Name::new(name)?,
+        key: RowKey::new(key)?,
+        value,
+    })?;
+    Ok(true)
+}
+
+// What a batch of all that was added answers.
+fn batched(home: &mut Home, changes: &mut Vec<Change>) -> Result<(), TableFault>
+    requires { IsReady home.old holding }
+    ensures { IsReady home.new holding }
+{
+    let answer = batch(home, changes.as_slice());
+    changes.clear();
+    answer
+}
+
+fn set_aside(home: &mut Home, number: u8, key: &[u8], value: &[u8]) -> Result<bool, Fail>
+    requires { IsReady home.old holding }
+    ensures { IsReady home.new holding }
+{
+    if value.len() > 511 {
+        return Ok(false);
+    }
+    let key = RowKey::new(key)?;
+    let table = TableNumber { bytes: [0, number] };
+    Ok(home.change(aside_row(table, &key, whole(value))) == Ok(()))
+}
+
+fn set_none_aside(home: &mut Home, number: u8, key: &[u8]) -> Result<bool, Fail>
+    requires { IsReady home.old holding }
+    ensures { IsReady home.new holding }
+{
+    let key = RowKey::new(key)?;
+    let table = TableNumber { bytes: [0, number] };
+    Ok(home.change(aside_row(table, &key, no_row())) == Ok(()))
+}
+
+fn has_aside(home: &mut Home, number: u8, key: &[u8]) -> Result<bool, Fail>
+    requires { IsReady home.old holding }
+    ensures { IsReady home.new holding }
+{
+    let key = RowKey::new(key)?;
+    let table = TableNumber { bytes: [0, number] };
+    let row = home.get(&aside_key(table, &key))?;
+    Ok(row.is_some())
+}
+
+// Why a get is refused, if it is.
+fn not_read(home: &mut Home, name: &[u8], key: &[u8]) -> Result<Option<TableFault>, Fail>
+    requires { IsReady home.old holding }
+    ensures { IsReady home.new holding }
+{
+    let name = Name::new(name)?;
+    let key = RowKey::new(key)?;
+    Ok(get(home, &name, &key).err())
+}
+
+fn is_name(found: Option<Name>, wanted: &[u8]) -> bool {
+    match found {
+        Some(found) => found.as_slice() == wanted,
+        None => false,
+    }
+}
+
+fn before(home: &mut Home, name: &[u8]) -> Result<Option<Name>, Fail>
+    requires { IsReady home.old holding }
+    ensures { IsReady home.new holding }
+{
+    let name = Name::new(name)?;
+    let found = name_before(home, &name)?;
+    Ok(found)
+}
+
 // Whether the step goes as told.
-fn goes(alloc: Global, home: &mut Home, step: &Step) -> Result<bool, Fail>
+fn goes(
+    alloc: Global,
+    home: &mut Home,
+    changes: &mut Vec<Change>,
+    step: &Step,
+) -> Result<bool, Fail>
     requires { IsReady home.old holding }
     ensures { IsReady home.new holding }
 {
@@ -247,6 +360,24 @@ fn goes(alloc: Global, home: &mut Home, step: &Step) -> Result<bool, Fail>
             left(home, *number, value.as_slice())
         }
         Chunk(number, there) => Ok(has_chunk(home, *number)? == *there),
+        Add(name, key, byte, len) => {
+            let value = bytes_of(alloc, *byte, *len)?;
+            add(changes, *name, *key, Some(value))
+        }
+        AddNone(name, key) => add(changes, *name, *key, None),
+        Batch => Ok(batched(home, changes) == Ok(())),
+        BatchRefused(fault) => Ok(batched(home, changes) == Err(*fault)),
+        Aside(number, key, byte, len) => {
+            let value = bytes_of(alloc, *byte, *len)?;
+            set_aside(home, *number, *key, value.as_slice())
+        }
+        AsideNone(number, key) => set_none_aside(home, *number, *key),
+        Stand => Ok(home.change(batch_step()) == Ok(())),
+        AsideRow(number, key, there) => Ok(has_aside(home, *number, *key)? == *there),
+        NotRead(name, key, fault) => Ok(not_read(home, *name, *key)? == Some(*fault)),
+        LastName(name) => Ok(is_name(last_name(home)?, *name)),
+        Before(name, wanted) => Ok(is_name(before(home, *name)?, *wanted)),
+        NoneBefore(name) => Ok(before(home, *name)?.is_none()),
         Open => Ok(open(home) == Ok(())),
         Keep => Ok(keep(home) == Ok(())),
     }
@@ -257,6 +388,8 @@ fn goes(alloc: Global, home: &mut Home, step: &Step) -> Result<bool, Fail>
 struct Walks {
     steps: &'static [Step],
     at: usize,
+    // What the next batch makes.
+    changes: Vec<Change>,
 }
 
 impl<R: System> Legs<R> for Walks {
@@ -267,7 +400,7 @@ impl<R: System> Legs<R> for Walks {
         let Some(step) = self.steps.get(self.at) else {
             return Some(Ok(self.at));
         };
-        match goes(rt.alloc(), home, step) {
+        match goes(rt.alloc(), home, &mut self.changes, step) {
             Ok(true) => {
                 self.at = self.at.saturating_add(1);
                 None
@@ -289,6 +422,7 @@ fn wrong_in<R: System>(
         let mut walks = Walks {
             steps: *steps,
             at: 0,
+            changes: Vec::new(rt.alloc()),
         };
         let went = with_store_in_legs(rt, path, options, &mut walks)??;
         if went != steps.len() {
@@ -478,6 +612,104 @@ const WALKED: [Step; 21] = [
 #[test]
 fn a_walk_goes_over_one_table(rt: HostRuntime) -> Result<(), Fail> {
     let wrong = wrong_in(&rt, "call_tests_walked", &Options::default(), &[&WALKED])?;
+    assert_eq!(&rt; wrong, None);
+    Ok(())
+}
+
+// A batch changes keys of two tables at once, a later change of a key before an earlier one.
+const BATCHES: [Step; 26] = [
+    Create(b"a"),
+    Create(b"b"),
+    Put(b"a", b"k", b'1', 1),
+    Put(b"a", b"l", b'2', 600),
+    Add(b"a", b"k", b'3', 700),
+    Add(b"b", b"k", b'4', 2),
+    AddNone(b"a", b"l"),
+    Add(b"b", b"k", b'5', 0),
+    Batch,
+    Get(b"a", b"k", b'3', 700),
+    Absent(b"a", b"l"),
+    Get(b"b", b"k", b'5', 0),
+    AsideRow(0, b"k", false),
+    Chunk(0, false),
+    Chunk(1, true),
+    Add(b"a", b"k", b'6', 1),
+    Add(b"c", b"k", b'7', 1),
+    BatchRefused(TableFault::NoTable),
+    Get(b"a", b"k", b'3', 700),
+    Batch,
+    LastName(b"b"),
+    Before(b"b", b"a"),
+    NoneBefore(b"a"),
+    Add(b"a", b"m", b'8', 16_777_217),
+    BatchRefused(TableFault::TooLong),
+    Keep,
+];
+
+const BATCHES_FOUND: [Step; 4] = [
+    Open,
+    Get(b"a", b"k", b'3', 700),
+    Get(b"b", b"k", b'5', 0),
+    AsideRow(0, b"k", false),
+];
+
+#[test]
+fn a_batch_is_one_step(rt: HostRuntime) -> Result<(), Fail> {
+    let wrong = wrong_in(
+        &rt,
+        "call_tests_batch",
+        &Options::default(),
+        &[&BATCHES, &BATCHES_FOUND],
+    )?;
+    assert_eq!(&rt; wrong, None);
+    Ok(())
+}
+
+// A batch was stopped before its step.
+const SET_ASIDE: [Step; 8] = [
+    Create(b"a"),
+    Put(b"a", b"k", b'1', 1),
+    Put(b"a", b"l", b'2', 2),
+    Aside(0, b"k", b'3', 3),
+    AsideNone(0, b"l"),
+    Get(b"a", b"k", b'1', 1),
+    Get(b"a", b"l", b'2', 2),
+    Keep,
+];
+
+// It goes away. Another is stopped after its step.
+const STANDS: [Step; 11] = [
+    Open,
+    AsideRow(0, b"k", false),
+    Get(b"a", b"k", b'1', 1),
+    Get(b"a", b"l", b'2', 2),
+    Aside(0, b"k", b'4', 4),
+    AsideNone(0, b"l"),
+    Stand,
+    NotRead(b"a", b"k", TableFault::Unfinished),
+    Refused(b"a", b"k", 1, TableFault::Unfinished),
+    BatchRefused(TableFault::Unfinished),
+    Keep,
+];
+
+// It is carried out.
+const CARRIED: [Step; 6] = [
+    NotRead(b"a", b"k", TableFault::Unfinished),
+    Open,
+    Get(b"a", b"k", b'4', 4),
+    Absent(b"a", b"l"),
+    AsideRow(0, b"k", false),
+    Put(b"a", b"k", b'5', 1),
+];
+
+#[test]
+fn an_opening_carries_a_batch_out(rt: HostRuntime) -> Result<(), Fail> {
+    let wrong = wrong_in(
+        &rt,
+        "call_tests_stands",
+        &Options::default(),
+        &[&SET_ASIDE, &STANDS, &CARRIED],
+    )?;
     assert_eq!(&rt; wrong, None);
     Ok(())
 }

@@ -1,3 +1,4 @@
+use Rattle.std.proofs.Common.{inl}
 use Rattle.bw_calls.proofs.PlainLaws.{freed}
 use Rattle.bw_calls.proofs.PlainLaws.{itself}
 use Rattle.bw_calls.proofs.NameLaws.{named_after}
@@ -9,7 +10,7 @@ returns-clause-stays g c = λ lawful none.
 
 pub returns-clause-leaves : goal.returns-clause-leaves
 returns-clause-leaves g c = λ lawful none ts among stops.
-    c.prepare.ensures.leaves ts (_, among, c.free_group.ensures.frees _ _ (itself _ lawful) none) stops
+    c.prepare.ensures.leaves ts (_, among, inl (c.free_group.ensures.frees _ _ (itself _ lawful) none)) stops
 
 pub returns-clause-names : goal.returns-clause-names
 returns-clause-names g c = named_after _ _ c.free_group.result c.prepare.result c.free_group.ensures.names c.prepare.ensures.changed c.prepare.ensures.refused

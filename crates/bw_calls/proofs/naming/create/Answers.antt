@@ -1,4 +1,4 @@
-use Rattle.std.proofs.Common.{◌≡◌, false, Some, rules}
+use Rattle.std.proofs.Common.{inl, ◌≡◌, false, Some, rules}
 use Rattle.std.specs.Prelude.{IfErr}
 use Rattle.bw_rows.specs.Meaning.{tables_of}
 use Rattle.bw_rows.specs.Laws.{empty_table, with_table}
@@ -51,4 +51,4 @@ returns-clause-leaves g c = λ lawful ts was now stops.
     let m = (maps_of c.args.home.now (λ z. (goal.Segment-dyn g z).holding z.1)).put in
     let done = made m _ _ c.args.name.now c.in_ok-table.table.bytes c.create_step.result c.create_step.ensures.step lawful c.number_of.ensures.same
     c.free_number.ensures.same c.in_ok-table.ensures.free in
-    c.step.ensures.leaves ts (with_table (tables_of (plain_of m)) c.args.name.now (Some empty_table), now, done) (c.free_number.ensures.leaves ts (c.number_of.ensures.leaves ts stops))
+    c.step.ensures.leaves ts (with_table (tables_of (plain_of m)) c.args.name.now (Some empty_table), now, inl done) (c.free_number.ensures.leaves ts (c.number_of.ensures.leaves ts stops))

@@ -1,4 +1,4 @@
-use Rattle.std.proofs.Common.{◌≡◌, false, None, rules, sym, subst}
+use Rattle.std.proofs.Common.{inl, ◌≡◌, false, None, rules, sym, subst}
 use Rattle.std.specs.Prelude.{IfErr}
 use Rattle.bw_rows.specs.Meaning.{tables_of}
 use Rattle.bw_rows.specs.Laws.{IsTables, with_table}
@@ -34,7 +34,7 @@ pub returns-in-Ok-clause-leaves : goal.returns-in-Ok-clause-leaves
 returns-in-Ok-clause-leaves g c = λ lawful ts was now stops.
     let m = (maps_of c.args.home.now (λ z. (goal.Segment-dyn g z).holding z.1)).put in
     let done = unnamed m _ c.args.name.now c.drop_step.result c.drop_step.ensures.step lawful c.number_of.ensures.same in
-    let stepped = c.step.ensures.leaves ts (with_table (tables_of (plain_of m)) c.args.name.now None, now, done) (c.number_of.ensures.leaves ts stops) in
+    let stepped = c.step.ensures.leaves ts (with_table (tables_of (plain_of m)) c.args.name.now None, now, inl done) (c.number_of.ensures.leaves ts stops) in
     let there = subst (IsTables (with_table (tables_of (plain_of m)) c.args.name.now None)) (sym c.in-Ok.ensures.changed) done in
     c.clear.ensures.leaves there.lawful ts (in_its ts _ _ there now) stepped
 
@@ -48,5 +48,5 @@ pub returns-in-Err-clause-leaves : goal.returns-in-Err-clause-leaves
 returns-in-Err-clause-leaves g c = λ lawful ts was now stops.
     let m = (maps_of c.args.home.now (λ z. (goal.Segment-dyn g z).holding z.1)).put in
     let done = unnamed m _ c.args.name.now c.drop_step.result c.drop_step.ensures.step lawful c.number_of.ensures.same in
-    let stepped = c.step.ensures.leaves ts (with_table (tables_of (plain_of m)) c.args.name.now None, now, done) (c.number_of.ensures.leaves ts stops) in
+    let stepped = c.step.ensures.leaves ts (with_table (tables_of (plain_of m)) c.args.name.now None, now, inl done) (c.number_of.ensures.leaves ts stops) in
     stepped

@@ -1,4 +1,4 @@
-use Rattle.std.proofs.Common.{◌≡◌, [], ◌∷◌}
+use Rattle.std.proofs.Common.{inl, ◌≡◌, [], ◌∷◌}
 use Rattle.bw_record.specs.declared.record.Record.TheVariants.{Del}
 use Rattle.bw_rows.specs.Spelling.{gone_key}
 use Rattle.bw_calls.proofs.PlainLaws.{itself, kept_by, wrote}
@@ -15,4 +15,4 @@ pub returns-clause-leaves : goal.returns-clause-leaves
 returns-clause-leaves g c = λ lawful ts among stops.
     let is : c.one.result ≡ Del (gone_key c.args.table.bytes) ∷ [] = rw (c.one.ensures, c.gone_key.ensures) in
     let done = forgets _ c.args.table.bytes c.one.result is lawful in
-    c.prepare.ensures.leaves ts (_, among, done) stops
+    c.prepare.ensures.leaves ts (_, among, inl done) stops

@@ -1,3 +1,4 @@
+use Rattle.std.proofs.Common.{inl}
 use Rattle.bw_tables.specs.Writing.{named}
 use Rattle.bw_calls.proofs.PlainLaws.{itself, moved, kept_by, wrote}
 use Rattle.bw_calls.proofs.NameLaws.{dropped_row, named_after, named_moved, named_then}
@@ -25,7 +26,7 @@ pub returns-in_err-prepare-clause-leaves : goal.returns-in_err-prepare-clause-le
 returns-in_err-prepare-clause-leaves g c = λ lawful none ts among stops.
     let group = c.drop_row.result in
     let done = dropped_row _ _ c.args.table.bytes c.args.key.now (named c.in_ok-old.old) group c.drop_row.ensures.drops lawful none c.head_of.ensures.same c.in_ok-old.ensures.head in
-    c.prepare.ensures.leaves ts (_, among, done) (c.head_of.ensures.leaves ts stops)
+    c.prepare.ensures.leaves ts (_, among, inl done) (c.head_of.ensures.leaves ts stops)
 
 pub returns-clause-stays : goal.returns-clause-stays
 returns-clause-stays g c = λ lawful none.
@@ -40,4 +41,4 @@ pub returns-clause-leaves : goal.returns-clause-leaves
 returns-clause-leaves g c = λ lawful none ts among stops.
     let group = c.drop_row.result in
     let done = dropped_row _ _ c.args.table.bytes c.args.key.now (named c.in_ok-old.old) group c.drop_row.ensures.drops lawful none c.head_of.ensures.same c.in_ok-old.ensures.head in
-    c.prepare.ensures.leaves ts (_, among, done) (c.head_of.ensures.leaves ts stops)
+    c.prepare.ensures.leaves ts (_, among, inl done) (c.head_of.ensures.leaves ts stops)

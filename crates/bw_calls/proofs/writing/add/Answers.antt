@@ -1,5 +1,6 @@
 use Rattle.bw_calls.proofs.PlainLaws.{gone_on, gone_on_in_vain, gone_on_same}
-use Rattle.std.proofs.Common.{◌-◌}
+use Rattle.std.proofs.Common.{inl, ◌≡◌, ◌-◌, length, rules}
+use Rattle.bw_calls.proofs.OtherLaws.{gone_on_others}
 use Rattle.bw_calls.proofs.writing.add.Goals as goal
 
 pub returns-clause-goes_on : goal.returns-clause-goes_on
@@ -18,4 +19,9 @@ returns-clause-stays g c = λ tables h.
 pub returns-clause-leaves : goal.returns-clause-leaves
 returns-clause-leaves g c = λ tables h ts among stops.
     let written = c.chunk_group.ensures.goes_on tables _ h in
-    c.prepare.ensures.leaves ts (tables, among, written.stays) stops
+    c.prepare.ensures.leaves ts (tables, among, inl written.stays) stops
+
+pub returns-clause-others : goal.returns-clause-others
+returns-clause-others g c =
+    let wide : length c.args.number.bytes ≡ 8 = search rules in
+    gone_on_others _ _ c.args.number.bytes c.args.value.now c.args.from (c.args.to - c.args.from) c.chunk_group.result c.prepare.result wide c.chunk_group.ensures.records c.prepare.ensures.changed

@@ -2,6 +2,7 @@ use Rattle.std.proofs.Common.{◌≡◌, subst, arith}
 use Rattle.bw_tables.specs.Writing.{IsWriting}
 use Rattle.bw_calls.specs.Standing.{plain_in}
 use Rattle.bw_calls.proofs.PlainLaws.{same_then, on_err}
+use Rattle.bw_calls.proofs.OtherLaws.{others_then}
 use Rattle.bw_calls.proofs.writing.add_all.Goals as goal
 
 pub returns-in_err-add-clause-stays : goal.returns-in_err-add-clause-stays
@@ -16,6 +17,7 @@ groups-preserved g c =
         record {
           writing = λ tables h. c.in_ok-add.ensures.goes_on tables (so_far.writing tables h);
           same = same_then _ _ _ so_far.same c.in_ok-add.ensures.rows;
+          others = others_then _ _ _ _ so_far.others c.in_ok-add.ensures.others;
         },
         c.end_of-end.ensures.2,
       ),

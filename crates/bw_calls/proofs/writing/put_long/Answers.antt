@@ -1,4 +1,4 @@
-use Rattle.std.proofs.Common.{◌≡◌, false, refl, Some, rules}
+use Rattle.std.proofs.Common.{inl, ◌≡◌, false, refl, Some, rules}
 use Rattle.std.specs.Prelude.{IfErr}
 use Rattle.bw_tables.specs.Writing.{named}
 use Rattle.bw_calls.specs.Standing.{plain_in, waits}
@@ -43,7 +43,7 @@ returns-in-Ok-clause-leaves g c = λ lawful name its ts was now stops.
     let p = plain_in c.args.home.now (λ z. (goal.Segment-dyn g z).holding z.1) in
     let made = set_long_at p _ _ _ c.args.table.bytes c.args.key.now c.in_ok-number.number.bytes c.args.value.now (named c.in_ok-old.old) c.long_step.result c.head_of.ensures.same
     (c.in_ok-number.ensures.written lawful) c.in_ok-number.ensures.rows c.long_step.ensures.step c.in_ok-old.ensures.head refl name its in
-    let stepped = c.step.ensures.leaves ts (with_value (tables_of p) name c.args.key.now (Some c.args.value.now), now, made)
+    let stepped = c.step.ensures.leaves ts (with_value (tables_of p) name c.args.key.now (Some c.args.value.now), now, inl made)
     (c.head_of.ensures.leaves ts (c.write.ensures.leaves lawful ts was stops)) in
     let set = set_long_at p _ _ _ c.args.table.bytes c.args.key.now c.in_ok-number.number.bytes c.args.value.now (named c.in_ok-old.old) c.long_step.result c.head_of.ensures.same
     (c.in_ok-number.ensures.written lawful) c.in_ok-number.ensures.rows c.long_step.ensures.step c.in_ok-old.ensures.head c.in-Ok.ensures.changed name its in
@@ -54,6 +54,6 @@ returns-in-Err-clause-leaves g c = λ lawful name its ts was now stops.
     let p = plain_in c.args.home.now (λ z. (goal.Segment-dyn g z).holding z.1) in
     let made = set_long_at p _ _ _ c.args.table.bytes c.args.key.now c.in_ok-number.number.bytes c.args.value.now (named c.in_ok-old.old) c.long_step.result c.head_of.ensures.same
     (c.in_ok-number.ensures.written lawful) c.in_ok-number.ensures.rows c.long_step.ensures.step c.in_ok-old.ensures.head refl name its in
-    let stepped = c.step.ensures.leaves ts (with_value (tables_of p) name c.args.key.now (Some c.args.value.now), now, made)
+    let stepped = c.step.ensures.leaves ts (with_value (tables_of p) name c.args.key.now (Some c.args.value.now), now, inl made)
     (c.head_of.ensures.leaves ts (c.write.ensures.leaves lawful ts was stops)) in
     stepped

@@ -1,4 +1,4 @@
-use Rattle.std.proofs.Common.{◌≡◌, false, refl, Some, rules}
+use Rattle.std.proofs.Common.{inl, ◌≡◌, false, refl, Some, rules}
 use Rattle.std.specs.Prelude.{IfErr}
 use Rattle.bw_tables.specs.Writing.{named}
 use Rattle.bw_calls.specs.Standing.{plain_in, waits}
@@ -31,7 +31,7 @@ returns-in-Ok-clause-leaves g c = λ lawful name its ts was now stops.
     let p = plain_in c.args.home.now (λ z. (goal.Segment-dyn g z).holding z.1) in
     let made = set_at _ _ _ c.args.table.bytes c.args.key.now (Some c.args.value.now) (named c.in_ok-old.old) c.short_step.result c.head_of.ensures.same lawful
     c.short_step.ensures.step c.in_ok-old.ensures.head refl name its in
-    let stepped = c.step.ensures.leaves ts (with_value (tables_of p) name c.args.key.now (Some c.args.value.now), now, made) (c.head_of.ensures.leaves ts stops) in
+    let stepped = c.step.ensures.leaves ts (with_value (tables_of p) name c.args.key.now (Some c.args.value.now), now, inl made) (c.head_of.ensures.leaves ts stops) in
     let set = set_at _ _ _ c.args.table.bytes c.args.key.now (Some c.args.value.now) (named c.in_ok-old.old) c.short_step.result c.head_of.ensures.same lawful
     c.short_step.ensures.step c.in_ok-old.ensures.head c.in-Ok.ensures.changed name its in
     c.collect_old.ensures.leaves set.lawful ts (in_its ts _ _ set now) stepped
@@ -41,5 +41,5 @@ returns-in-Err-clause-leaves g c = λ lawful name its ts was now stops.
     let p = plain_in c.args.home.now (λ z. (goal.Segment-dyn g z).holding z.1) in
     let made = set_at _ _ _ c.args.table.bytes c.args.key.now (Some c.args.value.now) (named c.in_ok-old.old) c.short_step.result c.head_of.ensures.same lawful
     c.short_step.ensures.step c.in_ok-old.ensures.head refl name its in
-    let stepped = c.step.ensures.leaves ts (with_value (tables_of p) name c.args.key.now (Some c.args.value.now), now, made) (c.head_of.ensures.leaves ts stops) in
+    let stepped = c.step.ensures.leaves ts (with_value (tables_of p) name c.args.key.now (Some c.args.value.now), now, inl made) (c.head_of.ensures.leaves ts stops) in
     stepped

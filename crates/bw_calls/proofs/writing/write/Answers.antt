@@ -1,5 +1,6 @@
 use Rattle.bw_calls.proofs.PlainLaws.{all_same, itself, moved, lawful_moved, tables_from, unnamed_from, written_from, on_err}
 use Rattle.bw_calls.proofs.LeaveLaws.{in_moved}
+use Rattle.bw_calls.proofs.OtherLaws.{all_others}
 use Rattle.bw_calls.proofs.writing.write.Goals as goal
 
 pub returns-in_err-number-clause-stays : goal.returns-in_err-number-clause-stays
@@ -53,3 +54,6 @@ returns-clause-leaves g c = λ lawful ts among stops.
     let its = in_moved ts _ _ c.fresh.ensures.same among in
     let begun = c.begin.ensures.leaves still unnamed ts its (c.fresh.ensures.leaves ts stops) in
     c.add_all.ensures.leaves _ (c.in_ok-begin.ensures.begins still unnamed) ts its begun
+
+pub returns-clause-others : goal.returns-clause-others
+returns-clause-others g c = all_others _ _ c.in_ok-number.number.bytes _ _ c.fresh.ensures.same c.in_ok-begin.ensures.others c.in_ok-add_all.ensures.others
