@@ -71,7 +71,7 @@ test:
 	python3 tests/program/growth.py
 	python3 tests/program/beside.py
 	python3 tests/program/follow.py
-	python3 tests/program/tables_crash.py 300 10
+	python3 tests/program/tables_crash.py 100 5
 	python3 tools/refuse.py --every 5
 
 check:

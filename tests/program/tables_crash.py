@@ -12,6 +12,9 @@ last `keep` that was answered, and not after the call in flight. Then the folder
 is half done: no number is doomed, no table is gone, no batch stands and no row is aside, and of each value there are all chunks and no others. Some of the
 folders are the beginning of a further run, whose opening is stopped likewise.
 
+A call of each kind, and then the opening that follows, is stopped after each of its groups: a frame ends there, since what was put before is of that
+length.
+
 Then runs are killed at random moments, and what they leave is asked the same. And wrong folders and a wrong model have to be told as such."""
 
 import os
@@ -116,6 +119,13 @@ class Script:
             if draw.random() < 0.1:
                 self.keep()
         self.keep()
+
+    @staticmethod
+    def of(lines):
+        """These lines, of which nothing is known."""
+        script = Script.__new__(Script)
+        script.lines = lines
+        return script
 
     def add(self, lines, left):
         self.lines += lines
@@ -312,6 +322,136 @@ def lives(shim, room, draw, seen, most):
     return count
 
 
+# ---- a stop after each group of a call
+
+# The most bytes of a frame, and what a row adds to one beside its value.
+FRAME, ROW, AROUND = 65536, 480, 9
+# A table of its own, whose only row takes up what is left of a frame.
+FILLER, FILLER_ROW = b"filler", bytes.fromhex("00006b")
+
+
+def filling(size, row):
+    """Lines that put so many bytes into a frame, all in one row."""
+    count, rest = divmod(size - AROUND, ROW + AROUND)
+    return [row(bytes(ROW))] * count + [row(bytes(rest))]
+
+
+class Stops:
+    """Stops one call after each of its groups: what comes before it in the frame that is being made is so long that the frame ends there."""
+
+    def __init__(self, shim, room, seen, files, setup, row, lines, before, after):
+        self.shim, self.room, self.seen, self.files = shim, room, seen, files
+        self.setup, self.row, self.lines, self.span = setup, row, lines, [before, after]
+        self.states, self.images = {}, []
+
+    def after(self, size):
+        """What stands of the call if so many bytes come before it: a text where no frame ends in it."""
+        if size not in self.states:
+            self.states[size] = self.look(size)
+        return self.states[size]
+
+    def look(self, size):
+        script = Script.of(self.setup + filling(size, self.row) + self.lines)
+        begin = len(script.lines) - len(self.lines)
+        disk, answered, state = Disk(self.files, 0), 0, "late"
+        for note in watched(self.shim, self.room, script, self.files, SHAPES[0]):
+            if note[3] == "told":
+                answered += note[4].count(b"\n")
+                continue
+            note = without_folder(note)
+            if note[0] == "w" and note[3].endswith(".bw") and answered >= len(self.setup):
+                if answered < begin:
+                    return "early"
+                *_, (left, _) = disk.left(note, random, 0)
+                return self.judge(dict(left))
+            disk.ask(note)
+        return state
+
+    def judge(self, files):
+        """The pairs of a folder that was stopped amid the call; it is looked at if none was like it."""
+        image = os.path.join(self.room, "left")
+        write(image, files)
+        pairs = pairs_of(image)
+        state = frozenset(pair for pair in pairs.items() if pair[0] != b"\x08" + FILLER_ROW)
+        if state not in self.states.values():
+            look(image, [with_filler(tables, pairs) for tables in self.span], self.seen)
+            self.images.append((files, pairs))
+        return state
+
+    def between(self, low, high):
+        """Looks for each state between two that are known."""
+        if high - low > 1 and self.after(low) != self.after(high):
+            middle = (low + high) // 2
+            self.between(low, middle)
+            self.between(middle, high)
+
+    def all(self):
+        """How many states there are amid the call."""
+        self.between(FRAME - 30000, FRAME)
+        ask((self.after(FRAME - 30000), self.after(FRAME)) == ("late", "early"), "the call is longer than a frame")
+        return len({state for state in self.states.values() if state not in ("late", "early")})
+
+
+def with_filler(tables, pairs):
+    row = pairs.get(b"\x08" + FILLER_ROW)
+    ask(row is not None, "what was kept is not there")
+    return {**tables, FILLER: {b"k": row[1:]}}
+
+
+def row_of_table(value):
+    return line_of((FILLER, b"k", value))
+
+
+def row_of_store(value):
+    return "raw 08%s %s" % (FILLER_ROW.hex(), word_of(b"\x00" + value))
+
+
+def calls_of_each_kind(draw):
+    """Of each call the tables before it, its changes, its lines and the least number of places in it: those between its groups, as docs/TABLES.md has
+    them."""
+    a, b, other = (draw.randbytes(length) for length in (1025, 1500, 2000))
+    start = {b"t": {b"long": a, b"short": b"1", b"more": b}, b"u": {b"long": b}}
+    yield "a long value over a long one", start, [(b"t", b"long", other)], 5
+    yield "a short value over a long one", start, [(b"t", b"long", b"2")], 2
+    yield "a long value over a short one", start, [(b"t", b"short", other)], 2
+    yield "a delete of a long value", start, [(b"t", b"long", None)], 2
+    yield "a batch", start, [(b"t", b"long", other), (b"u", b"long", a), (b"t", b"more", None), (b"u", b"new", b"3"), (b"t", b"short", b"4"), (b"t", b"new", b"5")], 14
+    yield "a small batch", start, [(b"t", b"short", b"2"), (b"u", b"new", b"3"), (b"t", b"gone", None)], 0
+    yield "a drop", start, None, 5
+
+
+def each_group(shim, room, draw, seen, kinds):
+    """Stops calls of these kinds, and the openings that follow, after each of their groups; how many folders were looked at."""
+    count = 0
+    for what, start, changes, least in calls_of_each_kind(draw):
+        if what not in kinds:
+            continue
+        setup = ["open", "create " + word_of(FILLER), "put %s 6b 00" % word_of(FILLER)]
+        for name, rows in start.items():
+            setup += ["create " + word_of(name)] + [line_of((name, key, value)) for key, value in rows.items()]
+        after = {name: rows for name, rows in start.items() if name != b"t"}
+        lines = ["drop " + word_of(b"t")]
+        if changes is not None:
+            lines = [line_of(change) for change in changes]
+            lines = ["batch %d" % len(lines)] + lines if len(lines) > 1 else lines
+            after = start
+            for change in changes:
+                after = put(after, *change)
+        stops = Stops(shim, room, seen, {}, [*setup, "keep"], row_of_table, lines, start, after)
+        found = stops.all()
+        ask(found >= least, what, "was stopped in", found, "places, of at least", least)
+        count += found
+        files, pairs = max(stops.images, key=lambda image: (len(half_done(image[1])), len(image[1])))
+        tables = {name: rows for name, rows in tables_in(pairs).items() if name != FILLER}
+        # (the first line comes behind what an opening of the files themselves writes)
+        again = Stops(shim, room, seen, files, [row_of_store(b"")], row_of_store, ["open"], tables, tables)
+        count += again.all()
+    return count
+
+
+KINDS = [what for what, *_ in calls_of_each_kind(random)]
+
+
 # ---- processes that are killed
 
 
@@ -376,13 +516,14 @@ def wrong_is_told(room, draw):
 
 def main():
     draw = random.Random(SEED)
-    seen, runs, folders, kills = {}, 0, 0, 0
+    seen, runs, folders, kills, places = {}, 0, 0, 0, 0
     try:
         ask(os.path.exists(BUILT), BUILT + " is not built: make run")
         ask(os.path.exists(DRIVER), DRIVER + " is not built: rt ci")
         with tempfile.TemporaryDirectory(dir=FAST, prefix="bw-tables-") as room:
             shim = shim_of("watch", room)
             wrong_is_told(room, draw)
+            places = each_group(shim, room, draw, seen, KINDS)
             while folders < FOLDERS:
                 folders += lives(shim, room, draw, seen, min(300, FOLDERS))
                 runs += 3
@@ -393,6 +534,7 @@ def main():
     except Wrong as wrong:
         print("seed %d, run %d: %s" % (SEED, runs, wrong))
         return 1
+    print("%d places between the groups of %d calls, and of the openings after them: the tables before the call, or after it" % (places, len(KINDS)))
     told_half = ", ".join("%s in %d" % (what, seen.get(kind, 0)) for kind, what in HALF_DONE.items())
     print("%d folders of %d runs, and %d runs that were killed: each has the tables after a whole call, not before the last kept one" % (folders, runs, kills))
     print("before its opening " + told_half)
