@@ -27,7 +27,7 @@ const SUBJECTS: [(&'static str, Subject); 7] = [
     ("a table with a long value", Subject::TableWithLong),
     ("batches of 100", Subject::Batches(100)),
     ("batches of 1000", Subject::Batches(1_000)),
-    ("long values", Subject::Long(16)),
+    ("long values", Subject::Long),
     ("openings", Subject::Openings),
 ];
 

@@ -24,8 +24,8 @@ pub enum Subject {
     TableWithLong,
     /// The same pairs, in batches of so many.
     Batches(u64),
-    /// Values of 1 MiB, so many.
-    Long(u64),
+    /// Values of 1 MiB.
+    Long,
     /// Openings that find nothing left half done.
     Openings,
 }
@@ -138,6 +138,11 @@ fn delete_long(home: &mut Home, table: &Name, count: u64) -> Result<()>
     Ok(())
 }
 
+// How many long values there are. One is enough to see that it is read back.
+fn many_long(meter: Meter) -> u64 {
+    if meter.is_timed { 16 } else { 1 }
+}
+
 // Long values: new, changed, read, deleted.
 fn long<R: Host + System>(rt: &R, home: &mut Home, count: u64, meter: Meter) -> Result<()>
     requires { IsReady home.old holding }
@@ -211,7 +216,7 @@ impl<R: Host + System> Course<R> for Bench {
                 rows(rt, home, self.count, self.meter)
             }
             Subject::Batches(size) => batches(rt, home, self.count, size, self.meter),
-            Subject::Long(many) => long(rt, home, many, self.meter),
+            Subject::Long => long(rt, home, many_long(self.meter), self.meter),
             Subject::Openings => openings(rt, home, self.count, self.meter),
         }
     }
