@@ -23,11 +23,15 @@ const USERS: [(&'static str, &'static str); 5] = [
     ("Nobody", "Nowhere"),
 ];
 
-// Adds the users, each under the next number. Then one gets another name, and one goes.
+// Adds the users, each under the next number, if there are none. Then one gets another name, and
+// one goes.
 fn fill(home: &mut Home, alloc: Global) -> Result<()>
     requires { IsReady home.old holding }
     ensures { IsReady home.new holding }
 {
+    if !users::are_none(home)? {
+        return Ok(());
+    }
     let mut number = 0u32;
     'users: for (name, city) in USERS {
         number = number.saturating_add(1);
@@ -48,9 +52,7 @@ impl<R: System + Print> Course<R> for Tour {
 
     fn run(self, rt: &R, home: &mut Home) -> Result<()> {
         users::open(home)?;
-        if users::are_none(home)? {
-            fill(home, rt.alloc())?;
-        }
+        fill(home, rt.alloc())?;
         println!(rt;
             "Alan Turing: {:?}",
             users::named(home, rt.alloc(), "Alan Turing")?
