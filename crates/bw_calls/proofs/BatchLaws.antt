@@ -1,32 +1,31 @@
 -- What each call of a batch makes of a plain map.
 
-use Rattle.std.proofs.Common.{ℕ, zero, suc, ◌≡◌, ◌+◌, ◌<◌, ◌⊎◌, inl, inr, Bool, true, false, cond, Option, Some, None, is_some, List, [], ◌∷◌, ◌++◌, length, take, get_or, add-one, refl, sym, ap, subst, ◌∙◌, nat_eq, ◌&&◌, arith}
-use Rattle.std.specs.Prelude.{IsTrue, Result, Ok, Err, OnOk, OnErr, IfOk, IfErr}
-use Rattle.std.specs.List.{fold, starts_with}
-use Rattle.std.specs.Option.{option_map, option_and_then}
+use Rattle.std.proofs.Common.{ℕ, ◌≡◌, ◌+◌, ◌<◌, ◌⊎◌, inl, inr, Bool, true, false, cond, Option, Some, None, is_some, List, [], ◌∷◌, ◌++◌, length, take, get_or, add-one, refl, sym, ap, subst, ◌∙◌, nat_eq, ◌&&◌, arith}
+use Rattle.std.specs.Prelude.{IsTrue, Result, Ok, Err, OnOk, IfErr}
+use Rattle.std.specs.List.{starts_with}
+use Rattle.std.specs.Option.{option_map}
 use Rattle.std.proofs.lemmas.Bool.{true≢false, eqb-true}
 use Rattle.std.proofs.Math.Seq.{take-suc}
-use Rattle.std.proofs.lemmas.List.Sums.{fold_push, fold-append}
+use Rattle.std.proofs.lemmas.List.Sums.{fold_push}
 use Rattle.bw_record.specs.declared.record.Record.{Record}
 use Rattle.bw_record.specs.declared.record.Record.TheVariants.{Put, Del}
 use Rattle.bw_leaf.specs.Changed.{Map}
-use Rattle.bw_rows.specs.Spelling.{Bytes, name_key, doomed_key, stands_key, aside_key, aside_of, row_key, row_place, chunk_key, chunk_place, chunk_of, head_of, head_row, no_row, whole_row, chunks_in}
+use Rattle.bw_rows.specs.Spelling.{Bytes, name_key, stands_key, aside_key, aside_of, row_place, chunk_of, head_of, head_row, no_row, whole_row, chunks_in}
 use Rattle.bw_rows.specs.Meaning.{Plain, Tables, chunks_of, joined, value_by, tables_of, table_in, with_value}
-use Rattle.bw_rows.specs.Law.{head_at, is_doomed, IsWhole}
-use Rattle.bw_rows.specs.Steps.{changed, after, head_in}
-use Rattle.bw_rows.specs.Laws.{IsLawful, IsTables, HasNumber}
-use Rattle.bw_rows.specs.Batches.{said, batched, FitsAside, HasNoAside, HasOthers, IsGathering, IsLeft, IsNotAside, IsStanding}
+use Rattle.bw_rows.specs.Law.{head_at, is_doomed}
+use Rattle.bw_rows.specs.Steps.{after, head_in}
+use Rattle.bw_rows.specs.Laws.{IsLawful, IsTables}
+use Rattle.bw_rows.specs.Batches.{said, FitsAside, HasNoAside, HasOthers, IsGathering, IsLeft, IsNotAside, IsStanding}
 use Rattle.bw_rows.proofs.Values.{same_number as same_head_number}
-use Rattle.bw_rows.proofs.OneKey.{same_false, chunks_apart}
 use Rattle.bw_rows.proofs.BatchLaws.{aside_law}
 use Rattle.bw_rows.proofs.GatherLaws.{fresh_aside_law, nothing_law, number_law}
 use Rattle.bw_rows.proofs.ChunkLaws.{all_joined}
-use Rattle.bw_tables.specs.Writing.{chunk_record, chunk_records, taking, IsWriting}
+use Rattle.bw_tables.specs.Writing.{IsWriting}
 use Rattle.bw_tables.specs.Calls.{CarriesOut, EndsBatch, MakesBatch, SetsAside}
-use Rattle.bw_calls.specs.Batches.{bytes_in, with_change, with_changes, Gathers}
-use Rattle.bw_calls.specs.Changes.{HasSame, IsFirstOf}
+use Rattle.bw_calls.specs.Batches.{bytes_in, with_change, with_changes, Gathers, LeftBy}
+use Rattle.bw_calls.specs.Changes.{HasSame, HasSameMarks, IsFirstOf}
 use Rattle.bw_calls.specs.declared.batching.Change.{Change}
-use Rattle.bw_calls.proofs.PlainLaws.{plain_of, itself, kept_by, moved, same_number, writing_as, wrote}
+use Rattle.bw_calls.proofs.PlainLaws.{plain_of, itself, kept_by, same_number, writing_as, wrote}
 use Rattle.bw_calls.proofs.LeaveLaws.{number_moved}
 use Rattle.bw_calls.proofs.OtherLaws.{on_then}
 
@@ -79,6 +78,9 @@ pub stays_by : {A E : Type 0} (p new : Plain) (group : List Record) (r : Result 
     → OnOk r (new ≡ after p group) → IfErr r (λ e. (new ≡ p) ⊎ (new ≡ after p group)) → IsTables (tables_of p) new
 stays_by p new group r lawful done ok err = kept_by (tables_of p) p (after p group) new (itself p lawful) done (wrote r p (after p group) new ok err)
 
+pub none_still : (p new : Plain) → HasSameMarks p new → HasNoAside p → HasNoAside new
+none_still p new same none k = same.asides k ∙ none k
+
 -- ---- changes that are set aside
 
 pub gathered_by : {A E : Type 0} (p new : Plain) (t key row : Bytes) (group : List Record) (r : Result A E) → SetsAside t key row group → OnOk r (new ≡ after p group)
@@ -106,6 +108,10 @@ fits_none p = fits_short p no_row refl
 
 fits_whole : (p : Plain) (value : Bytes) → FitsAside p (whole_row value)
 fits_whole p value = fits_short p (whole_row value) refl
+
+pub gathers_as : {A E : Type 0} (p new : Plain) (t key : Bytes) (value other : Option Bytes) (r : Result A E) → value ≡ other → OnOk r (Gathers p t key value new)
+    → OnOk r (Gathers p t key other new)
+gathers_as p new t key value other r same h = subst (λ (v : Option Bytes). OnOk r (Gathers p t key v new)) same h
 
 pub gathers_none : {A E : Type 0} (p new : Plain) (t key row : Bytes) (r : Result A E) → row ≡ no_row
     → OnOk r (FitsAside p row → Gathers p t key (said p (Some row) None) new) → OnOk r (Gathers p t key None new)
@@ -255,3 +261,20 @@ mark_told m m1 key answer its same is told at =
 
 pub stands_by : (tables next : Tables) (p : Plain) (group : List Record) → MakesBatch group → IsGathering tables next p → IsStanding next (after p group)
 stands_by tables next p group makes g = subst (λ (t : Tables). IsStanding t (after p group)) g.makes (makes tables p g.stays g.asides)
+
+pub stands_now : (tables : Tables) (p new : Plain) → IsStanding tables p → new ≡ p → IsStanding tables new
+stands_now tables p new h e = subst (IsStanding tables) (sym e) h
+
+-- what was aside went away, and all changes were set aside then
+pub gathered_all : (was : Tables) (p new : Plain) (changes : List Change) → IsTables was p → HasNoAside p
+    → ((tables next : Tables) → IsGathering tables next p → IsGathering tables (with_changes next changes) new) → IsGathering was (with_changes was changes) new
+gathered_all was p new changes h none gathers = gathers was was (nothing_law was p h none)
+
+-- ---- a batch that was refused
+
+pub batch_before : (was now : Tables) (p : Plain) (b : Bool) → b ≡ false → IsTables was p → LeftBy b was now p
+batch_before was now p b before h = subst (λ (x : Bool). LeftBy x was now p) (sym before) h
+
+pub batch_refused : (was now : Tables) (p q new : Plain) (b : Bool) → IsTables was p → IsLeft now q → new ≡ cond b q p → LeftBy b was now new
+batch_refused was now p q new true h g e = subst (IsLeft now) (sym e) g
+batch_refused was now p q new false h g e = subst (IsTables was) (sym e) h

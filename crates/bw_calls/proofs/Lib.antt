@@ -7,3 +7,4 @@ pub mod WayLaws
 pub mod OtherLaws
 pub mod BatchLaws
 pub mod SmallLaws
+pub mod OpenLaws

@@ -1,8 +1,7 @@
 -- A long value that is written touches what stands under its number only.
 
-use Rattle.std.proofs.Common.{ℕ, zero, suc, ◌≡◌, ◌+◌, Option, Some, None, is_some, cond, List, [], ◌∷◌, ◌++◌, length, refl, sym, ap, subst, ◌∙◌}
+use Rattle.std.proofs.Common.{ℕ, zero, suc, ◌≡◌, ◌+◌, Option, Some, None, is_some, cond, List, [], ◌++◌, length, refl, sym, ap, subst, ◌∙◌}
 use Rattle.std.specs.Prelude.{Result, Ok, Err, OnOk}
-use Rattle.std.specs.List.{fold}
 use Rattle.std.proofs.lemmas.List.Sums.{fold_push, fold-append}
 use Rattle.bw_record.specs.declared.record.Record.{Record}
 use Rattle.bw_leaf.specs.Changed.{Map}
@@ -18,21 +17,27 @@ pub on_then : {A E : Type 0} {P Q : Type 0} (r : Result A E) → (P → Q) → O
 on_then (Ok x) f h = f h
 on_then (Err e) f h = tt
 
+pub on_any : {A E : Type 0} {P : Type 0} (r : Result A E) → P → OnOk r P
+on_any (Ok x) h = h
+on_any (Err e) h = tt
+
 pub others_then : (n : Bytes) (p q r : Plain) → HasOthers n p q → HasOthers n q r → HasOthers n p r
 others_then n p q r a b = record {
   names = λ name. b.names name ∙ a.names name;
   asides = λ k. b.asides k ∙ a.asides k;
+  gone = λ t. b.gone t ∙ a.gone t;
   chunks = λ m i wide other. b.chunks m i wide other ∙ a.chunks m i wide other;
   doomed = λ m other. b.doomed m other ∙ a.doomed m other;
 }
 
 pub others_here : (n : Bytes) (p : Plain) → HasOthers n p p
-others_here n p = record { names = λ name. refl; asides = λ k. refl; chunks = λ m i wide other. refl; doomed = λ m other. refl }
+others_here n p = record { names = λ name. refl; asides = λ k. refl; gone = λ t. refl; chunks = λ m i wide other. refl; doomed = λ m other. refl }
 
 one_chunk_more : (n value : Bytes) (q : Plain) (i : ℕ) → length n ≡ 8 → HasOthers n q (changed q (chunk_record n value i))
 one_chunk_more n value q i wide = record {
   names = λ name. refl;
   asides = λ k. refl;
+  gone = λ t. refl;
   chunks = λ m j its other. ap (λ b. cond b (Some (chunk_of value i)) (chunks_of q m j)) (chunks_apart n m i j wide its other);
   doomed = λ m other. refl;
 }
@@ -48,6 +53,7 @@ taking_others : (p : Plain) (n : Bytes) → HasOthers n p (after p (taking n))
 taking_others p n = record {
   names = λ name. refl;
   asides = λ k. refl;
+  gone = λ t. refl;
   chunks = λ m i wide other. refl;
   doomed = λ m other. ap (λ b. is_some (cond b (Some []) (p (doomed_key m)))) (same_false m n other);
 }

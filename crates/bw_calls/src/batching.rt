@@ -6,6 +6,7 @@
 
 ghost use Rattle.std.specs.Prelude.{◌≡◌, ◌<◌, ◌≤◌, [], ◌∷◌, true, false, None, Some, length, nat_eq, IfErr, IfOk, IfSome, IsTrue, OnOk};
 ghost use Rattle.std.specs.List.{starts_with};
+ghost use Rattle.bw_rows.specs.Spelling.{stands_key};
 ghost use Rattle.bw_rows.specs.Meaning.{Tables};
 ghost use Rattle.bw_rows.specs.Laws.{IsLawful, IsTables};
 ghost use Rattle.bw_rows.specs.Batches.{said, FitsAside, HasNoAside, IsGathering, IsLeft, IsStanding};
@@ -47,8 +48,8 @@ pub struct Change {
     pub value: Option<Vec<u8>>,
 }
 
-// The first row aside, with its key of the store.
-fn first_aside(home: &mut Home) -> Result<Option<(Key, Value)>, TableFault>
+// A row aside, by a hint, with its key of the store.
+fn first_aside(home: &mut Home, hint: &Key) -> Result<Option<(Key, Value)>, TableFault>
     requires { IsReady home.old holding }
     ensures ready { IsReady home.new holding }
     ensures same { (maps_of home.new holding).put ≡ (maps_of home.old holding).put }
@@ -56,7 +57,7 @@ fn first_aside(home: &mut Home) -> Result<Option<(Key, Value)>, TableFault>
     ensures before { IfErr result (λ fault. waits fault ≡ false) }
     ensures leaves { Reads home.old home.new holding }
 {
-    ways::first(home, ways::key_of(&[ASIDE]))
+    ways::some_of(home, ways::key_of(&[ASIDE]), hint)
 }
 
 // A row aside goes away, of a batch that does not stand.
@@ -83,9 +84,13 @@ fn clear_asides(home: &mut Home) -> Result<(), TableFault>
     ensures leaves { IsLawful (plain_in home.old holding)
         → Stays (tables_in home.old holding) home.old home.new holding }
 {
+    let mut hint = ways::key_of(&[ASIDE]);
     'rows: for _ in 0..u64::MAX {
-        match first_aside(home)? {
-            Some((key, _)) => drop_aside(home, key)?,
+        match first_aside(home, &hint)? {
+            Some((key, _)) => {
+                hint = key.copy();
+                drop_aside(home, key)?;
+            }
             None => return Ok(()),
         }
     }
@@ -298,6 +303,8 @@ fn end_batch(home: &mut Home) -> Result<(), TableFault>
     ensures left { (tables : Tables) → IsStanding tables (plain_in home.old holding)
         → HasNoAside (plain_in home.old holding)
         → IsLeft tables (plain_in home.new holding) }
+    ensures none { HasNoAside (plain_in home.old holding)
+        → HasNoAside (plain_in home.new holding) }
     ensures leaves { (tables : Tables) → IsStanding tables (plain_in home.old holding)
         → HasNoAside (plain_in home.old holding)
         → Stays tables home.old home.new holding }
@@ -313,12 +320,17 @@ fn carry_all(home: &mut Home) -> Result<(), TableFault>
         → OnOk result (IsTables tables (plain_in home.new holding)) }
     ensures left { (tables : Tables) → IsStanding tables (plain_in home.old holding)
         → IsLeft tables (plain_in home.new holding) }
+    ensures none { OnOk result (HasNoAside (plain_in home.new holding)) }
     ensures leaves { (tables : Tables) → IsStanding tables (plain_in home.old holding)
         → Stays tables home.old home.new holding }
 {
+    let mut hint = ways::key_of(&[ASIDE]);
     'rows: for _ in 0..u64::MAX {
-        match first_aside(home)? {
-            Some((key, aside)) => carry(home, &key, aside)?,
+        match first_aside(home, &hint)? {
+            Some((key, aside)) => {
+                carry(home, &key, aside)?;
+                hint = key;
+            }
             None => return end_batch(home),
         }
     }
@@ -336,6 +348,7 @@ pub(crate) fn settle(home: &mut Home) -> Result<(), TableFault>
         → OnOk result (IsTables tables (plain_in home.new holding)) }
     ensures left { (tables : Tables) → IsLeft tables (plain_in home.old holding)
         → IsLeft tables (plain_in home.new holding) }
+    ensures none { OnOk result (HasNoAside (plain_in home.new holding)) }
     ensures leaves { (tables : Tables) → IsLeft tables (plain_in home.old holding)
         → Stays tables home.old home.new holding }
 {
@@ -481,6 +494,7 @@ pub fn batch(home: &mut Home, changes: &[Change]) -> Result<(), TableFault>
     ensures refused { IsLawful (plain_in home.old holding)
         → IfErr result (λ fault. IsBatchLeftBy fault (tables_in home.old holding)
         (with_changes (tables_in home.old holding) changes.now) (plain_in home.new holding)) }
+    ensures quiet { OnOk result (plain_in home.old holding stands_key ≡ None) }
     ensures leaves { IsLawful (plain_in home.old holding)
         → Goes (tables_in home.old holding)
         (with_changes (tables_in home.old holding) changes.now) home.old home.new holding }

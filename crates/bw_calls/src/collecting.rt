@@ -5,7 +5,7 @@ ghost use Rattle.bw_rows.specs.Law.{is_doomed};
 ghost use Rattle.bw_rows.specs.Laws.{HasNoChunk, IsLawful, IsTables};
 ghost use Rattle.bw_home.specs.Maps.{maps_of};
 ghost use Rattle.bw_home.specs.Ready.{IsReady};
-ghost use Rattle.bw_calls.specs.Changes.{HasSameNames, IsClean, IsCollecting};
+ghost use Rattle.bw_calls.specs.Changes.{HasSameMarks, IsClean, IsCollecting};
 ghost use Rattle.bw_calls.specs.Lives.{Reads, Stays};
 ghost use Rattle.bw_calls.specs.Standing.{plain_in, tables_in, waits};
 
@@ -55,8 +55,8 @@ fn index_in(key: &[u8]) -> Option<u32> {
     Some(u32::from_be_bytes(bytes))
 }
 
-// The index of the first chunk of a number; `None` where it has none.
-fn first_left(home: &mut Home, number: Number) -> Result<Option<u32>, TableFault>
+// The index of a chunk of a number, by a hint; `None` where it has none.
+fn first_left(home: &mut Home, number: Number, hint: &Key) -> Result<Option<u32>, TableFault>
     requires { IsReady home.old holding }
     ensures ready { IsReady home.new holding }
     ensures same { (maps_of home.new holding).put ≡ (maps_of home.old holding).put }
@@ -65,7 +65,7 @@ fn first_left(home: &mut Home, number: Number) -> Result<Option<u32>, TableFault
     ensures before { IfErr result (λ fault. waits fault ≡ false) }
     ensures leaves { Reads home.old home.new holding }
 {
-    match ways::first(home, front_of(number))? {
+    match ways::some_of(home, front_of(number), hint)? {
         None => Ok(None),
         Some((key, _)) => match index_in(key.as_slice()) {
             Some(i) => Ok(Some(i)),
@@ -81,7 +81,7 @@ fn drop_chunk(home: &mut Home, number: Number, i: u32) -> Result<(), TableFault>
     ensures stays { IsLawful (plain_in home.old holding)
         → is_doomed (plain_in home.old holding) number.bytes ≡ true
         → IsCollecting (tables_in home.old holding) (plain_in home.new holding) number.bytes }
-    ensures names { HasSameNames (plain_in home.old holding) (plain_in home.new holding) }
+    ensures marks { HasSameMarks (plain_in home.old holding) (plain_in home.new holding) }
     ensures before { IfErr result (λ fault. waits fault ≡ false) }
     ensures leaves { IsLawful (plain_in home.old holding)
         → is_doomed (plain_in home.old holding) number.bytes ≡ true
@@ -97,7 +97,7 @@ fn free(home: &mut Home, number: Number) -> Result<(), TableFault>
     ensures stays { IsLawful (plain_in home.old holding)
         → HasNoChunk (plain_in home.old holding) number.bytes
         → IsTables (tables_in home.old holding) (plain_in home.new holding) }
-    ensures names { HasSameNames (plain_in home.old holding) (plain_in home.new holding) }
+    ensures marks { HasSameMarks (plain_in home.old holding) (plain_in home.new holding) }
     ensures before { IfErr result (λ fault. waits fault ≡ false) }
     ensures leaves { IsLawful (plain_in home.old holding)
         → HasNoChunk (plain_in home.old holding) number.bytes
@@ -113,15 +113,19 @@ fn collect_doomed(home: &mut Home, number: Number) -> Result<(), TableFault>
     ensures stays { IsLawful (plain_in home.old holding)
         → is_doomed (plain_in home.old holding) number.bytes ≡ true
         → IsTables (tables_in home.old holding) (plain_in home.new holding) }
-    ensures names { HasSameNames (plain_in home.old holding) (plain_in home.new holding) }
+    ensures marks { HasSameMarks (plain_in home.old holding) (plain_in home.new holding) }
     ensures before { IfErr result (λ fault. waits fault ≡ false) }
     ensures leaves { IsLawful (plain_in home.old holding)
         → is_doomed (plain_in home.old holding) number.bytes ≡ true
         → Stays (tables_in home.old holding) home.old home.new holding }
 {
+    let mut hint = front_of(number);
     'chunks: for _ in 0..=MOST {
-        match first_left(home, number)? {
-            Some(i) => drop_chunk(home, number, i)?,
+        match first_left(home, number, &hint)? {
+            Some(i) => {
+                drop_chunk(home, number, i)?;
+                hint = chunk_key(number, i);
+            }
             None => return free(home, number),
         }
     }
@@ -134,7 +138,7 @@ pub(crate) fn collect(home: &mut Home, number: Number) -> Result<(), TableFault>
     ensures ready { IsReady home.new holding }
     ensures stays { IsLawful (plain_in home.old holding)
         → IsTables (tables_in home.old holding) (plain_in home.new holding) }
-    ensures names { HasSameNames (plain_in home.old holding) (plain_in home.new holding) }
+    ensures marks { HasSameMarks (plain_in home.old holding) (plain_in home.new holding) }
     ensures before { IfErr result (λ fault. waits fault ≡ false) }
     ensures leaves { IsLawful (plain_in home.old holding)
         → Stays (tables_in home.old holding) home.old home.new holding }
@@ -171,6 +175,8 @@ pub(crate) fn collect_all(home: &mut Home) -> Result<(), TableFault>
     ensures stays { IsLawful (plain_in home.old holding)
         → IsTables (tables_in home.old holding) (plain_in home.new holding) }
     ensures clean { OnOk result (IsClean (plain_in home.new holding)) }
+    ensures marks { OnOk result
+        (HasSameMarks (plain_in home.old holding) (plain_in home.new holding)) }
     ensures leaves { IsLawful (plain_in home.old holding)
         → Stays (tables_in home.old holding) home.old home.new holding }
 {

@@ -4,12 +4,13 @@
 //! table gets one that no name and no row has. A table goes away with its name; its rows go away
 //! after that, one by one, and up to the last of them its number is *gone*.
 
-ghost use Rattle.std.specs.Prelude.{◌≡◌, ◌∷◌, true, false, Some, None, IfErr, IfOk, OnOk};
-ghost use Rattle.bw_rows.specs.Laws.{empty_table, with_table, IsLawful, IsNoTable, IsTables};
+ghost use Rattle.std.specs.Prelude.{◌≡◌, ◌⊎◌, ◌∷◌, true, false, Some, None, IfErr, IfOk, OnOk};
+ghost use Rattle.bw_rows.specs.Spelling.{name_key, stands_key};
+ghost use Rattle.bw_rows.specs.Laws.{empty_table, with_table, IsLawful, HasNoRow, IsNoTable, IsOfTable, IsTables};
 ghost use Rattle.bw_home.specs.Maps.{maps_of};
 ghost use Rattle.bw_home.specs.Ready.{IsReady};
 ghost use Rattle.bw_calls.specs.Standing.{plain_in, tables_in, waits, IsLeftBy};
-ghost use Rattle.bw_calls.specs.Changes.{kind_in, HasNoRow, HasSameNames};
+ghost use Rattle.bw_calls.specs.Changes.{kind_in, HasNoneGone, HasSameAsides, HasSameMarks};
 ghost use Rattle.bw_calls.specs.Lives.{Goes, Reads, Stays};
 ghost use Rattle.bw_calls.specs.Names.{HasLooked, Judges};
 
@@ -106,6 +107,8 @@ fn has_table(home: &mut Home, table: TableNumber) -> Result<bool, TableFault>
     ensures same { (maps_of home.new holding).put ≡ (maps_of home.old holding).put }
     ensures none { IfOk result (λ has. has ≡ false
         → IsNoTable (plain_in home.old holding) table.bytes) }
+    ensures has { IfOk result (λ has. has ≡ true
+        → IsOfTable (plain_in home.old holding) table.bytes) }
     ensures before { IfErr result (λ fault. waits fault ≡ false) }
     ensures leaves { Reads home.old home.new holding }
 {
@@ -152,8 +155,8 @@ pub(crate) fn front_of(table: TableNumber) -> Key
     ways::key_of(&bytes)
 }
 
-// The first row of a table's number.
-fn first_row(home: &mut Home, table: TableNumber) -> Result<Option<Key>, TableFault>
+// A row of a table's number, by a hint.
+fn first_row(home: &mut Home, table: TableNumber, hint: &Key) -> Result<Option<Key>, TableFault>
     requires { IsReady home.old holding }
     ensures ready { IsReady home.new holding }
     ensures same { (maps_of home.new holding).put ≡ (maps_of home.old holding).put }
@@ -162,7 +165,7 @@ fn first_row(home: &mut Home, table: TableNumber) -> Result<Option<Key>, TableFa
     ensures before { IfErr result (λ fault. waits fault ≡ false) }
     ensures leaves { Reads home.old home.new holding }
 {
-    match ways::first(home, front_of(table))? {
+    match ways::some_of(home, front_of(table), hint)? {
         Some((key, _)) => Ok(Some(key)),
         None => Ok(None),
     }
@@ -182,7 +185,7 @@ fn is_free(home: &mut Home, table: TableNumber) -> Result<bool, TableFault>
     if has_table(home, table)? {
         return Ok(false);
     }
-    match first_row(home, table)? {
+    match first_row(home, table, &front_of(table))? {
         Some(_) => Ok(false),
         None => Ok(true),
     }
@@ -231,6 +234,30 @@ fn nothing() -> Value {
     }
 }
 
+// Makes a table of a name that no table has.
+fn create_new(home: &mut Home, name: &Name) -> Result<(), TableFault>
+    requires { IsReady home.old holding }
+    ensures ready { IsReady home.new holding }
+    ensures created { IsLawful (plain_in home.old holding)
+        → plain_in home.old holding (name_key name.now) ≡ None
+        → OnOk result (IsTables
+        (with_table (tables_in home.old holding) name.now (Some empty_table))
+        (plain_in home.new holding)) }
+    ensures refused { IsLawful (plain_in home.old holding)
+        → plain_in home.old holding (name_key name.now) ≡ None
+        → IfErr result (λ fault. IsLeftBy fault (tables_in home.old holding)
+        (with_table (tables_in home.old holding) name.now (Some empty_table))
+        (plain_in home.new holding)) }
+    ensures leaves { IsLawful (plain_in home.old holding)
+        → plain_in home.old holding (name_key name.now) ≡ None
+        → Goes (tables_in home.old holding)
+        (with_table (tables_in home.old holding) name.now (Some empty_table))
+        home.old home.new holding }
+{
+    let table = free_number(home)?;
+    ways::step(home, create_step(name, table, nothing()))
+}
+
 /// Makes a table with no key. It looks at all names, so it costs more the more tables there are.
 ///
 /// Refused `Exists` if a table has this name, and `TooMany` if there are 65,536. Else as the store
@@ -247,16 +274,16 @@ pub fn create(home: &mut Home, name: &Name) -> Result<(), TableFault>
         → IfErr result (λ fault. IsLeftBy fault (tables_in home.old holding)
         (with_table (tables_in home.old holding) name.now (Some empty_table))
         (plain_in home.new holding)) }
+    ensures quiet { OnOk result (plain_in home.old holding stands_key ≡ None) }
     ensures leaves { IsLawful (plain_in home.old holding)
         → Goes (tables_in home.old holding)
         (with_table (tables_in home.old holding) name.now (Some empty_table))
         home.old home.new holding }
 {
-    if let Some(_) = number_of(home, name)? {
-        return Err(TableFault::Exists);
+    match number_of(home, name)? {
+        Some(_) => Err(TableFault::Exists),
+        None => create_new(home, name),
     }
-    let table = free_number(home)?;
-    ways::step(home, create_step(name, table, nothing()))
 }
 
 // What a row named goes away, if it named anything.
@@ -265,7 +292,7 @@ fn collect_named(home: &mut Home, old: Option<Head>) -> Result<(), TableFault>
     ensures ready { IsReady home.new holding }
     ensures stays { IsLawful (plain_in home.old holding)
         → IsTables (tables_in home.old holding) (plain_in home.new holding) }
-    ensures names { HasSameNames (plain_in home.old holding) (plain_in home.new holding) }
+    ensures marks { HasSameMarks (plain_in home.old holding) (plain_in home.new holding) }
     ensures before { IfErr result (λ fault. waits fault ≡ false) }
     ensures leaves { IsLawful (plain_in home.old holding)
         → Stays (tables_in home.old holding) home.old home.new holding }
@@ -283,7 +310,7 @@ fn take_row(home: &mut Home, table: TableNumber, key: &RowKey) -> Result<Option<
     ensures stays { IsLawful (plain_in home.old holding)
         → IsNoTable (plain_in home.old holding) table.bytes
         → IsTables (tables_in home.old holding) (plain_in home.new holding) }
-    ensures names { HasSameNames (plain_in home.old holding) (plain_in home.new holding) }
+    ensures marks { HasSameMarks (plain_in home.old holding) (plain_in home.new holding) }
     ensures before { IfErr result (λ fault. waits fault ≡ false) }
     ensures leaves { IsLawful (plain_in home.old holding)
         → IsNoTable (plain_in home.old holding) table.bytes
@@ -301,7 +328,7 @@ fn drop_at(home: &mut Home, table: TableNumber, key: &RowKey) -> Result<(), Tabl
     ensures stays { IsLawful (plain_in home.old holding)
         → IsNoTable (plain_in home.old holding) table.bytes
         → IsTables (tables_in home.old holding) (plain_in home.new holding) }
-    ensures names { HasSameNames (plain_in home.old holding) (plain_in home.new holding) }
+    ensures marks { HasSameMarks (plain_in home.old holding) (plain_in home.new holding) }
     ensures before { IfErr result (λ fault. waits fault ≡ false) }
     ensures leaves { IsLawful (plain_in home.old holding)
         → IsNoTable (plain_in home.old holding) table.bytes
@@ -318,7 +345,7 @@ fn drop_key(home: &mut Home, table: TableNumber, key: &Key) -> Result<(), TableF
     ensures stays { IsLawful (plain_in home.old holding)
         → IsNoTable (plain_in home.old holding) table.bytes
         → IsTables (tables_in home.old holding) (plain_in home.new holding) }
-    ensures names { HasSameNames (plain_in home.old holding) (plain_in home.new holding) }
+    ensures marks { HasSameMarks (plain_in home.old holding) (plain_in home.new holding) }
     ensures before { IfErr result (λ fault. waits fault ≡ false) }
     ensures leaves { IsLawful (plain_in home.old holding)
         → IsNoTable (plain_in home.old holding) table.bytes
@@ -333,14 +360,19 @@ fn drop_key(home: &mut Home, table: TableNumber, key: &Key) -> Result<(), TableF
     drop_at(home, table, &key)
 }
 
-// A number is gone no more.
+// A number is gone no more, which no row has, or which a table has.
 fn forget(home: &mut Home, table: TableNumber) -> Result<(), TableFault>
     requires { IsReady home.old holding }
     ensures ready { IsReady home.new holding }
     ensures stays { IsLawful (plain_in home.old holding)
+        → HasNoRow (plain_in home.old holding) table.bytes
+        ⊎ IsOfTable (plain_in home.old holding) table.bytes
         → IsTables (tables_in home.old holding) (plain_in home.new holding) }
+    ensures asides { HasSameAsides (plain_in home.old holding) (plain_in home.new holding) }
     ensures before { IfErr result (λ fault. waits fault ≡ false) }
     ensures leaves { IsLawful (plain_in home.old holding)
+        → HasNoRow (plain_in home.old holding) table.bytes
+        ⊎ IsOfTable (plain_in home.old holding) table.bytes
         → Stays (tables_in home.old holding) home.old home.new holding }
 {
     ways::prepare(home, Group::one(Record::Del(gone_key(table))))
@@ -353,14 +385,20 @@ fn clear_rows(home: &mut Home, table: TableNumber) -> Result<(), TableFault>
     ensures stays { IsLawful (plain_in home.old holding)
         → IsNoTable (plain_in home.old holding) table.bytes
         → IsTables (tables_in home.old holding) (plain_in home.new holding) }
+    ensures asides { OnOk result
+        (HasSameAsides (plain_in home.old holding) (plain_in home.new holding)) }
     ensures before { IfErr result (λ fault. waits fault ≡ false) }
     ensures leaves { IsLawful (plain_in home.old holding)
         → IsNoTable (plain_in home.old holding) table.bytes
         → Stays (tables_in home.old holding) home.old home.new holding }
 {
+    let mut hint = front_of(table);
     'rows: for _ in 0..u64::MAX {
-        match first_row(home, table)? {
-            Some(key) => drop_key(home, table, &key)?,
+        match first_row(home, table, &hint)? {
+            Some(key) => {
+                drop_key(home, table, &key)?;
+                hint = key;
+            }
             None => return forget(home, table),
         }
     }
@@ -373,6 +411,8 @@ fn clear(home: &mut Home, table: TableNumber) -> Result<(), TableFault>
     ensures ready { IsReady home.new holding }
     ensures stays { IsLawful (plain_in home.old holding)
         → IsTables (tables_in home.old holding) (plain_in home.new holding) }
+    ensures asides { OnOk result
+        (HasSameAsides (plain_in home.old holding) (plain_in home.new holding)) }
     ensures before { IfErr result (λ fault. waits fault ≡ false) }
     ensures leaves { IsLawful (plain_in home.old holding)
         → Stays (tables_in home.old holding) home.old home.new holding }
@@ -396,6 +436,7 @@ pub fn drop_table(home: &mut Home, name: &Name) -> Result<(), TableFault>
     ensures refused { IsLawful (plain_in home.old holding)
         → IfErr result (λ fault. IsLeftBy fault (tables_in home.old holding)
         (with_table (tables_in home.old holding) name.now None) (plain_in home.new holding)) }
+    ensures quiet { OnOk result (plain_in home.old holding stands_key ≡ None) }
     ensures leaves { IsLawful (plain_in home.old holding)
         → Goes (tables_in home.old holding)
         (with_table (tables_in home.old holding) name.now None) home.old home.new holding }
@@ -417,6 +458,8 @@ fn first_gone(home: &mut Home) -> Result<Option<TableNumber>, TableFault>
     requires { IsReady home.old holding }
     ensures ready { IsReady home.new holding }
     ensures same { (maps_of home.new holding).put ≡ (maps_of home.old holding).put }
+    ensures none { IfOk result (λ first. first ≡ None
+        → HasNoneGone (plain_in home.old holding)) }
     ensures before { IfErr result (λ fault. waits fault ≡ false) }
     ensures leaves { Reads home.old home.new holding }
 {
@@ -437,6 +480,9 @@ pub(crate) fn clear_gone(home: &mut Home) -> Result<(), TableFault>
     ensures ready { IsReady home.new holding }
     ensures stays { IsLawful (plain_in home.old holding)
         → IsTables (tables_in home.old holding) (plain_in home.new holding) }
+    ensures asides { OnOk result
+        (HasSameAsides (plain_in home.old holding) (plain_in home.new holding)) }
+    ensures none { OnOk result (HasNoneGone (plain_in home.new holding)) }
     ensures before { IfErr result (λ fault. waits fault ≡ false) }
     ensures leaves { IsLawful (plain_in home.old holding)
         → Stays (tables_in home.old holding) home.old home.new holding }

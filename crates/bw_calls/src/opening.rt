@@ -6,7 +6,7 @@ ghost use Rattle.bw_rows.specs.Laws.{IsLawful, IsTables};
 ghost use Rattle.bw_rows.specs.Meaning.{Tables};
 ghost use Rattle.bw_home.specs.Maps.{maps_of, IsMapBy};
 ghost use Rattle.bw_home.specs.Ready.{IsReady};
-ghost use Rattle.bw_calls.specs.Changes.{IsClean};
+ghost use Rattle.bw_calls.specs.Changes.{IsFinished, IsOfTables};
 ghost use Rattle.bw_calls.specs.Standing.{plain_in, tables_in};
 ghost use Rattle.bw_calls.specs.Lives.{LeavesSome, Reads, Stays};
 
@@ -19,7 +19,7 @@ use bw_home::Home;
 /// Finishes what a stop or a refusal left half done. A batch that stands is carried out; what is
 /// aside of one that does not stand goes away. Then the rows of tables that are gone go away, and
 /// the chunks of all doomed numbers. If nothing was left it is four searches. The tables stay,
-/// whatever the answer; after Ok no batch stands.
+/// whatever the answer. After Ok no batch stands, no number is doomed, and each row is of a table.
 ///
 /// Refused `NotRead` and `NotMade` as the store is, and `NotTables` if the store has other pairs
 /// than those of tables.
@@ -32,7 +32,9 @@ pub fn open(home: &mut Home) -> Result<(), TableFault>
         → OnOk result (IsTables tables (plain_in home.new holding)) }
     ensures left { (tables : Tables) → IsLeft tables (plain_in home.old holding)
         → IsLeft tables (plain_in home.new holding) }
-    ensures clean { OnOk result (IsClean (plain_in home.new holding)) }
+    ensures finished { OnOk result (IsFinished (plain_in home.new holding)) }
+    ensures rows { (tables : Tables) → IsLeft tables (plain_in home.old holding)
+        → OnOk result (IsOfTables (plain_in home.new holding)) }
     ensures leaves { (tables : Tables) → IsLeft tables (plain_in home.old holding)
         → Stays tables home.old home.new holding }
 {

@@ -57,6 +57,7 @@ pub(crate) fn number_of(home: &mut Home, name: &Name) -> Result<Option<TableNumb
     ensures number { IfOk result (λ number. option_map (λ t. t.bytes) number
         ≡ option_map table_in (plain_in home.old holding (spelling.name_key name.now))) }
     ensures before { IfErr result (λ fault. waits fault ≡ false) }
+    ensures quiet { OnOk result (plain_in home.old holding spelling.stands_key ≡ None) }
     ensures leaves { Reads home.old home.new holding }
 {
     check(home)?;
@@ -174,6 +175,7 @@ pub fn get(home: &mut Home, name: &Name, key: &RowKey) -> Result<Option<Vec<u8>>
         → IfOk result (λ value. option_map (λ bytes. bytes.items) value
         ≡ value_at (tables_in home.old holding) name.now key.now) }
     ensures before { IfErr result (λ fault. waits fault ≡ false) }
+    ensures quiet { OnOk result (plain_in home.old holding spelling.stands_key ≡ None) }
     ensures leaves { Reads home.old home.new holding }
 {
     let Some(table) = number_of(home, name)? else {

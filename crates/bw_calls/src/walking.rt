@@ -1,6 +1,6 @@
 //! The keys of a table, in their order.
 
-ghost use Rattle.std.specs.Prelude.{◌≡◌, [], ◌∷◌, ◌++◌, false, Some, IfErr, IfOk};
+ghost use Rattle.std.specs.Prelude.{◌≡◌, [], ◌∷◌, ◌++◌, false, None, Some, IfErr, IfOk, OnOk};
 ghost use Rattle.bw_leaf.specs.Changed.{Bytes};
 ghost use Rattle.bw_rows.specs.Spelling as spelling;
 ghost use Rattle.bw_rows.specs.Meaning.{value_of};
@@ -128,6 +128,7 @@ pub fn first(home: &mut Home, name: &Name) -> Result<Option<(RowKey, Vec<u8>)>, 
     ensures pair { IsLawful (plain_in home.old holding)
         → IfOk result (λ pair. IsNextIn (tables_in home.old holding name.now) [] (told pair)) }
     ensures before { IfErr result (λ fault. waits fault ≡ false) }
+    ensures quiet { OnOk result (plain_in home.old holding spelling.stands_key ≡ None) }
     ensures leaves { Reads home.old home.new holding }
 {
     let Some(table) = number_of(home, name)? else {
@@ -152,6 +153,7 @@ pub fn next_at(
         → IfOk result (λ pair.
         IsNextIn (tables_in home.old holding name.now) key.now (told pair)) }
     ensures before { IfErr result (λ fault. waits fault ≡ false) }
+    ensures quiet { OnOk result (plain_in home.old holding spelling.stands_key ≡ None) }
     ensures leaves { Reads home.old home.new holding }
 {
     let Some(table) = number_of(home, name)? else {
@@ -176,6 +178,7 @@ pub fn next_above(
         → IfOk result (λ pair.
         IsNextIn (tables_in home.old holding name.now) (key.now ++ 0 ∷ []) (told pair)) }
     ensures before { IfErr result (λ fault. waits fault ≡ false) }
+    ensures quiet { OnOk result (plain_in home.old holding spelling.stands_key ≡ None) }
     ensures leaves { Reads home.old home.new holding }
 {
     let Some(table) = number_of(home, name)? else {

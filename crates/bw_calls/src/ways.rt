@@ -2,7 +2,8 @@
 //!
 //! Each takes first what waits in the queue, so that what is read is all that was put.
 
-ghost use Rattle.std.specs.Prelude.{◌≡◌, ◌⊎◌, ◌<◌, ◌≤◌, false, cond, length, IfErr, IfOk, OnOk};
+ghost use Rattle.std.specs.Prelude.{◌≡◌, ◌⊎◌, ◌<◌, ◌≤◌, Some, false, cond, length, nat_eq, IfErr, IfOk, IfSome, IsTrue, OnOk};
+ghost use Rattle.std.specs.List.{starts_with};
 ghost use Rattle.bw_page.specs.Ahead.{IsFirst};
 ghost use Rattle.bw_walks.specs.Back.{IsLastBelow};
 ghost use Rattle.bw_rows.specs.Steps.{after};
@@ -113,6 +114,41 @@ pub(crate) fn first(home: &mut Home, prefix: Key) -> Result<Option<(Key, Value)>
     match walk.next(home) {
         Ok(pair) => Ok(pair),
         Err(cause) => Err(TableFault::NotRead(cause)),
+    }
+}
+
+// A pair, if its key begins with this one.
+fn within(pair: Option<(Key, Value)>, prefix: &Key) -> Option<(Key, Value)>
+    ensures { IfSome result (λ its. (pair ≡ Some its)
+        × IsTrue (starts_with nat_eq its.0 prefix.now)) }
+{
+    let (key, value) = pair?;
+    if key.as_slice().starts_with(prefix.as_slice()) {
+        Some((key, value))
+    } else {
+        None
+    }
+}
+
+/// A pair whose key begins with this one, if there is any: the first at or above the hint, or else
+/// the first of all. What was deleted leaves empty pages, over which a look from the beginning goes
+/// each time.
+pub(crate) fn some_of(
+    home: &mut Home,
+    prefix: Key,
+    hint: &Key,
+) -> Result<Option<(Key, Value)>, TableFault>
+    requires { IsReady home.old holding }
+    ensures ready { IsReady home.new holding }
+    ensures same { (maps_of home.new holding).put ≡ (maps_of home.old holding).put }
+    ensures value { IfOk result (λ pair. IsFirstOf (plain_in home.old holding) prefix pair) }
+    ensures before { IfErr result (λ fault. waits fault ≡ false) }
+    ensures leaves { Reads home.old home.new holding }
+{
+    let pair = from(home, hint)?;
+    match within(pair, &prefix) {
+        Some(pair) => Ok(Some(pair)),
+        None => first(home, prefix),
     }
 }
 

@@ -1,7 +1,7 @@
 //! Values come and go.
 
 ghost use Rattle.std.specs.Prelude.{◌≡◌, ◌+◌, ◌*◌, ◌<◌, ◌≤◌, false, Some, None, length, IfErr, IfOk, OnErr, OnOk};
-ghost use Rattle.bw_rows.specs.Spelling.{chunks_in, Bytes};
+ghost use Rattle.bw_rows.specs.Spelling.{chunks_in, stands_key, Bytes};
 ghost use Rattle.bw_rows.specs.Meaning.{chunks_of, Tables, with_value};
 ghost use Rattle.bw_rows.specs.Batches.{HasOthers};
 ghost use Rattle.bw_rows.specs.Laws.{HasNumber, IsLawful, IsTables, IsUnnamed};
@@ -359,6 +359,7 @@ pub fn put(home: &mut Home, name: &Name, key: &RowKey, value: &[u8]) -> Result<(
         → IfErr result (λ fault. IsLeftBy fault (tables_in home.old holding)
         (with_value (tables_in home.old holding) name.now key.now (Some value.now))
         (plain_in home.new holding)) }
+    ensures quiet { OnOk result (plain_in home.old holding stands_key ≡ None) }
     ensures leaves { IsLawful (plain_in home.old holding)
         → Goes (tables_in home.old holding)
         (with_value (tables_in home.old holding) name.now key.now (Some value.now)) home.old home.new holding }
@@ -408,6 +409,7 @@ pub fn delete(home: &mut Home, name: &Name, key: &RowKey) -> Result<(), TableFau
         → IfErr result (λ fault. IsLeftBy fault (tables_in home.old holding)
         (with_value (tables_in home.old holding) name.now key.now None)
         (plain_in home.new holding)) }
+    ensures quiet { OnOk result (plain_in home.old holding stands_key ≡ None) }
     ensures leaves { IsLawful (plain_in home.old holding)
         → Goes (tables_in home.old holding)
         (with_value (tables_in home.old holding) name.now key.now None) home.old home.new holding }

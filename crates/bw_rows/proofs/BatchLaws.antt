@@ -1,19 +1,19 @@
 -- A batch is one step.
 
-use Rattle.std.proofs.Common.{ℕ, ◌≡◌, ◌<◌, Bool, true, false, cond, Option, Some, None, is_some, [], refl, sym, ap, ◌∙◌}
+use Rattle.std.proofs.Common.{ℕ, ◌≡◌, true, false, cond, Option, Some, None, is_some, [], take, refl, sym, ap, ◌∙◌}
 use Rattle.std.proofs.lemmas.Bool.{true≢false}
-use Rattle.std.specs.Option.{option_map, option_and_then}
-use Rattle.bw_rows.specs.Spelling.{Bytes, same, name_key, stands_key, aside_key, row_key, row_place, chunk_key, chunk_place, head_of, no_row, chunks_in}
-use Rattle.bw_rows.specs.Meaning.{Plain, Table, Tables, chunks_of, over, counted, value_of, found, tables_of, table_in}
-use Rattle.bw_rows.specs.Law.{head_at, is_doomed, HasValues, HasNames, Steps, IsWhole}
-use Rattle.bw_rows.specs.Steps.{with, after, head_in, aside_group, carry_of}
-use Rattle.bw_rows.specs.Laws.{IsLawful, IsTables}
-use Rattle.bw_rows.specs.Batches.{head_aside, HasAsides, IsStanding, said, batched, AsideIsSilent, MarkIsTheStep, CarryIsSilent, EndIsSilent}
-use Rattle.bw_rows.proofs.OneKey.{split, same_self, same_true, same_false}
+use Rattle.std.specs.Option.{option_map}
+use Rattle.bw_rows.specs.Spelling.{Bytes, same, name_key, gone_key, stands_key, aside_key, row_key, row_place, chunk_place, head_of, no_row}
+use Rattle.bw_rows.specs.Meaning.{Plain, Table, Tables, over, counted, value_of, found, table_in}
+use Rattle.bw_rows.specs.Law.{head_at, is_doomed, Steps, IsWhole}
+use Rattle.bw_rows.specs.Steps.{with, after, head_in, carry_of}
+use Rattle.bw_rows.specs.Laws.{HasHomes, IsKnown}
+use Rattle.bw_rows.specs.Batches.{head_aside, HasAsides, IsStanding, said, AsideIsSilent, MarkIsTheStep, CarryIsSilent, EndIsSilent}
+use Rattle.bw_rows.proofs.OneKey.{split, same_self, same_true}
 use Rattle.bw_rows.proofs.Values.{same_optional, step_is_lawful}
-use Rattle.bw_rows.proofs.Records.{unread_is_lawful, unread_names}
+use Rattle.bw_rows.proofs.Records.{still_known, unread_homes, unread_is_lawful, unread_names}
 use Rattle.bw_rows.proofs.Groups.{aside_steps, aside_others, aside_asides}
-use Rattle.bw_rows.proofs.TableLaws.{quiet_row, quiet_found, same_tables}
+use Rattle.bw_rows.proofs.TableLaws.{quiet_found, same_tables}
 
 pub aside_law : AsideIsSilent
 aside_law tables p k row h =
@@ -22,6 +22,7 @@ aside_law tables p k row h =
       lawful = record {
         values = unread_is_lawful p new (λ q. refl) (λ c. refl) (λ m. refl) h.lawful.values;
         names = unread_names p new (λ name. refl) h.lawful.names;
+        homes = unread_homes p new (λ q. refl) (λ name. refl) (λ t. refl) h.lawful.homes;
         quiet = h.lawful.quiet;
       };
       its = same_tables p new (λ name. refl) (λ q. quiet_found new q h.lawful.quiet ∙ same_optional p new (λ c. refl) (p (row_key q)) ∙ sym (quiet_found p q h.lawful.quiet)) ∙ h.its;
@@ -50,8 +51,15 @@ mark_law tables p h asides =
     record {
       values = unread_is_lawful p new (λ q. refl) (λ c. refl) (λ m. refl) h.lawful.values;
       names = unread_names p new (λ name. refl) h.lawful.names;
+      homes = unread_homes p new (λ q. refl) (λ name. refl) (λ t. refl) h.lawful.homes;
       stands = refl;
-      asides = record { long = asides.long; full = asides.full; once = asides.once; doomed = asides.doomed };
+      asides = record {
+        long = asides.long;
+        full = asides.full;
+        once = asides.once;
+        doomed = asides.doomed;
+        homes = λ k there. still_known p new (take 2 k) (λ name. refl) refl (asides.homes k there);
+      };
       its =
           let by : (Bytes → Option Bytes) → Tables = λ at name. option_map {T = Bytes} {U = Table} (λ row key. at (row_place (table_in row) key)) (p (name_key name)) in
           let said_at : (Bytes → Option Bytes) = λ k. said p (p (aside_key k)) (found p k) in
@@ -95,7 +103,7 @@ module _ (tables : Tables) (p : Plain) (k aside : Bytes) (h : IsStanding tables 
   steps : Steps p new k row
   steps = aside_steps p k row h.values whole
 
-  others : ((name : Bytes) → new (name_key name) ≡ p (name_key name)) × (new stands_key ≡ p stands_key)
+  others : ((name : Bytes) → new (name_key name) ≡ p (name_key name)) × (new stands_key ≡ p stands_key) × ((t : Bytes) → new (gone_key t) ≡ p (gone_key t))
   others = aside_others p k row (head_in row) (head_at p k)
 
   asides_new : (q : Bytes) → new (aside_key q) ≡ cond (same q k) None (p (aside_key q))
@@ -119,12 +127,26 @@ module _ (tables : Tables) (p : Plain) (k aside : Bytes) (h : IsStanding tables 
       (λ len next. true≢false (sym (same_self k) ∙ ap (λ (x : Bytes). same x k) (sym (h.asides.once q k n c len its.1 (its_head n len next))) ∙ its.0))
       ∙ doomed
 
+  known : (u : Bytes) → IsKnown p u → IsKnown new u
+  known u its = still_known p new u others.0 (others.2 u) its
+
+  aside_homes : (q : Bytes) → is_some (new (aside_key q)) ≡ true → IsKnown new (take 2 q)
+  aside_homes q e = split q k
+      (λ one. absurd (true≢false (sym e ∙ ap is_some (asides_new q ∙ ap (λ b. cond b None (p (aside_key q))) one))))
+      (λ two. known (take 2 q) (h.asides.homes q (sym (ap is_some (asides_new q ∙ ap (λ b. cond b None (p (aside_key q))) two)) ∙ e)))
+
+  row_homes : HasHomes new
+  row_homes q e = split q k
+      (λ one. known (take 2 q) (h.asides.homes q (ap (λ (x : Bytes). is_some (p (aside_key x))) (same_true q k one) ∙ ap is_some there)))
+      (λ two. known (take 2 q) (h.homes q (sym (ap is_some (steps.rows q ∙ ap (λ b. cond b row (p (row_key q))) two)) ∙ e)))
+
   asides_stay : HasAsides new
   asides_stay = record {
     long = λ q n len e. h.asides.long q n len (else_aside q n len e).1;
     full = λ q n len i e less. ap is_some (steps.chunks (chunk_place n i)) ∙ h.asides.full q n len i (else_aside q n len e).1 less;
     once = λ q r n c d e g. h.asides.once q r n c d (else_aside q n c e).1 (else_aside r n d g).1;
     doomed = still_doomed;
+    homes = aside_homes;
   }
 
   counted_here : (q : Bytes) → same q k ≡ true → over (new (aside_key q)) (new (row_key q)) ≡ over (p (aside_key q)) (p (row_key q))
@@ -147,6 +169,7 @@ module _ (tables : Tables) (p : Plain) (k aside : Bytes) (h : IsStanding tables 
   carried = record {
     values = step_is_lawful p new k row h.values whole steps;
     names = unread_names p new others.0 h.names;
+    homes = row_homes;
     stands = stands_new;
     asides = asides_stay;
     its = same_tables p new others.0 found_stays ∙ h.its;
@@ -162,6 +185,7 @@ end_law tables p h none =
       lawful = record {
         values = unread_is_lawful p new (λ q. refl) (λ c. refl) (λ m. refl) h.values;
         names = unread_names p new (λ name. refl) h.names;
+        homes = unread_homes p new (λ q. refl) (λ name. refl) (λ t. refl) h.homes;
         quiet = refl;
       };
       its = same_tables p new (λ name. refl)

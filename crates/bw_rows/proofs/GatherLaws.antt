@@ -1,18 +1,17 @@
 -- A batch is written, row by row.
 
-use Rattle.std.proofs.Common.{ℕ, zero, ◌≡◌, ◌<◌, Bool, true, false, cond, Option, Some, None, is_some, length, refl, sym, ap, ◌∙◌}
+use Rattle.std.proofs.Common.{ℕ, ◌≡◌, inl, Bool, true, false, cond, Option, Some, None, is_some, take, refl, sym, subst, ap, ◌∙◌}
 use Rattle.std.proofs.lemmas.Bool.{true≢false}
-use Rattle.std.specs.Option.{option_map, option_and_then}
-use Rattle.bw_rows.specs.Spelling.{Bytes, same, name_key, stands_key, aside_key, row_key, row_place, chunk_key, chunk_place, head_of, no_row, chunks_in}
-use Rattle.bw_rows.specs.Meaning.{Plain, Table, Tables, chunks_of, joined, value_by, value_of, found, tables_of, table_in, with_value}
-use Rattle.bw_rows.specs.Law.{is_doomed}
+use Rattle.std.specs.Option.{option_map}
+use Rattle.bw_rows.specs.Spelling.{Bytes, same, name_key, aside_key, row_key, row_place, head_of, no_row, chunks_in}
+use Rattle.bw_rows.specs.Meaning.{Plain, Table, Tables, chunks_of, joined, value_by, found, tables_of, table_in, with_value}
 use Rattle.bw_rows.specs.Steps.{with, head_in}
 use Rattle.bw_rows.specs.Laws.{IsTables, HasNumber}
-use Rattle.bw_rows.specs.Batches.{head_aside, said, batched, FitsAside, HasAsides, HasNoAside, HasOthers, IsGathering, IsNotAside, NothingIsGathered, FreshIsNotAside, ANumberIsSilent, AnAsideIsGathered}
+use Rattle.bw_rows.specs.Batches.{head_aside, said, batched, FitsAside, HasAsides, HasOthers, IsGathering, IsNotAside, NothingIsGathered, FreshIsNotAside, ANumberIsSilent, AnAsideIsGathered}
 use Rattle.bw_rows.proofs.OneKey.{split, same_true}
 use Rattle.bw_rows.proofs.Values.{same_value, same_optional}
-use Rattle.bw_rows.proofs.Records.{wide_option}
-use Rattle.bw_rows.proofs.TableLaws.{quiet_found, tables_by, one_value}
+use Rattle.bw_rows.proofs.Records.{still_known, wide_option}
+use Rattle.bw_rows.proofs.TableLaws.{quiet_found, number_of_place, tables_by, one_value}
 use Rattle.bw_rows.proofs.BatchLaws.{aside_law}
 
 -- what is found at each place, with all that stands aside
@@ -34,6 +33,7 @@ nothing_law tables p h none =
         full = λ k n len i e less. no_head n len (sym (unnamed k) ∙ e);
         once = λ k q n c d e g. no_head n c (sym (unnamed k) ∙ e);
         doomed = λ k n c e. no_head n c (sym (unnamed k) ∙ e);
+        homes = λ k there. absurd (true≢false (sym there ∙ ap is_some (none k)));
       };
       makes =
           let as_found : said_at p ≡ found p = λ i k. ap (λ (a : Option Bytes). said p a (found p k)) (none k) i in
@@ -100,6 +100,7 @@ module _ (tables next : Tables) (p new : Plain) (n : Bytes) (g : IsGathering tab
         full = λ k m len i e less. ap is_some (chunk_stays k m len i (sym (head_stays k) ∙ e)) ∙ g.asides.full k m len i (sym (head_stays k) ∙ e) less;
         once = λ k q m c d e f. g.asides.once k q m c d (sym (head_stays k) ∙ e) (sym (head_stays q) ∙ f);
         doomed = λ k m c e. others.doomed m (another k m c (sym (head_stays k) ∙ e)) ∙ g.asides.doomed k m c (sym (head_stays k) ∙ e);
+        homes = λ k there. still_known p new (take 2 k) others.names (others.gone (take 2 k)) (g.asides.homes k (sym (ap is_some (others.asides k)) ∙ there));
       };
       makes = batch_stays ∙ g.makes;
     },
@@ -142,6 +143,9 @@ module _ (tables next : Tables) (p : Plain) (name t key row : Bytes) (g : IsGath
     doomed = λ q n c e. split q place
         (λ one. fits.whole.doomed n c (sym (head_here q one) ∙ e))
         (λ two. g.asides.doomed q n c (sym (head_else q two) ∙ e));
+    homes = λ q there. still_known p now (take 2 q) (λ other. refl) refl (split q place
+        (λ one. inl (name, subst (HasNumber p name) (sym (ap (take 2) (same_true q place one) ∙ number_of_place p name t key g.stays.lawful.names its)) its))
+        (λ two. g.asides.homes q (sym (ap (λ b. is_some (cond b (Some row) (p (aside_key q)))) two) ∙ there)));
   }
 
   said_same : (aside value : Option Bytes) → said now aside value ≡ said p aside value

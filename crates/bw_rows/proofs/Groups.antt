@@ -1,13 +1,12 @@
 -- The group of a step does what a step does.
 
-use Rattle.std.proofs.Common.{ℕ, ◌≡◌, Bool, true, false, cond, Option, Some, None, is_some, List, [], ◌∷◌, ◌++◌, refl, sym, ap, subst, ◌∙◌}
+use Rattle.std.proofs.Common.{ℕ, ◌≡◌, Bool, true, false, cond, Option, Some, None, is_some, [], refl, sym, ap, subst, ◌∙◌}
 use Rattle.std.proofs.lemmas.Bool.{true≢false}
-use Rattle.std.specs.Option.{option_map, option_and_then}
-use Rattle.bw_rows.specs.Spelling.{Bytes, same, name_key, stands_key, aside_key, row_key, chunk_key, doomed_key, head_of}
+use Rattle.bw_rows.specs.Spelling.{Bytes, same, name_key, gone_key, stands_key, aside_key, row_key, chunk_key, doomed_key}
 use Rattle.bw_rows.specs.Meaning.{Plain}
 use Rattle.bw_rows.specs.Law.{head_at, is_doomed, HasValues, Steps, IsWhole}
 use Rattle.bw_rows.specs.Steps.{with, after, head_in, row_group, aside_group, step_of, carry_of}
-use Rattle.bw_rows.proofs.OneKey.{split, same_self, same_true, same_false}
+use Rattle.bw_rows.proofs.OneKey.{same_self, same_false}
 use Rattle.bw_rows.proofs.Values.{same_number}
 
 abbrev Head : Type 0
@@ -130,14 +129,14 @@ aside_steps p k row lawful whole =
 -- ---- what the groups leave alone
 
 abbrev pub Kinds : Plain → Plain → Type 0
-Kinds p new = ((name : Bytes) → new (name_key name) ≡ p (name_key name)) × (new stands_key ≡ p stands_key)
+Kinds p new = ((name : Bytes) → new (name_key name) ≡ p (name_key name)) × (new stands_key ≡ p stands_key) × ((t : Bytes) → new (gone_key t) ≡ p (gone_key t))
 
 others_by : (q : Plain) (next old : Head) → Kinds q (dooms_by q next old)
 unfolding dooms_by
-others_by q None None = (λ name. refl, refl)
-others_by q (Some h) None = (λ name. refl, refl)
-others_by q None (Some g) = (λ name. refl, refl)
-others_by q (Some h) (Some g) = (λ name. refl, refl)
+others_by q None None = (λ name. refl, refl, λ t. refl)
+others_by q (Some h) None = (λ name. refl, refl, λ t. refl)
+others_by q None (Some g) = (λ name. refl, refl, λ t. refl)
+others_by q (Some h) (Some g) = (λ name. refl, refl, λ t. refl)
 
 asides_by : (q : Plain) (next old : Head) (k : Bytes) → dooms_by q next old (aside_key k) ≡ q (aside_key k)
 unfolding dooms_by

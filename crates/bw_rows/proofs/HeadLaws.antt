@@ -1,7 +1,6 @@
 -- A row that names a long value is read back.
 
-use Rattle.std.proofs.Common.{ℕ, ◌≡◌, ◌+◌, ◌<◌, ◌^◌, ◌&&◌, Bool, true, false, nat_eq, cond, Option, Some, None, List, [], ◌∷◌, ◌++◌, length, take, drop, refl, sym, ap, ◌∙◌, arith, eq-eqb, length-append}
-use Rattle.std.proofs.lemmas.List.{take-append-le, drop-append-le, take_all}
+use Rattle.std.proofs.Common.{ℕ, ◌≡◌, ◌<◌, ◌^◌, Bool, cond, Option, Some, None, [], ◌∷◌, ◌++◌, length, take, drop, refl, sym, ap, ◌∙◌, arith, eq-eqb, length-append}
 use Rattle.std.proofs.lemmas.Nat.{from_be_bytes-to_be_bytes_8}
 use Rattle.bw_rows.specs.Spelling.{Bytes, eight, number_in, head_row, head_of}
 
@@ -13,7 +12,7 @@ pub number_back : (n : ℕ) → n < 2 ^ 64 → number_in (eight n) ≡ n
 unfolding eight number_in
 number_back n h = from_be_bytes-to_be_bytes_8 n h
 
-front_of : (n a : Bytes) (w : ℕ) → length n ≡ w → take w (n ++ a) ≡ n
+pub front_of : (n a : Bytes) (w : ℕ) → length n ≡ w → take w (n ++ a) ≡ n
 front_of [] a w e = ap (λ (x : ℕ). take x a) (sym e)
 front_of (x ∷ n) a w e = ap (λ (z : ℕ). take z (x ∷ (n ++ a))) (sym e) ∙ ap (λ (r : Bytes). x ∷ r) (front_of n a (length n) refl)
 

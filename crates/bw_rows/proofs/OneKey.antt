@@ -1,13 +1,12 @@
 -- When two keys are one.
 
-use Rattle.std.proofs.Common.{ℕ, suc, ◌≡◌, ◌<◌, ◌≤◌, Bool, true, false, List, [], ◌∷◌, ◌++◌, length, take, drop, refl, sym, ap, ◌∙◌, arith}
-use Rattle.std.proofs.lemmas.List.{take-append-le}
+use Rattle.std.proofs.Common.{ℕ, ◌≡◌, ◌<◌, true, false, [], ◌∷◌, ◌++◌, length, take, refl, sym, ap, ◌∙◌, arith}
 use Rattle.std.specs.Ordering.{MatchOrdering, nat_cmp, is_eq, ordering_then}
 use Rattle.std.specs.Cmp.{ranked}
 use Rattle.std.specs.Cmp.Lexicographic.{slice_cmp}
 use Rattle.std.specs.declared.cmp.Ordering.TheVariants.{Less, Equal, Greater}
 use Rattle.bw_record.proofs.Order.{itself, tied, apart}
-use Rattle.bw_rows.specs.Spelling.{Bytes, same, four, eight, chunk_place, row_place}
+use Rattle.bw_rows.specs.Spelling.{Bytes, same, four, chunk_place, row_place}
 
 pub same_self : (a : Bytes) → same a a ≡ true
 same_self a = itself a

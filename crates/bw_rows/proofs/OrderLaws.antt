@@ -1,13 +1,13 @@
 -- Rows in the order of their keys.
 
-use Rattle.std.proofs.Common.{ℕ, suc, ◌≡◌, ◌<◌, Bool, true, false, Some, List, [], ◌∷◌, ◌++◌, length, refl, sym, ap, ◌∙◌, arith}
+use Rattle.std.proofs.Common.{◌≡◌, ◌<◌, true, [], ◌∷◌, ◌++◌, length, refl, sym, ◌∙◌, arith}
 use Rattle.std.specs.Ordering.{MatchOrdering, nat_cmp, is_lt, ordering_then}
 use Rattle.std.specs.Cmp.{ranked}
 use Rattle.std.specs.Cmp.Lexicographic.{slice_cmp}
 use Rattle.std.specs.declared.cmp.Ordering.TheVariants.{Less, Equal, Greater}
 use Rattle.bw_record.specs.Keys.{is_below}
 use Rattle.bw_record.proofs.Order.{same_first}
-use Rattle.bw_rows.specs.Spelling.{Bytes, row_key, row_place, row_of}
+use Rattle.bw_rows.specs.Spelling.{Bytes}
 use Rattle.bw_rows.specs.Order.{ReadsBack, KeepsOrder, TablesApart}
 
 behind : (s a b : Bytes) → is_below (s ++ a) (s ++ b) ≡ is_below a b

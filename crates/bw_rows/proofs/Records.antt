@@ -1,16 +1,16 @@
 -- What one record leaves lawful, and the records of a step.
 
-use Rattle.std.proofs.Common.{ℕ, ◌≡◌, ◌<◌, ◌≤◌, Bool, true, false, cond, Option, Some, None, is_some, List, [], ◌∷◌, ◌++◌, ◌&&◌, nat_eq, length, take, drop, refl, sym, ap, ◌∙◌, arith}
+use Rattle.std.proofs.Common.{ℕ, ◌≡◌, ◌≤◌, inl, inr, Bool, true, false, cond, Option, Some, None, is_some, [], ◌∷◌, ◌&&◌, nat_eq, length, take, drop, refl, sym, ap, ◌∙◌, arith}
 use Rattle.std.proofs.lemmas.Bool.{true≢false, eqb-true}
 use Rattle.std.proofs.lemmas.List.{length-take-le}
 use Rattle.std.specs.Option.{option_map, option_and_then}
-use Rattle.bw_rows.specs.Spelling.{Bytes, same, name_key, row_key, chunk_key, chunk_place, doomed_key, aside_key, head_of, number_in, chunks_in}
+use Rattle.bw_rows.specs.Spelling.{Bytes, same, name_key, row_key, chunk_key, chunk_place, doomed_key, gone_key, head_of, number_in, chunks_in}
 use Rattle.bw_rows.specs.Meaning.{Plain, chunks_of, joined, value_by, value_of, table_in}
-use Rattle.bw_rows.specs.Law.{head_at, is_doomed, HasValues, HasNames, Steps, IsWhole}
-use Rattle.bw_rows.specs.Steps.{with, after, head_in, step_of, carry_of}
-use Rattle.bw_rows.specs.Laws.{IsUnnamed, HasNoChunk}
-use Rattle.bw_rows.proofs.OneKey.{split, same_self, same_true, same_false, chunks_apart, number_of_place}
-use Rattle.bw_rows.proofs.Values.{same_number, same_value}
+use Rattle.bw_rows.specs.Law.{head_at, is_doomed, HasValues, HasNames}
+use Rattle.bw_rows.specs.Steps.{with, head_in}
+use Rattle.bw_rows.specs.Laws.{IsUnnamed, HasHomes, HasNoChunk, HasNumber, IsKnown}
+use Rattle.bw_rows.proofs.OneKey.{split, same_true, chunks_apart, number_of_place}
+use Rattle.bw_rows.proofs.Values.{same_number}
 
 -- ---- the width of a head's number
 
@@ -56,6 +56,18 @@ unread_names p new names lawful = record {
   wide = λ name row h. lawful.wide name row (sym (names name) ∙ h);
   apart = λ name other row its h g e. lawful.apart name other row its (sym (names name) ∙ h) (sym (names other) ∙ g) e;
 }
+
+pub same_number_at : (p new : Plain) (name t : Bytes) → new (name_key name) ≡ p (name_key name) → HasNumber p name t → HasNumber new name t
+same_number_at p new name t same its = ap (option_map table_in) same ∙ its
+
+-- what has a table, or is gone, stays so if names and gone numbers do
+pub still_known : (p new : Plain) (t : Bytes) → ((name : Bytes) → new (name_key name) ≡ p (name_key name)) → new (gone_key t) ≡ p (gone_key t) → IsKnown p t → IsKnown new t
+still_known p new t names gone (inl its) = inl (its.0, same_number_at p new its.0 t (names its.0) its.1)
+still_known p new t names gone (inr its) = inr (ap is_some gone ∙ its)
+
+pub unread_homes : (p new : Plain) → ((q : Bytes) → new (row_key q) ≡ p (row_key q)) → ((name : Bytes) → new (name_key name) ≡ p (name_key name))
+    → ((t : Bytes) → new (gone_key t) ≡ p (gone_key t)) → HasHomes p → HasHomes new
+unread_homes p new rows names gone homes k there = still_known p new (take 2 k) names (gone (take 2 k)) (homes k (sym (ap is_some (rows k)) ∙ there))
 
 -- ---- a chunk of a doomed number
 

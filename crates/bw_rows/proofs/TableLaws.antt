@@ -1,16 +1,17 @@
 -- What each group does to the tables that a map stands for.
 
-use Rattle.std.proofs.Common.{ℕ, ◌≡◌, ◌<◌, Bool, true, false, cond, Option, Some, None, is_some, List, [], ◌∷◌, ◌++◌, length, take, refl, sym, ap, subst, ◌∙◌}
+use Rattle.std.proofs.Common.{ℕ, ◌≡◌, ◌<◌, inl, Bool, true, false, cond, Option, Some, None, is_some, [], length, take, refl, sym, ap, subst, ◌∙◌}
 use Rattle.std.proofs.lemmas.Bool.{true≢false}
-use Rattle.std.specs.Option.{option_map, option_and_then}
-use Rattle.bw_rows.specs.Spelling.{Bytes, same, name_key, stands_key, aside_key, row_key, row_place, chunk_key, chunk_place, doomed_key, free_key, head_of, chunks_in}
+use Rattle.std.specs.Option.{option_map}
+use Rattle.bw_rows.specs.Spelling.{Bytes, same, name_key, stands_key, aside_key, row_key, row_place, chunk_key, chunk_place, doomed_key, free_key, gone_key, chunks_in}
 use Rattle.bw_rows.specs.Meaning.{Plain, Table, Tables, chunks_of, joined, over, counted, value_by, value_of, found, tables_of, table_in, with_value}
-use Rattle.bw_rows.specs.Law.{head_at, is_doomed, HasValues, HasNames, Steps, IsWhole}
-use Rattle.bw_rows.specs.Steps.{with, after, head_in, row_group, step_of}
-use Rattle.bw_rows.specs.Laws.{IsLawful, IsTables, IsUnnamed, HasNoChunk, HasChunks, HasNumber, DoomIsLawful, ChunkIsLawful, FreeIsLawful, EndIsLawful, ShortIsTheStep, HeadIsTheStep, FreshIsUnnamed}
-use Rattle.bw_rows.proofs.OneKey.{split, same_self, same_true, same_false, same_behind, rows_apart}
+use Rattle.bw_rows.specs.Law.{head_at, is_doomed, HasNames, Steps, IsWhole}
+use Rattle.bw_rows.specs.Steps.{with, after, head_in, step_of}
+use Rattle.bw_rows.specs.Laws.{IsTables, HasHomes, HasNumber, DoomIsLawful, ChunkIsLawful, FreeIsLawful, EndIsLawful, ShortIsTheStep, HeadIsTheStep, FreshIsUnnamed}
+use Rattle.bw_rows.proofs.OneKey.{split, same_self, same_true, same_behind, rows_apart}
 use Rattle.bw_rows.proofs.Values.{same_number, same_optional, step_is_lawful, step_is_found}
-use Rattle.bw_rows.proofs.Records.{unread_is_lawful, unread_names, chunk_is_lawful, chunk_is_found, doom_is_lawful, end_is_lawful}
+use Rattle.bw_rows.proofs.HeadLaws.{front_of}
+use Rattle.bw_rows.proofs.Records.{same_number_at, still_known, unread_homes, unread_is_lawful, unread_names, chunk_is_lawful, chunk_is_found, doom_is_lawful, end_is_lawful}
 use Rattle.bw_rows.proofs.Groups.{group_steps, group_others}
 
 -- where no batch stands, the row counts
@@ -96,6 +97,7 @@ doom_law tables p n h unnamed =
       lawful = record {
         values = doom_is_lawful p n h.lawful.values unnamed;
         names = unread_names p new (λ name. refl) h.lawful.names;
+        homes = unread_homes p new (λ q. refl) (λ name. refl) (λ t. refl) h.lawful.homes;
         quiet = h.lawful.quiet;
       };
       its = same_tables p new (λ name. refl) (λ k. quiet_found new k h.lawful.quiet ∙ same_optional p new (λ c. refl) (p (row_key k)) ∙ sym (quiet_found p k h.lawful.quiet)) ∙ h.its;
@@ -108,6 +110,7 @@ end_law tables p n h none =
       lawful = record {
         values = end_is_lawful p n h.lawful.values none;
         names = unread_names p new (λ name. refl) h.lawful.names;
+        homes = unread_homes p new (λ q. refl) (λ name. refl) (λ t. refl) h.lawful.homes;
         quiet = h.lawful.quiet;
       };
       its = same_tables p new (λ name. refl) (λ k. quiet_found new k h.lawful.quiet ∙ same_optional p new (λ c. refl) (p (row_key k)) ∙ sym (quiet_found p k h.lawful.quiet)) ∙ h.its;
@@ -120,6 +123,7 @@ free_law tables p n mark h =
       lawful = record {
         values = unread_is_lawful p new (λ q. refl) (λ c. refl) (λ m. refl) h.lawful.values;
         names = unread_names p new (λ name. refl) h.lawful.names;
+        homes = unread_homes p new (λ q. refl) (λ name. refl) (λ t. refl) h.lawful.homes;
         quiet = h.lawful.quiet;
       };
       its = same_tables p new (λ name. refl) (λ k. quiet_found new k h.lawful.quiet ∙ same_optional p new (λ c. refl) (p (row_key k)) ∙ sym (quiet_found p k h.lawful.quiet)) ∙ h.its;
@@ -132,10 +136,21 @@ chunk_law tables p n i chunk wide h doomed =
       lawful = record {
         values = chunk_is_lawful p n i chunk wide h.lawful.values doomed;
         names = unread_names p new (λ name. refl) h.lawful.names;
+        homes = unread_homes p new (λ q. refl) (λ name. refl) (λ t. refl) h.lawful.homes;
         quiet = h.lawful.quiet;
       };
       its = same_tables p new (λ name. refl) (λ k. quiet_found new k h.lawful.quiet ∙ chunk_is_found p n i chunk wide h.lawful.values doomed k ∙ sym (quiet_found p k h.lawful.quiet)) ∙ h.its;
     }
+
+-- a place in a table begins with the table's number
+pub number_of_place : (p : Plain) (name t key : Bytes) → HasNames p → HasNumber p name t → take 2 (row_place t key) ≡ t
+number_of_place p name t key names its = front_of t key 2 (its_wide p (found p) name t key None names its)
+
+placed_homes : (p new : Plain) (name t key : Bytes) (row : Option Bytes) → ((q : Bytes) → new (row_key q) ≡ cond (same q (row_place t key)) row (p (row_key q)))
+    → ((other : Bytes) → new (name_key other) ≡ p (name_key other)) → ((u : Bytes) → new (gone_key u) ≡ p (gone_key u)) → HasNames p → HasNumber p name t → HasHomes p → HasHomes new
+placed_homes p new name t key row rows same_names gone names its homes k there = split k (row_place t key)
+    (λ one. inl (name, subst (HasNumber new name) (sym (ap (take 2) (same_true k (row_place t key) one) ∙ number_of_place p name t key names its)) (same_number_at p new name t (same_names name) its)))
+    (λ two. still_known p new (take 2 k) same_names (gone (take 2 k)) (homes k (sym (ap is_some (rows k ∙ ap (λ b. cond b row (p (row_key k))) two)) ∙ there)))
 
 -- the group of a row that may be written
 step_law : (tables : Tables) (p : Plain) (name t key : Bytes) (row : Option Bytes) → IsTables tables p → HasNumber p name t → IsWhole p row
@@ -150,6 +165,7 @@ step_law tables p name t key row h its whole =
       lawful = record {
         values = step_is_lawful p new k row h.lawful.values whole steps;
         names = unread_names p new others.0 h.lawful.names;
+        homes = placed_homes p new name t key row steps.rows others.0 others.2 h.lawful.names its h.lawful.homes;
         quiet = quiet;
       };
       its = one_value_of p new name t key (option_map (value_of p) row) h.lawful.names its others.0

@@ -1,11 +1,11 @@
 -- Each step of a call leaves a lawful map, and changes one value.
 
-use Rattle.std.proofs.Common.{ℕ, zero, suc, ◌≡◌, ◌<◌, ◌≤◌, Bool, true, false, cond, Option, Some, None, is_some, List, [], ◌∷◌, ◌++◌, length, take, drop, refl, sym, ap, ◌∙◌, arith}
+use Rattle.std.proofs.Common.{ℕ, ◌≡◌, true, false, cond, Option, Some, None, is_some, take, refl, sym, ap, ◌∙◌}
 use Rattle.std.proofs.lemmas.Bool.{true≢false}
 use Rattle.std.specs.Option.{option_map, option_and_then}
-use Rattle.bw_rows.specs.Spelling.{Bytes, same, row_key, chunk_key, chunk_place, doomed_key, head_of, chunks_in}
-use Rattle.bw_rows.specs.Meaning.{Plain, chunks_of, joined, value_by, value_of}
-use Rattle.bw_rows.specs.Law.{head_at, is_doomed, HasValues, Steps, IsWhole}
+use Rattle.bw_rows.specs.Spelling.{Bytes, same, row_key, chunk_key, chunk_place, head_of, chunks_in}
+use Rattle.bw_rows.specs.Meaning.{Plain, joined, value_by, value_of}
+use Rattle.bw_rows.specs.Law.{head_at, HasValues, Steps, IsWhole}
 use Rattle.bw_rows.proofs.OneKey.{split, same_self, same_true, same_false}
 
 -- ---- heads

@@ -1,12 +1,12 @@
 -- A batch: rows that are written aside, the mark that makes them stand, and the groups that carry them out.
 
-use Rattle.std.specs.Prelude.{◌≡◌, ◌<◌, ◌⊎◌, ℕ, [], true, cond, length, Option, Some, None, is_some}
+use Rattle.std.specs.Prelude.{◌≡◌, ◌<◌, ◌⊎◌, ℕ, [], true, cond, length, take, Option, Some, None, is_some}
 use Rattle.std.specs.Option.{option_map}
-use Rattle.bw_rows.specs.Spelling.{Bytes, same, name_key, stands_key, aside_key, row_place, no_row, chunks_in}
+use Rattle.bw_rows.specs.Spelling.{Bytes, same, name_key, gone_key, stands_key, aside_key, row_place, no_row, chunks_in}
 use Rattle.bw_rows.specs.Meaning.{Plain, Tables, chunks_of, over, value_of, found, tables_of, table_in, with_value}
 use Rattle.bw_rows.specs.Law.{head_at, is_doomed, HasValues, HasNames, IsWhole}
 use Rattle.bw_rows.specs.Steps.{with, after, head_in, carry_of}
-use Rattle.bw_rows.specs.Laws.{IsTables, HasNumber}
+use Rattle.bw_rows.specs.Laws.{IsTables, HasHomes, HasNumber, IsKnown}
 
 -- what the row aside at a place names
 abbrev pub head_aside : Plain → Bytes → Option (Bytes × ℕ)
@@ -21,11 +21,14 @@ pub record HasAsides (p : Plain) : Type 0 where
   pub once : (k q n : Bytes) (c d : ℕ) → head_aside p k ≡ Some (n, c) → head_aside p q ≡ Some (n, d) → k ≡ q
   -- what a row aside names is doomed, up to the group that carries it out
   pub doomed : (k n : Bytes) (c : ℕ) → head_aside p k ≡ Some (n, c) → is_doomed p n ≡ true
+  -- a row aside is of a number that a table has, or that is gone
+  pub homes : (k : Bytes) → is_some (p (aside_key k)) ≡ true → IsKnown p (take 2 k)
 
 -- a batch stands, and these are the tables
 pub record IsStanding (tables : Tables) (p : Plain) : Type 0 where
   pub values : HasValues p
   pub names : HasNames p
+  pub homes : HasHomes p
   pub stands : is_some (p stands_key) ≡ true
   pub asides : HasAsides p
   pub its : tables_of p ≡ tables
@@ -63,6 +66,7 @@ pub record IsGathering (tables next : Tables) (p : Plain) : Type 0 where
 pub record HasOthers (n : Bytes) (p new : Plain) : Type 0 where
   pub names : (name : Bytes) → new (name_key name) ≡ p (name_key name)
   pub asides : (k : Bytes) → new (aside_key k) ≡ p (aside_key k)
+  pub gone : (t : Bytes) → new (gone_key t) ≡ p (gone_key t)
   pub chunks : (m : Bytes) (i : ℕ) → length m ≡ 8 → (m ≡ n → ⊥) → chunks_of new m i ≡ chunks_of p m i
   pub doomed : (m : Bytes) → (m ≡ n → ⊥) → is_doomed new m ≡ is_doomed p m
 

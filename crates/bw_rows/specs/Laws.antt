@@ -1,6 +1,6 @@
 -- The law of each group that a call writes: the map stays lawful, and what its tables are.
 
-use Rattle.std.specs.Prelude.{◌≡◌, ◌<◌, ℕ, true, false, [], ◌∷◌, take, length, cond, Option, Some, None, is_some}
+use Rattle.std.specs.Prelude.{◌≡◌, ◌<◌, ◌⊎◌, ℕ, true, false, [], ◌∷◌, take, length, cond, Option, Some, None, is_some}
 use Rattle.std.specs.Option.{option_map}
 use Rattle.bw_record.specs.declared.record.Record.TheVariants.{Put, Del}
 use Rattle.bw_rows.specs.Spelling.{Bytes, same, mark_key, name_key, doomed_key, gone_key, free_key, stands_key, chunk_key, chunk_place, row_key, row_place, chunk_of, chunks_in}
@@ -8,10 +8,27 @@ use Rattle.bw_rows.specs.Meaning.{Plain, Table, Tables, chunks_of, joined, value
 use Rattle.bw_rows.specs.Law.{head_at, is_doomed, HasValues, HasNames}
 use Rattle.bw_rows.specs.Steps.{with, after, head_in, step_of}
 
--- values and names are lawful, and no batch stands
+-- the table of a name has this number
+abbrev pub HasNumber : Plain → Bytes → Bytes → Type 0
+HasNumber p name t = option_map table_in (p (name_key name)) ≡ Some t
+
+-- some table has it
+abbrev pub IsOfTable : Plain → Bytes → Type 0
+IsOfTable p t = (name : Bytes) × HasNumber p name t
+
+-- some table has it, or it is gone
+abbrev pub IsKnown : Plain → Bytes → Type 0
+IsKnown p t = IsOfTable p t ⊎ (is_some (p (gone_key t)) ≡ true)
+
+-- each row is of such a number
+abbrev pub HasHomes : Plain → Type 0
+HasHomes p = (k : Bytes) → is_some (p (row_key k)) ≡ true → IsKnown p (take 2 k)
+
+-- values, names and rows are lawful, and no batch stands
 pub record IsLawful (p : Plain) : Type 0 where
   pub values : HasValues p
   pub names : HasNames p
+  pub homes : HasHomes p
   pub quiet : p stands_key ≡ None
 
 -- lawful, with these tables
@@ -51,10 +68,6 @@ abbrev pub EndIsLawful : Type 0
 EndIsLawful = (tables : Tables) (p : Plain) (n : Bytes) → IsTables tables p → HasNoChunk p n → IsTables tables (with p (doomed_key n) None)
 
 -- ---- the step
-
--- the table of a name has this number
-abbrev pub HasNumber : Plain → Bytes → Bytes → Type 0
-HasNumber p name t = option_map table_in (p (name_key name)) ≡ Some t
 
 -- a row that is the value itself, or none, is written: one key has it, and all others have theirs
 abbrev pub ShortIsTheStep : Type 0
@@ -96,13 +109,13 @@ IsNoTable p t = (name row : Bytes) → p (name_key name) ≡ Some row → table_
 
 -- a table gets a number that no table and no row has
 abbrev pub CreateIsTheStep : Type 0
-CreateIsTheStep = (tables : Tables) (p : Plain) (name row mark : Bytes) → IsTables tables p → length (table_in row) ≡ 2 → IsNoTable p (table_in row)
+CreateIsTheStep = (tables : Tables) (p : Plain) (name row mark : Bytes) → IsTables tables p → p (name_key name) ≡ None → length (table_in row) ≡ 2 → IsNoTable p (table_in row)
     → ((key : Bytes) → p (row_key (row_place (table_in row) key)) ≡ None)
     → IsTables (with_table tables name (Some empty_table)) (after p (Put (name_key name) row ∷ Put mark_key mark ∷ []))
 
 -- a table goes away with its name, and its number is gone in the same group
 abbrev pub DropIsTheStep : Type 0
-DropIsTheStep = (tables : Tables) (p : Plain) (name t : Bytes) → IsTables tables p
+DropIsTheStep = (tables : Tables) (p : Plain) (name t : Bytes) → IsTables tables p → HasNumber p name t
     → IsTables (with_table tables name None) (after p (Del (name_key name) ∷ Put (gone_key t) [] ∷ []))
 
 -- a row of a number that no table has goes away: the tables stay
@@ -110,15 +123,24 @@ abbrev pub GoneRowIsLawful : Type 0
 GoneRowIsLawful = (tables : Tables) (p : Plain) (t key : Bytes) → IsTables tables p → length t ≡ 2 → IsNoTable p t
     → IsTables tables (after p (step_of (row_place t key) None (head_at p (row_place t key))))
 
--- and behind its last row the number is gone no more
+-- no row has this number
+abbrev pub HasNoRow : Plain → Bytes → Type 0
+HasNoRow p t = (key : Bytes) → p (row_key (row_place t key)) ≡ None
+
+-- after its last row the number is gone no more, and if a table has it
 abbrev pub GoneIsLawful : Type 0
-GoneIsLawful = (tables : Tables) (p : Plain) (t : Bytes) (mark : Option Bytes) → IsTables tables p → IsTables tables (with p (gone_key t) mark)
+GoneIsLawful = (tables : Tables) (p : Plain) (t : Bytes) → IsTables tables p → HasNoRow p t ⊎ IsOfTable p t → IsTables tables (with p (gone_key t) None)
+
+-- if no number is gone, each row is of a table
+abbrev pub NothingIsLeft : Type 0
+NothingIsLeft = (p : Plain) (k : Bytes) → IsLawful p → ((t : Bytes) → p (gone_key t) ≡ None) → is_some (p (row_key k)) ≡ true → IsOfTable p (take 2 k)
 
 pub record TablesComeAndGo : Type 0 where
   pub create : CreateIsTheStep
   pub drop : DropIsTheStep
   pub gone_row : GoneRowIsLawful
   pub gone : GoneIsLawful
+  pub nothing : NothingIsLeft
 
 -- ---- chunks
 

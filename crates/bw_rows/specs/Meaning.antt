@@ -1,7 +1,7 @@
 -- The tables that a plain map stands for.
 
-use Rattle.std.specs.Prelude.{ℕ, zero, suc, ◌++◌, List, [], take, drop, cond, Option, Some, None, is_some}
-use Rattle.std.specs.Option.{option_map, option_and_then}
+use Rattle.std.specs.Prelude.{ℕ, zero, suc, ◌++◌, [], take, drop, cond, Option, Some, None, is_some}
+use Rattle.std.specs.Option.{option_map}
 use Rattle.bw_rows.specs.Spelling.{Bytes, same, stands_key, name_key, aside_key, chunk_key, chunk_place, row_key, row_place, no_row, head_of, chunks_in}
 
 -- what a store has at each key

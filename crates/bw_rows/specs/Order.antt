@@ -1,6 +1,6 @@
 -- Rows in the order of their keys.
 
-use Rattle.std.specs.Prelude.{◌≡◌, Bool, true, length, Some}
+use Rattle.std.specs.Prelude.{◌≡◌, true, length, Some}
 use Rattle.bw_record.specs.Keys.{is_below}
 use Rattle.bw_rows.specs.Spelling.{Bytes, row_key, row_place, row_of}
 

@@ -4,11 +4,11 @@ use Rattle.std.proofs.Common.{ℕ, ◌≡◌, ◌+◌, ◌-◌, ◌<◌, ◌≤�
 use Rattle.std.proofs.lemmas.List.Sums.{fold-append}
 use Rattle.bw_record.specs.declared.record.Record.{Record}
 use Rattle.bw_record.specs.declared.record.Record.TheVariants.{Put, Del}
-use Rattle.bw_rows.specs.Spelling.{Bytes, aside_key, row_key, row_place, name_key, mark_key, gone_key, doomed_key, free_key, stands_key, head_of, head_row, whole_row, no_row, chunks_in}
-use Rattle.bw_rows.specs.Meaning.{Plain, Tables, over, with_value}
+use Rattle.bw_rows.specs.Spelling.{Bytes, aside_key, row_key, row_place, name_key, mark_key, gone_key, doomed_key, free_key, stands_key, head_of, head_row, whole_row, no_row}
+use Rattle.bw_rows.specs.Meaning.{Plain, over, with_value}
 use Rattle.bw_rows.specs.Law.{head_at}
 use Rattle.bw_rows.specs.Steps.{with, changed, after, head_in, row_group, aside_group, step_of, carry_of}
-use Rattle.bw_rows.specs.Laws.{IsTables, IsUnnamed, HasNumber, with_table, empty_table}
+use Rattle.bw_rows.specs.Laws.{IsTables, with_table, empty_table}
 use Rattle.bw_rows.specs.Batches.{said, batched, IsGathering, IsStanding}
 use Rattle.bw_rows.proofs.TableLaws as laws
 use Rattle.bw_rows.proofs.NameLaws.{create_law, drop_law, gone_row_law}
@@ -17,7 +17,7 @@ use Rattle.bw_rows.proofs.GatherLaws.{gathered_law}
 use Rattle.bw_rows.proofs.OneKey.{split, same_true}
 use Rattle.bw_rows.proofs.HeadLaws.{head_named}
 use Rattle.bw_tables.specs.Writing.{chunk_records, taking, IsWriting}
-use Rattle.bw_tables.specs.Calls.{Begins, GoesOn, MakesLong, MakesShort, Frees, MakesBatch, CarriesOut, EndsBatch, MakesTable, DropsTable, DropsRow, KeepsNames, SetsAside}
+use Rattle.bw_tables.specs.Calls.{Begins, GoesOn, MakesLong, MakesShort, Frees, MakesBatch, CarriesOut, EndsBatch, MakesTable, DropsTable, DropsRow, KeepsMarks, SetsAside}
 use Rattle.bw_tables.proofs.WritingLaws.{taking_law, chunks_law, step_law}
 
 -- a number of two bytes in front
@@ -91,16 +91,16 @@ ends_batch group is tables p h none =
     subst (λ (g : List Record). IsTables tables (after p g)) (sym is) step
 
 pub makes_table : (name t mark : Bytes) (group : List Record) → length t ≡ 2 → group ≡ Put (name_key name) (t ++ 1 ∷ []) ∷ Put mark_key mark ∷ [] → MakesTable name t group
-makes_table name t mark group wide is tables p h none empty =
+makes_table name t mark group wide is tables p h fresh none empty =
     let its : take 2 (t ++ 1 ∷ []) ≡ t = front t wide in
-    let step = create_law tables p name (t ++ 1 ∷ []) mark h (ap length its ∙ wide)
+    let step = create_law tables p name (t ++ 1 ∷ []) mark h fresh (ap length its ∙ wide)
     (λ other row e f. none other row e (f ∙ its))
     (λ key. ap (λ (x : Bytes). p (row_key (row_place x key))) its ∙ empty key) in
     subst (λ (g : List Record). IsTables (with_table tables name (Some empty_table)) (after p g)) (sym is) step
 
-pub drops_table : (name t : Bytes) (group : List Record) → group ≡ Del (name_key name) ∷ Put (gone_key t) [] ∷ [] → DropsTable name group
-drops_table name t group is tables p h =
-    let step = drop_law tables p name t h in
+pub drops_table : (name t : Bytes) (group : List Record) → group ≡ Del (name_key name) ∷ Put (gone_key t) [] ∷ [] → DropsTable name t group
+drops_table name t group is tables p h its =
+    let step = drop_law tables p name t h its in
     subst (λ (g : List Record). IsTables (with_table tables name None) (after p g)) (sym is) step
 
 pub drops_row : (t key : Bytes) (old : Option (Bytes × ℕ)) (group : List Record) → length t ≡ 2 → group ≡ row_group (row_place t key) None None old → DropsRow t key old group
@@ -109,17 +109,21 @@ drops_row t key old group wide is tables p h none was =
     let step : IsTables tables (after p (step_of place None (head_at p place))) = gone_row_law tables p t key h wide none in
     subst (λ (g : List Record). IsTables tables (after p g)) (ap (row_group place None None) was ∙ sym is) step
 
--- a row that goes away changes no name
-row_names : (place : Bytes) (old : Option (Bytes × ℕ)) → KeepsNames (row_group place None None old)
-row_names place None = λ p name. refl
-row_names place (Some head) = λ p name. refl
+-- a row that goes away changes no name, no number that is gone, and no row aside
+row_marks : (place : Bytes) (old : Option (Bytes × ℕ)) → KeepsMarks (row_group place None None old)
+row_marks place None = record { names = λ p name. refl; gone = λ p t. refl; asides = λ p k. refl }
+row_marks place (Some head) = record { names = λ p name. refl; gone = λ p t. refl; asides = λ p k. refl }
 
-pub row_keeps_names : (place : Bytes) (old : Option (Bytes × ℕ)) (group : List Record) → group ≡ row_group place None None old → KeepsNames group
-row_keeps_names place old group is = subst KeepsNames (sym is) (row_names place old)
+pub row_keeps_marks : (place : Bytes) (old : Option (Bytes × ℕ)) (group : List Record) → group ≡ row_group place None None old → KeepsMarks group
+row_keeps_marks place old group is = subst KeepsMarks (sym is) (row_marks place old)
 
 -- nor does a number that is freed
-pub frees_no_name : (n : Bytes) (group : List Record) → group ≡ Del (doomed_key n) ∷ Put (free_key n) [] ∷ [] → KeepsNames group
-frees_no_name n group is = subst KeepsNames (sym is) (λ p name. refl)
+pub frees_no_mark : (n : Bytes) (group : List Record) → group ≡ Del (doomed_key n) ∷ Put (free_key n) [] ∷ [] → KeepsMarks group
+frees_no_mark n group is = subst KeepsMarks (sym is) (record { names = λ p name. refl; gone = λ p t. refl; asides = λ p k. refl })
+
+-- nor the end of a batch
+pub ends_no_mark : (group : List Record) → group ≡ Del stands_key ∷ [] → KeepsMarks group
+ends_no_mark group is = subst KeepsMarks (sym is) (record { names = λ p name. refl; gone = λ p t. refl; asides = λ p k. refl })
 
 -- ---- rows aside
 

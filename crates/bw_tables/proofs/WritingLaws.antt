@@ -1,21 +1,21 @@
 -- A put of a long value is one step.
 
-use Rattle.std.proofs.Common.{ℕ, zero, suc, ◌≡◌, ◌+◌, ◌<◌, ◌≤◌, ◌^◌, Bool, true, false, cond, Option, Some, None, is_some, List, [], ◌∷◌, ◌++◌, length, take, drop, refl, sym, ap, subst, ◌∙◌, arith, nat_eq, eq-eqb, ◌-◌, append_assoc, length-append}
+use Rattle.std.proofs.Common.{ℕ, zero, suc, ◌≡◌, ◌+◌, ◌<◌, ◌≤◌, ◌^◌, true, false, cond, Some, None, is_some, List, [], ◌∷◌, ◌++◌, length, drop, refl, sym, ap, subst, ◌∙◌, arith, nat_eq, eq-eqb, ◌-◌, append_assoc, length-append}
 use Rattle.bw_record.specs.declared.record.Record.{Record}
 use Rattle.std.proofs.lemmas.Bool.{true≢false, eqb-true}
 use Rattle.std.specs.Int.{w32, from_be_bytes}
 use Rattle.std.proofs.lemmas.Nat.{from_be_bytes-to_be_bytes_4}
 use Rattle.std.proofs.lemmas.List.Sums.{fold_push}
-use Rattle.bw_rows.specs.Spelling.{Bytes, same, four, doomed_key, free_key, chunk_key, chunk_place, row_place, head_row, chunk_of, chunks_in}
+use Rattle.bw_rows.specs.Spelling.{Bytes, same, four, doomed_key, chunk_place, row_place, head_row, chunk_of, chunks_in}
 use Rattle.bw_rows.specs.Meaning.{Plain, Tables, chunks_of, joined, with_value}
-use Rattle.bw_rows.specs.Law.{head_at, is_doomed}
-use Rattle.bw_rows.specs.Steps.{with, changed, after, head_in, step_of}
-use Rattle.bw_rows.specs.Laws.{IsTables, IsUnnamed, HasNumber}
-use Rattle.bw_rows.proofs.OneKey.{split, same_self, same_true, same_false}
+use Rattle.bw_rows.specs.Law.{head_at}
+use Rattle.bw_rows.specs.Steps.{with, changed, after, step_of}
+use Rattle.bw_rows.specs.Laws.{IsTables}
+use Rattle.bw_rows.proofs.OneKey.{same_self, same_false}
 use Rattle.bw_rows.proofs.TableLaws.{doom_law, free_law, chunk_law, head_law}
 use Rattle.bw_rows.proofs.HeadLaws.{head_named}
 use Rattle.bw_rows.proofs.ChunkLaws.{all_joined}
-use Rattle.bw_tables.specs.Writing.{chunk_record, chunk_records, taking, IsWriting, TakingIsLawful, ChunksAreLawful, LongIsTheStep}
+use Rattle.bw_tables.specs.Writing.{chunk_record, chunk_records, IsWriting, TakingIsLawful, ChunksAreLawful, LongIsTheStep}
 
 pub taking_law : TakingIsLawful
 taking_law tables p n value h unnamed =

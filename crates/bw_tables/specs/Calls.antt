@@ -1,12 +1,12 @@
 -- What each group of a call makes of the tables.
 
-use Rattle.std.specs.Prelude.{◌≡◌, ◌<◌, ◌+◌, ◌^◌, ℕ, true, List, [], length, take, Option, Some, None}
+use Rattle.std.specs.Prelude.{◌≡◌, ℕ, List, length, Option, Some, None}
 use Rattle.bw_record.specs.declared.record.Record.{Record}
-use Rattle.bw_rows.specs.Spelling.{Bytes, name_key, row_key, row_place, aside_key, chunks_in}
-use Rattle.bw_rows.specs.Meaning.{Plain, Tables, table_in, with_value}
+use Rattle.bw_rows.specs.Spelling.{Bytes, name_key, gone_key, row_place, aside_key, chunks_in}
+use Rattle.bw_rows.specs.Meaning.{Plain, Tables, with_value}
 use Rattle.bw_rows.specs.Law.{head_at}
 use Rattle.bw_rows.specs.Steps.{after}
-use Rattle.bw_rows.specs.Laws.{IsTables, IsUnnamed, IsNoTable, HasNoChunk, HasNumber, with_table, empty_table}
+use Rattle.bw_rows.specs.Laws.{IsTables, IsUnnamed, IsNoTable, HasNoRow, HasNoChunk, HasNumber, with_table, empty_table}
 use Rattle.bw_rows.specs.Batches.{said, batched, FitsAside, HasAsides, IsGathering, IsStanding}
 use Rattle.bw_tables.specs.Writing.{IsWriting}
 
@@ -56,18 +56,20 @@ EndsBatch group = (tables : Tables) (p : Plain) → IsStanding tables p → ((k 
 -- a table with no key comes, under a number that no table and no row has
 abbrev pub MakesTable : Bytes → Bytes → List Record → Type 0
 MakesTable name t group =
-    (tables : Tables) (p : Plain) → IsTables tables p → IsNoTable p t → ((key : Bytes) → p (row_key (row_place t key)) ≡ None)
+    (tables : Tables) (p : Plain) → IsTables tables p → p (name_key name) ≡ None → IsNoTable p t → HasNoRow p t
     → IsTables (with_table tables name (Some empty_table)) (after p group)
 
--- a table goes away
-abbrev pub DropsTable : Bytes → List Record → Type 0
-DropsTable name group = (tables : Tables) (p : Plain) → IsTables tables p → IsTables (with_table tables name None) (after p group)
+-- a table goes away, which has this number
+abbrev pub DropsTable : Bytes → Bytes → List Record → Type 0
+DropsTable name t group = (tables : Tables) (p : Plain) → IsTables tables p → HasNumber p name t → IsTables (with_table tables name None) (after p group)
 
 -- a row that no table has goes away, which named this: the tables stay
 abbrev pub DropsRow : Bytes → Bytes → Option (Bytes × ℕ) → List Record → Type 0
 DropsRow t key old group =
     (tables : Tables) (p : Plain) → IsTables tables p → IsNoTable p t → head_at p (row_place t key) ≡ old → IsTables tables (after p group)
 
--- all names stay as they are
-abbrev pub KeepsNames : List Record → Type 0
-KeepsNames group = (p : Plain) (name : Bytes) → after p group (name_key name) ≡ p (name_key name)
+-- names, numbers that are gone, and rows aside stay as they are
+pub record KeepsMarks (group : List Record) : Type 0 where
+  pub names : (p : Plain) (name : Bytes) → after p group (name_key name) ≡ p (name_key name)
+  pub gone : (p : Plain) (t : Bytes) → after p group (gone_key t) ≡ p (gone_key t)
+  pub asides : (p : Plain) (k : Bytes) → after p group (aside_key k) ≡ p (aside_key k)

@@ -6,7 +6,7 @@ ghost use Rattle.bw_record.specs.declared.record.Record.TheVariants.{Put};
 ghost use Rattle.bw_rows.specs.Spelling as spelling;
 ghost use Rattle.bw_rows.specs.Meaning.{over};
 ghost use Rattle.bw_rows.specs.Steps.{aside_group, row_group};
-ghost use Rattle.bw_tables.specs.Calls.{Begins, CarriesOut, DropsRow, DropsTable, EndsBatch, Frees, GoesOn, KeepsNames, MakesBatch, MakesLong, MakesShort, MakesTable, SetsAside};
+ghost use Rattle.bw_tables.specs.Calls.{Begins, CarriesOut, DropsRow, DropsTable, EndsBatch, Frees, GoesOn, KeepsMarks, MakesBatch, MakesLong, MakesShort, MakesTable, SetsAside};
 ghost use Rattle.bw_tables.specs.Writing.{chunk_record, chunk_records, named, row_to, taking};
 
 use bw_record::{Key, Record, Value};
@@ -153,7 +153,7 @@ pub fn delete_step(table: TableNumber, key: &RowKey, old: Option<Head>) -> Group
 /// The last group of a collection, behind the last chunk: the number may be taken again.
 pub fn free_group(number: Number) -> Group
     ensures frees { Frees number.bytes result }
-    ensures names { KeepsNames result }
+    ensures marks { KeepsMarks result }
 {
     let mut group = Group::one(Record::Del(doomed_key(number)));
     add(&mut group, Record::Put(free_key(number), nothing()));
@@ -214,7 +214,8 @@ pub fn carry_row(table: TableNumber, key: &RowKey, aside: Value, old: Option<Hea
 
 /// The group that ends a batch, once nothing is left aside.
 pub fn batch_end() -> Group
-    ensures { EndsBatch result }
+    ensures ends { EndsBatch result }
+    ensures marks { KeepsMarks result }
 {
     Group::one(Record::Del(stands_key()))
 }
@@ -242,7 +243,7 @@ pub fn create_step(name: &Name, table: TableNumber, mark: Value) -> Group
 
 /// The step of a drop: the table goes away, and its number is gone, up to the last of its rows.
 pub fn drop_step(name: &Name, table: TableNumber) -> Group
-    ensures step { DropsTable name.now result }
+    ensures step { DropsTable name.now table.bytes result }
 {
     let mut group = Group::one(Record::Del(name_key(name)));
     add(&mut group, Record::Put(gone_key(table), nothing()));
@@ -252,7 +253,7 @@ pub fn drop_step(name: &Name, table: TableNumber) -> Group
 /// A row of a table that is gone goes away; `old` is what it names.
 pub fn drop_row(table: TableNumber, key: &RowKey, old: Option<Head>) -> Group
     ensures drops { DropsRow table.bytes key.now (named old) result }
-    ensures names { KeepsNames result }
+    ensures marks { KeepsMarks result }
 {
     row_change(table, key, None, None, old)
 }

@@ -10,7 +10,7 @@ use Rattle.bw_calls.proofs.batching.group_of.Given as goal
 abbrev pub invariant-changes : goal.invariant-changes
 invariant-changes g l =
     IsReady l.home (λ z. (goal.Segment-dyn g z).holding z.1)
-    × ((maps_of l.home (λ z. (goal.Segment-dyn g z).holding z.1)).put ≡ (maps_of l.start.home (λ z. (goal.Segment-dyn g z).holding z.1)).put)
-    × Reads l.start.home l.home (λ z. (goal.Segment-dyn g z).holding z.1)
-    × (IsLawful (plain_in l.start.home (λ z. (goal.Segment-dyn g z).holding z.1))
-    → IsUpTo (plain_in l.start.home (λ z. (goal.Segment-dyn g z).holding z.1)) (with_changes (tables_in l.start.home (λ z. (goal.Segment-dyn g z).holding z.1)) (take l.i l.changes)) l.group)
+    × ((maps_of l.home (λ z. (goal.Segment-dyn g z).holding z.1)).put ≡ (maps_of l.initial.home (λ z. (goal.Segment-dyn g z).holding z.1)).put)
+    × Reads l.initial.home l.home (λ z. (goal.Segment-dyn g z).holding z.1)
+    × (IsLawful (plain_in l.initial.home (λ z. (goal.Segment-dyn g z).holding z.1))
+    → IsUpTo (plain_in l.initial.home (λ z. (goal.Segment-dyn g z).holding z.1)) (with_changes (tables_in l.initial.home (λ z. (goal.Segment-dyn g z).holding z.1)) (take l.i l.changes)) l.group)

@@ -1,5 +1,5 @@
 use Rattle.bw_home.specs.Maps.{maps_of}
-use Rattle.bw_calls.proofs.PlainLaws.{itself, moved, behind, lawful_moved, number_told, tables_from}
+use Rattle.bw_calls.proofs.PlainLaws.{itself, moved, lawful_moved, number_told, tables_from}
 use Rattle.bw_calls.proofs.LeaveLaws.{in_moved}
 use Rattle.bw_calls.proofs.BatchLaws.{one_aside}
 use Rattle.bw_calls.proofs.batching.set_aside.Goals as goal

@@ -1,5 +1,5 @@
-use Rattle.std.proofs.Common.{◌≡◌, length}
-use Rattle.bw_calls.proofs.PlainLaws.{behind, on_err}
+use Rattle.std.proofs.Common.{length, refl}
+use Rattle.bw_calls.proofs.PlainLaws.{behind}
 use Rattle.bw_calls.proofs.LeaveLaws.{in_its}
 use Rattle.bw_calls.proofs.BatchLaws.{gathers_long}
 use Rattle.bw_calls.proofs.batching.set_long.Goals as goal
@@ -12,8 +12,8 @@ returns-in_err-number-clause-leaves g c = λ lawful ts among stops. c.write.ensu
 
 pub returns-clause-gathers : goal.returns-clause-gathers
 returns-clause-gathers g c =
-    gathers_long _ _ _ c.args.table.bytes c.args.key.now c.in_ok-number.number.bytes c.args.value.now c.row.result c.len.result c.put_aside.result c.row.ensures.row c.row.ensures.names
-    c.len.ensures.value c.requires.long c.in_ok-number.ensures.first c.in_ok-number.ensures.others c.in_ok-number.ensures.rows c.in_ok-number.ensures.written c.put_aside.ensures.gathers
+    gathers_long _ _ _ c.args.table.bytes c.args.key.now c.in_ok-number.number.bytes c.args.value.now c.row.result (length c.args.value.now) c.put_aside.result c.row.ensures.row c.row.ensures.names
+    refl c.requires.long c.in_ok-number.ensures.first c.in_ok-number.ensures.others c.in_ok-number.ensures.rows c.in_ok-number.ensures.written c.put_aside.ensures.gathers
 
 pub returns-clause-stays : goal.returns-clause-stays
 returns-clause-stays g c = λ lawful.

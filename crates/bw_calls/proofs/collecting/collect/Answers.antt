@@ -1,6 +1,6 @@
 use Rattle.bw_calls.proofs.PlainLaws.{itself, moved, behind, doomed_by}
 use Rattle.bw_calls.proofs.LeaveLaws.{in_moved}
-use Rattle.bw_calls.proofs.NameLaws.{named_moved, named_then}
+use Rattle.bw_calls.proofs.NameLaws.{marks_moved, marks_then}
 use Rattle.bw_calls.proofs.collecting.collect.Goals as goal
 
 pub returns-in_err-get-clause-stays : goal.returns-in_err-get-clause-stays
@@ -27,11 +27,11 @@ returns-in-Some-clause-leaves g c = λ lawful ts among stops.
 pub returns-in-None-clause-leaves : goal.returns-in-None-clause-leaves
 returns-in-None-clause-leaves g c = λ lawful ts among stops. c.get.ensures.leaves ts stops
 
-pub returns-in_err-get-clause-names : goal.returns-in_err-get-clause-names
-returns-in_err-get-clause-names g c = named_moved _ _ c.get.ensures.same
+pub returns-in_err-get-clause-marks : goal.returns-in_err-get-clause-marks
+returns-in_err-get-clause-marks g c = marks_moved _ _ c.get.ensures.same
 
-pub returns-in-Some-clause-names : goal.returns-in-Some-clause-names
-returns-in-Some-clause-names g c = named_then _ _ _ (named_moved _ _ c.get.ensures.same) c.collect_doomed.ensures.names
+pub returns-in-Some-clause-marks : goal.returns-in-Some-clause-marks
+returns-in-Some-clause-marks g c = marks_then _ _ _ (marks_moved _ _ c.get.ensures.same) c.collect_doomed.ensures.marks
 
-pub returns-in-None-clause-names : goal.returns-in-None-clause-names
-returns-in-None-clause-names g c = named_moved _ _ c.get.ensures.same
+pub returns-in-None-clause-marks : goal.returns-in-None-clause-marks
+returns-in-None-clause-marks g c = marks_moved _ _ c.get.ensures.same

@@ -1,5 +1,6 @@
 use Rattle.bw_calls.proofs.PlainLaws.{moved, behind}
 use Rattle.bw_calls.proofs.LeaveLaws.{in_its}
+use Rattle.bw_calls.proofs.NameLaws.{marks_moved, marks_then}
 use Rattle.bw_calls.proofs.collecting.collect_all.Goals as goal
 
 pub numbers-preserved : goal.numbers-preserved
@@ -11,6 +12,7 @@ numbers-preserved g c = (
   λ lawful ts among stops.
       let h = moved _ _ _ (c.numbers.invariant.1 lawful) c.first_doomed.ensures.same in
       c.collect.ensures.leaves h.lawful ts (in_its ts _ _ h among) (c.first_doomed.ensures.leaves ts (c.numbers.invariant.2 lawful ts among stops)),
+  marks_then _ _ _ (marks_then _ _ _ c.numbers.invariant.3 (marks_moved _ _ c.first_doomed.ensures.same)) c.collect.ensures.marks,
 )
 
 pub returns-in_err-number-clause-stays : goal.returns-in_err-number-clause-stays
@@ -34,3 +36,6 @@ returns-in_err-collect-in-Some-clause-leaves g c = λ lawful ts among stops.
 
 pub returns-in-None-clause-leaves : goal.returns-in-None-clause-leaves
 returns-in-None-clause-leaves g c = λ lawful ts among stops. c.first_doomed.ensures.leaves ts (c.numbers.invariant.2 lawful ts among stops)
+
+pub returns-in-None-clause-marks : goal.returns-in-None-clause-marks
+returns-in-None-clause-marks g c = marks_then _ _ _ c.numbers.invariant.3 (marks_moved _ _ c.first_doomed.ensures.same)

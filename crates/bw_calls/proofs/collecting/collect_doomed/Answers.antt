@@ -1,6 +1,6 @@
 use Rattle.bw_calls.proofs.PlainLaws.{behind, collecting_moved, collecting_behind, no_chunk_moved}
 use Rattle.bw_calls.proofs.LeaveLaws.{in_its}
-use Rattle.bw_calls.proofs.NameLaws.{named_moved, named_then}
+use Rattle.bw_calls.proofs.NameLaws.{marks_moved, marks_then}
 use Rattle.bw_calls.proofs.collecting.collect_doomed.Goals as goal
 
 pub returns-in_err-i-clause-stays : goal.returns-in_err-i-clause-stays
@@ -25,7 +25,7 @@ chunks-preserved g c = (
       let h = collecting_moved _ _ _ c.args.number.bytes (c.chunks.invariant.1 lawful doomed) c.first_left.ensures.same in
       c.drop_chunk.ensures.leaves h.stays.lawful h.doomed ts (in_its ts _ _ h.stays among)
       (c.first_left.ensures.leaves ts (c.chunks.invariant.2 lawful doomed ts among stops)),
-  named_then _ _ _ (named_then _ _ _ c.chunks.invariant.3 (named_moved _ _ c.first_left.ensures.same)) c.drop_chunk.ensures.names,
+  marks_then _ _ _ (marks_then _ _ _ c.chunks.invariant.3 (marks_moved _ _ c.first_left.ensures.same)) c.drop_chunk.ensures.marks,
 )
 
 pub returns-in_err-i-clause-leaves : goal.returns-in_err-i-clause-leaves
@@ -44,11 +44,11 @@ returns-in-None-clause-leaves g c = λ lawful doomed ts among stops.
     c.free.ensures.leaves h.stays.lawful none ts (in_its ts _ _ h.stays among)
     (c.first_left.ensures.leaves ts (c.chunks.invariant.2 lawful doomed ts among stops))
 
-pub returns-in_err-i-clause-names : goal.returns-in_err-i-clause-names
-returns-in_err-i-clause-names g c = named_then _ _ _ c.chunks.invariant.3 (named_moved _ _ c.first_left.ensures.same)
+pub returns-in_err-i-clause-marks : goal.returns-in_err-i-clause-marks
+returns-in_err-i-clause-marks g c = marks_then _ _ _ c.chunks.invariant.3 (marks_moved _ _ c.first_left.ensures.same)
 
-pub returns-in_err-drop_chunk-in-Some-clause-names : goal.returns-in_err-drop_chunk-in-Some-clause-names
-returns-in_err-drop_chunk-in-Some-clause-names g c = named_then _ _ _ (named_then _ _ _ c.chunks.invariant.3 (named_moved _ _ c.first_left.ensures.same)) c.drop_chunk.ensures.names
+pub returns-in_err-drop_chunk-in-Some-clause-marks : goal.returns-in_err-drop_chunk-in-Some-clause-marks
+returns-in_err-drop_chunk-in-Some-clause-marks g c = marks_then _ _ _ (marks_then _ _ _ c.chunks.invariant.3 (marks_moved _ _ c.first_left.ensures.same)) c.drop_chunk.ensures.marks
 
-pub returns-in-None-clause-names : goal.returns-in-None-clause-names
-returns-in-None-clause-names g c = named_then _ _ _ (named_then _ _ _ c.chunks.invariant.3 (named_moved _ _ c.first_left.ensures.same)) c.free.ensures.names
+pub returns-in-None-clause-marks : goal.returns-in-None-clause-marks
+returns-in-None-clause-marks g c = marks_then _ _ _ (marks_then _ _ _ c.chunks.invariant.3 (marks_moved _ _ c.first_left.ensures.same)) c.free.ensures.marks

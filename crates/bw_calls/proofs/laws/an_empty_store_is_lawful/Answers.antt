@@ -15,6 +15,7 @@ returns c = record {
       wide = λ name row e. absurd (cc e);
       apart = λ name other row its e f same. absurd (cc e);
     };
+    homes = λ k there. absurd (cc there);
     quiet = refl;
   };
   its = refl;

@@ -1,6 +1,5 @@
 use Rattle.std.proofs.Common.{◌≡◌, [], ◌∷◌}
-use Rattle.bw_record.specs.declared.record.Record.{Record}
-use Rattle.bw_record.specs.declared.record.Record.TheVariants.{Put, Del}
+use Rattle.bw_record.specs.declared.record.Record.TheVariants.{Put}
 use Rattle.bw_rows.specs.Spelling.{stands_key}
 use Rattle.bw_tables.proofs.CallLaws.{makes_batch}
 use Rattle.bw_tables.proofs.groups.batch_step.Goals as goal

@@ -1,6 +1,5 @@
 use Rattle.std.proofs.Common.{◌≡◌, [], ◌∷◌, ◌++◌, length, rules}
-use Rattle.bw_record.specs.declared.record.Record.{Record}
-use Rattle.bw_record.specs.declared.record.Record.TheVariants.{Put, Del}
+use Rattle.bw_record.specs.declared.record.Record.TheVariants.{Put}
 use Rattle.bw_rows.specs.Spelling.{name_key, mark_key}
 use Rattle.bw_tables.proofs.CallLaws.{makes_table}
 use Rattle.bw_tables.proofs.groups.create_step.Goals as goal

@@ -1,6 +1,5 @@
 use Rattle.bw_tables.specs.Writing.{named}
-use Rattle.std.proofs.Common.{◌≡◌, ◌∙◌, ap, Option, Some, None, List, ℕ}
-use Rattle.bw_record.specs.declared.record.Record.{Record}
+use Rattle.std.proofs.Common.{◌≡◌, ◌∙◌, ap, Some, None, List, ℕ}
 use Rattle.bw_rows.specs.Spelling.{row_place, whole_row}
 use Rattle.bw_rows.specs.Steps.{row_group}
 use Rattle.bw_tables.proofs.CallLaws.{makes_short}
