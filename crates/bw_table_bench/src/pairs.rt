@@ -117,7 +117,10 @@ pub fn batch_all(
     ensures { IsReady home.new holding }
 {
     let mut at = 0u64;
-    'batches: while at < count {
+    'batches: for _ in 0..count {
+        if at >= count {
+            return Ok(());
+        }
         let to = at.saturating_add(size.max(1)).min(count);
         let changes = changes_of(alloc, table, at, to, byte)?;
         batch(home, changes.as_slice())?;
