@@ -15,7 +15,8 @@
 # make peers  times other stores under the same load: LMDB and LevelDB, by their C libraries (liblmdb-dev, libleveldb-dev) and rustc; also with
 #             keys that share 24 bytes, values of 8 and 500, batches of 1 and 4,096, and readers beside
 # make crash  kills the program that make run built in mid-run, and looks at what its folder holds; then puts 10,000 folders together as a loss of
-#             power could leave them, from what a run asked of the system by a shim that cc makes, and looks at each
+#             power could leave them, from what a run asked of the system by a shim that cc makes, and looks at each;
+#             and does both to runs of calls on tables, whose folders hold the tables after some whole call
 # make fuzz   asks the program that make run built with hostile segments, scripts and folders; FUZZ="--cases 100000 --seed 7" says how many and which
 
 PROGRAM = crates/bwlog
@@ -71,6 +72,7 @@ test:
 	python3 tests/program/growth.py
 	python3 tests/program/beside.py
 	python3 tests/program/follow.py
+	python3 tests/program/tables_crash.py 100 5
 	python3 tools/refuse.py --every 5
 
 check:
@@ -97,6 +99,7 @@ peers:
 crash:
 	python3 tests/program/crash.py
 	python3 tests/program/power.py
+	python3 tests/program/tables_crash.py
 
 fuzz:
 	python3 tests/program/fuzz.py $(FUZZ)

@@ -10,9 +10,12 @@ import sys
 
 EXAMPLES = {
     "README.md": ["crates/first/src/main.rt"],
+    "docs/FIRST.md": ["crates/users/src/users.rt"],
     "docs/INSIDE.md": ["crates/bw_file/src/segment.rt", "crates/bw_versions/src/writer.rt", "crates/bw_codec/src/check.rt"],
 }
 PAGES = ["README.md"] + ["docs/%s.md" % name for name in ("FIRST", "USING", "FORMAT", "PROMISES", "INSIDE", "DECISIONS", "TESTING", "MEASURED")]
+# What a page says that a program of the gate prints, line for line.
+PRINTED = {"docs/FIRST.md": "crates/users/stdout"}
 # What a run or a reader of a page makes.
 MADE = ("out/", "crates/bwlog/out/", "crates/mine")
 VECTORS = "crates/test_vectors/src/lib.rt"
@@ -74,6 +77,9 @@ def main():
             lines = [line.strip() for line in example.strip().splitlines()]
             if "\n".join(lines) not in "\n".join(line.strip() for line in text(path).splitlines()):
                 wrong.append("an example of %s is not that of %s" % (page, path))
+    for page, path in PRINTED.items():
+        if "".join("    %s\n" % line for line in text(path).splitlines()) not in text(page):
+            wrong.append("%s does not say what stands in %s" % (page, path))
     vectors = re.sub(r"\\\n\s*", "", text(VECTORS))
     found = [dump for dump in dumps(text("docs/FORMAT.md")) if dump.startswith("42574c4f")]
     if len(found) != 6:

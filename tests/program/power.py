@@ -28,13 +28,13 @@ import sys
 import tempfile
 
 from checks import BUILT as PROGRAM, FAST, Wrong, ask, held_in, notes_of, shim_of, write
+from disk import HEAD, WORD, Disk
 from hostile.reader import log_of
 from hostile.upgrades import a_page_a_segment
 
 FOLDERS = int(sys.argv[1]) if len(sys.argv) > 1 else 10000
 SEED = int(sys.argv[2]) if len(sys.argv) > 2 else 1
 OPTIONS = ["--places", "64", "--m", "4", "--segments", "6", "--capacity", "65560"]
-WORD, HEAD = b"FRM2", 24
 # What stands on standard error behind a run: nothing, or that it met a full log, without `--reuse` and with it.
 TELLS = ("", "the log is full: `clean` gives up its oldest segment, and `add` adds a new one\n",
          "the log is full: `clean` gives up its oldest segment, whose room is a spare again\n")
@@ -113,58 +113,6 @@ class Life:
 
 
 # ---- folders as a loss of power could leave them
-
-
-def frame_of(piece):
-    """The number of the frame that a piece is, if it is one."""
-    return struct.unpack_from("<Q", piece, 4)[0] if piece[:4] == WORD else None
-
-
-class Disk:
-    """What stands for certain, and what may."""
-
-    def __init__(self, stands, last):
-        self.stands = dict(stands)
-        self.now = dict(stands)
-        self.unnamed = set()
-        self.last = last
-
-    def ask(self, note):
-        letter, offset, length, name, piece = note
-        if letter == "o" and name not in self.now:
-            self.now[name] = b""
-            self.unnamed.add(name)
-        elif letter == "w":
-            old = self.now[name].ljust(offset, b"\0")
-            self.now[name] = old[:offset] + piece + old[offset + len(piece) :]
-        elif letter == "t":
-            self.now[name] = self.now[name][:length].ljust(length, b"\0")
-        elif letter == "f":
-            for each in self.unnamed:
-                self.stands.setdefault(each, b"")
-            self.unnamed.clear()
-        elif letter == "s" and name not in self.unnamed:
-            self.stands[name] = self.now[name]
-
-    def left(self, note, draw):
-        """The folders in which this call may leave all, each with the last frame that has to be found, and 0 where none."""
-        letter, offset, length, name, piece = note
-        if name in self.unnamed or name not in self.stands:
-            yield self.stands, self.last
-            return
-        if letter == "t":
-            yield self.stands, self.last
-            yield {**self.stands, name: self.stands[name][:length]}, self.last
-            return
-        cuts = range(len(piece) + 1)
-        if len(piece) > 80:
-            cuts = sorted({0, 1, len(piece) - 1, len(piece)} | {draw.randrange(len(piece)) for _ in range(8)})
-        old = self.stands[name]
-        is_new = offset == len(old)
-        for cut in cuts:
-            held = old[:offset] + piece[:cut] + old[offset + cut :]
-            number = frame_of(piece) if is_new and cut == len(piece) else None
-            yield {**self.stands, name: held}, number or self.last
 
 
 def look(folder, last, life):

@@ -1,0 +1,5 @@
+use Rattle.bw_home.specs.Ready.{IsReady}
+use Rattle.users.proofs.users.named.Given as goal
+
+abbrev pub invariant-keys : goal.invariant-keys
+invariant-keys g l = IsReady l.home (λ z. (goal.Segment-dyn g z).holding z.1)
