@@ -47,6 +47,18 @@ impl Tending {
         Ok(is_enough)
     }
 
+    /// Whether a call that only deletes may be done in a log in which no room can be made.
+    fn admits_delete(&mut self, home: &mut Home, bytes: u64) -> Result<Admission, HomeFault>
+        requires { IsReady home.old holding }
+        ensures { IsReady home.new holding }
+    {
+        if self.has_room_to_delete(home, bytes)? {
+            Ok(Admission::Yes)
+        } else {
+            Ok(Admission::No)
+        }
+    }
+
     /// Whether it is tried to have so many spares: there may be so many, and a log in which no room
     /// could be made is not asked at each call.
     fn tries(&self, home: &Home, wanted: u64) -> bool {
@@ -94,8 +106,8 @@ impl Tending {
         if self.make_towards(rt, home, wanted)? {
             return Ok(Admission::Room);
         }
-        if deletes && self.has_room_to_delete(home, bytes)? {
-            return Ok(Admission::Yes);
+        if deletes {
+            return self.admits_delete(home, bytes);
         }
         Ok(Admission::No)
     }

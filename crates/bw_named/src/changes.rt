@@ -94,7 +94,7 @@ fn needed_by(home: &mut Home, walk: Walk) -> Result<u64, KeysFault>
     'rows: for _ in 0..u64::MAX {
         match walk.next(home)? {
             Some(found) => needed = needed.saturating_add(of_row(found.long())),
-            None => break,
+            None => return Ok(needed),
         }
     }
     Ok(needed)

@@ -86,7 +86,7 @@ impl<O: Write> List<'_, O> {
         'rows: for _ in 0..left {
             match walk.next(home)? {
                 Some(found) => self.pair(home, name, found)?,
-                None => break,
+                None => return Ok(()),
             }
         }
         Ok(())

@@ -116,7 +116,7 @@ fn count_of(home: &mut Home, walk: Walk) -> Result<u64, KeysFault>
     'rows: for _ in 0..u64::MAX {
         match walk.next(home)? {
             Some(_) => count = count.saturating_add(1),
-            None => break,
+            None => return Ok(count),
         }
     }
     Ok(count)
