@@ -184,7 +184,7 @@ fn sum_over(alloc: Global, home: &mut Home, front: &Key) -> Result<Sum, StoreFau
         let part = part_from(alloc, home, &from)?;
         match add_part(&mut sum, front, part.as_slice()) {
             Some(next) => from = next,
-            None => break,
+            None => return Ok(sum),
         }
     }
     Ok(sum)
@@ -238,13 +238,13 @@ fn sum_of_kind(alloc: Global, home: &mut Home, kind: u8) -> Result<Sum, StoreFau
     let mut from = front_of(kind, &[]);
     'keys: for _ in 0..u64::MAX {
         let Some(at) = from else {
-            break;
+            return Ok(sum);
         };
         let Some((key, value)) = home.next_at(&at)? else {
-            break;
+            return Ok(sum);
         };
         if !key.as_slice().starts_with(&[kind]) {
-            break;
+            return Ok(sum);
         }
         let after = sum_after(alloc, home, key.as_slice())?;
         sum = sum

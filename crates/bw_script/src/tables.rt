@@ -50,11 +50,13 @@ fn value_at(home: &mut Home, name: &Name, key: &RowKey) -> Result<Answer, Miss>
     requires { IsReady home.old holding }
     ensures { IsReady home.new holding }
 {
-    let value = get(home, name, key)?;
-    if value.is_none() {
-        has_table(home, name)?;
+    match get(home, name, key)? {
+        Some(value) => Ok(Answer::Tables(TableAnswer::Value(Some(value)))),
+        None => {
+            has_table(home, name)?;
+            Ok(Answer::Tables(TableAnswer::Value(None)))
+        }
     }
-    Ok(Answer::Tables(TableAnswer::Value(value)))
 }
 
 /// The first pair of a table at or above a key.
@@ -62,11 +64,13 @@ fn pair_at(home: &mut Home, name: &Name, key: &RowKey) -> Result<Answer, Miss>
     requires { IsReady home.old holding }
     ensures { IsReady home.new holding }
 {
-    let pair = next_at(home, name, key)?;
-    if pair.is_none() {
-        has_table(home, name)?;
+    match next_at(home, name, key)? {
+        Some(pair) => Ok(Answer::Tables(TableAnswer::Pair(Some(pair)))),
+        None => {
+            has_table(home, name)?;
+            Ok(Answer::Tables(TableAnswer::Pair(None)))
+        }
     }
-    Ok(Answer::Tables(TableAnswer::Pair(pair)))
 }
 
 /// Where a walk begins: at a key, or above it.
@@ -111,7 +115,7 @@ fn pairs_from(
             return Ok(TableAnswer::Pairs(found, true));
         }
         let Some((key, value)) = next_of(home, name, start, found.as_slice())? else {
-            break;
+            return Ok(TableAnswer::Pairs(found, false));
         };
         bytes = bytes
             .saturating_add(key.as_slice().len())
@@ -171,7 +175,7 @@ fn names(alloc: Global, home: &mut Home, above: Option<&Name>, most: u32) -> Res
     'names: for _ in 0..most {
         match name_after(home, above, found.as_slice())? {
             Some(name) => found.push(name)?,
-            None => break,
+            None => return Ok(Answer::Tables(TableAnswer::Names(found))),
         }
     }
     Ok(Answer::Tables(TableAnswer::Names(found)))
@@ -188,18 +192,26 @@ fn change(home: &mut Home, change: &Change) -> Result<(), TableFault>
     }
 }
 
+/// Does what changes tables, if the call does.
+fn make(home: &mut Home, call: &TableCall) -> Result<(), TableFault>
+    requires { IsReady home.old holding }
+    ensures { IsReady home.new holding }
+{
+    match call {
+        TableCall::Create(name) => create(home, name),
+        TableCall::Drop(name) => drop_table(home, name),
+        TableCall::Change(one) => change(home, one),
+        TableCall::Batch(changes) => batch(home, changes.as_slice()),
+        _ => Ok(()),
+    }
+}
+
 /// Does what changes tables.
 pub fn write_tables(home: &mut Home, call: &TableCall) -> Result<Answer, TableFault>
     requires { IsReady home.old holding }
     ensures { IsReady home.new holding }
 {
-    match call {
-        TableCall::Create(name) => create(home, name)?,
-        TableCall::Drop(name) => drop_table(home, name)?,
-        TableCall::Change(one) => change(home, one)?,
-        TableCall::Batch(changes) => batch(home, changes.as_slice())?,
-        _ => {}
-    }
+    make(home, call)?;
     Ok(Answer::Put(true))
 }
 

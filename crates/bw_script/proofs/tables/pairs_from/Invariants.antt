@@ -1,0 +1,5 @@
+use Rattle.bw_home.specs.Ready.{IsReady}
+use Rattle.bw_script.proofs.tables.pairs_from.Given as goal
+
+abbrev pub invariant-pairs : goal.invariant-pairs
+invariant-pairs g l = IsReady l.home (λ z. (goal.Segment-dyn g z).holding z.1)
