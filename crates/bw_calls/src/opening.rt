@@ -18,7 +18,7 @@ use bw_home::Home;
 
 /// Finishes what a stop or a refusal left half done. A batch that stands is carried out; what is
 /// aside of one that does not stand goes away. Then the rows of tables that are gone go away, and
-/// the chunks of all doomed numbers. If nothing was left it is four searches. The tables stay,
+/// the chunks of all doomed numbers. If nothing was left it is five searches. The tables stay,
 /// whatever the answer. After Ok no batch stands, no number is doomed, and each row is of a table.
 ///
 /// Refused `NotRead` and `NotMade` as the store is, and `NotTables` if the store has other pairs
