@@ -76,7 +76,7 @@ static int fails(int counts)
     return 1;
 }
 
-/* The same of one that only looks, or waits. */
+/* Whether a call is to fail that only looks, or waits. */
 static int fails_to_look(int counts)
 {
     return kills ? 0 : fails(counts);

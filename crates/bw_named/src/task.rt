@@ -78,7 +78,7 @@ fn run<R: System, C: Calls, W: Watch>(
     (run.is_kept(), end)
 }
 
-/// The same over a folder that has to be there.
+/// Makes calls on the tables of a folder that has to be there.
 fn run_there<R: System, C: Calls, W: Watch>(
     place: &Place<'_, R>,
     calls: &mut C,

@@ -77,7 +77,7 @@ fn bound_by(name: &'static str, word: &str) -> Result<Key, KeysFault> {
     }
 }
 
-/// The same, where there may be none.
+/// The key of a bound, if one is given.
 fn some_bound_by(name: &'static str, word: Option<&str>) -> Result<Option<Key>, KeysFault> {
     match word {
         Some(word) => Ok(Some(bound_by(name, word)?)),

@@ -18,11 +18,11 @@ const LONG: usize = 1_048_576;
 pub enum Subject {
     /// Pairs of the store itself.
     Plain,
-    /// The same pairs, in a table that never had a long value.
+    /// Pairs in a table that never had a long value.
     Table,
-    /// The same pairs, in a table that has one.
+    /// Pairs in a table that has a long value.
     TableWithLong,
-    /// The same pairs, in batches of so many.
+    /// Pairs in a table, in batches of so many.
     Batches(u64),
     /// Values of 1 MiB.
     Long,

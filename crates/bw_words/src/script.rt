@@ -325,12 +325,12 @@ pub fn are_printable(line: &[u8]) -> bool {
     line.iter().all(|byte| matches!(*byte, 0x20..=0x7e))
 }
 
-/// A line as text: nothing where it is empty or begins with `#`, whatever its length.
+/// A line as text: nothing if it is empty or begins with `#`, whatever its length.
 pub fn text_of(line: &[u8]) -> Result<Option<&str>, Fault> {
     text_up_to(line, LONGEST)
 }
 
-/// The same of a line that has so many bytes at most.
+/// A line of at most so many bytes as text: nothing if it is empty or begins with `#`.
 pub fn text_up_to(line: &[u8], longest: u32) -> Result<Option<&str>, Fault> {
     if line.is_empty() || line.starts_with(b"#") {
         return Ok(None);
