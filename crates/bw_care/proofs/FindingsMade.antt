@@ -171,9 +171,9 @@ findings_made s r first last = record {
 }
 
 pub planned_all : (hs : List Holding) (s : Survey) (x : IsSurvey hs s) (r : Pages) (first last : ℕ) → first ≡ first_number (frames_in hs)
-    → last ≡ last_number (frames_in hs) → bad_link first [] (all_placed (frames_in hs)) ≡ None → IsRight s.order.m (frames_in hs) r
+    → last ≡ last_number (frames_in hs) → bad_link first [] (all_placed (frames_in hs)) ≡ None → IsRight s.order.m (frames_in hs) r → r.leaves.evicted ≡ []
     → AreFindings hs (findings_made s r first last)
-planned_all hs s x r first last begins ends linked right =
+planned_all hs s x r first last begins ends linked right here =
     let y = facts hs s x in
     let o = x.order in
     let scan = scanned hs s x r first begins linked right in
@@ -199,6 +199,6 @@ planned_all hs s x r first last begins ends linked right =
       limit = right.limit;
       frame_limit = sym y.f;
       page_limit = sym y.m;
-      here = right.here;
+      here = here;
       pages = sym right.count;
     }

@@ -24,7 +24,7 @@ use Rattle.bw_log.specs.Segments.{frames_at, entry_of, entries_from}
 use Rattle.bw_log.specs.declared.places.FrameAt.{FrameAt}
 use Rattle.bw_log.proofs.Reread.{length-frame_in}
 use Rattle.bw_care.specs.Scanning.{rest_of, fault_by}
-use Rattle.bw_care.specs.Spelling.{IsSpelling}
+use Rattle.bw_care.specs.Spelling.{IsSpelling, frame_by, frame_first}
 use Rattle.bw_log.proofs.Adding.{entries_more}
 
 -- ---- what `read_frame` answers is what reading gives
@@ -294,14 +294,38 @@ pub len_from : (k : Header) (bytes : List ℕ) (at number used : ℕ) (w : IsWho
 len_from k bytes at number used w small =
     ap (λ (b : List ℕ). length b) (spelled_from k bytes at number used w small).parts ∙ sym w.there.3
 
+-- it is the one that these bytes begin with
+first_there : (k : Header) (bytes : List ℕ) (at number used : ℕ) (w : IsWhole k.version k.m k.f (drop at bytes) number used) → k.m < 2 ^ 16 → k.f < 2 ^ 32
+    → frame_first k (take (at + used - at) (drop at bytes)) ≡ w.frame
+first_there k bytes at number used w small limit =
+    let slice = take (at + used - at) (drop at bytes) in
+    let s = spelled_from k bytes at number used w small in
+    ap frame_by
+    (is_front k.version k.m k.f slice (Whole w.frame (length (frame_bytes_in k.version w.frame))) small limit
+    (s.law, [], s.parts ∙ sym (append-nil (frame_bytes_in k.version w.frame)), refl))
+
+pub first_spelled : (k : Header) (bytes : List ℕ) (at number used : ℕ) (w : IsWhole k.version k.m k.f (drop at bytes) number used) → k.m < 2 ^ 16
+    → k.f < 2 ^ 32
+    → IsSpelling k.version k.m k.f (frame_first k (take (at + used - at) (drop at bytes))) (take (at + used - at) (drop at bytes))
+first_spelled k bytes at number used w small limit =
+    subst (λ (x : Frame). IsSpelling k.version k.m k.f x (take (at + used - at) (drop at bytes)))
+    (sym (first_there k bytes at number used w small limit)) (spelled_from k bytes at number used w small)
+
 -- and its line
 pub line_from : (k : Header) (bytes : List ℕ) (at number used : ℕ) (line : FrameAt) (w : IsWhole k.version k.m k.f (drop at bytes) number used) → k.m < 2 ^ 16
-    → line ≡ record { number = number; segment = 0; at = at; len = length (take (at + used - at) (drop at bytes)); starts = starts_of k.version w.frame }
-    → line ≡ record { number = w.frame.number; segment = 0; at = at; len = used; starts = starts_of k.version w.frame }
-line_from k bytes at number used line w small is =
+    → k.f < 2 ^ 32
+    → line ≡ record {
+      number = number;
+      segment = 0;
+      at = at;
+      len = length (take (at + used - at) (drop at bytes));
+      starts = starts_of k.version (frame_first k (take (at + used - at) (drop at bytes)));
+    } → line ≡ record { number = w.frame.number; segment = 0; at = at; len = used; starts = starts_of k.version w.frame }
+line_from k bytes at number used line w small limit is =
     let len = len_from k bytes at number used w small in
+    let first = first_there k bytes at number used w small limit in
     let same = sym w.number_is in
-    is ∙ (λ i. record { number = same i; segment = 0; at = at; len = len i; starts = starts_of k.version w.frame })
+    is ∙ (λ i. record { number = same i; segment = 0; at = at; len = len i; starts = starts_of k.version (first i) })
 
 pub none_from : (k : Header) (bytes : List ℕ) (at : ℕ) (fault : CodecFault) → Says fault (front_at k.version k.m k.f (take (length bytes - at) (drop at bytes)))
     → fault ≡ BadBytes → front_at k.version k.m k.f (drop at bytes) ≡ None

@@ -1,13 +1,13 @@
 -- A pass over boxes, as far as it went.
 
-use Rattle.std.proofs.Common.{◌≡◌, ℕ, zero, suc, ◌+◌, ◌<◌, ◌≤◌, Option, Some, None, List, [], ◌∷◌, ◌++◌, length, take, map, slice_get, IfSome}
+use Rattle.std.proofs.Common.{◌≡◌, ℕ, zero, suc, ◌+◌, ◌<◌, ◌≤◌, Option, Some, None, List, [], ◌∷◌, ◌++◌, length, take, map, slice_get, IfSome, IfOk, IfErr, Result, Ok, Err}
 use Rattle.std.proofs.Common.{refl, sym, ap, subst, ◌∙◌, arith}
 use Rattle.bw_device.specs.Holding.{Holding}
 use Rattle.std.proofs.lemmas.List.{length-map}
 use Rattle.bw_care.specs.Scanning.{fault_in, FaultIs}
 use Rattle.bw_care.specs.declared.scan.ScanFault.{ScanFault}
 use Rattle.bw_care.specs.declared.scan.ScanFault.TheVariants.{BadBytes as scan_bad}
-use Rattle.bw_care.specs.Scanned.{IsScan, AreScans}
+use Rattle.bw_care.specs.Scanned.{IsScan, IsScanned, AreScans}
 use Rattle.bw_care.specs.Recovery.{bytes_fault, bytes_fault_by}
 use Rattle.bw_care.specs.Passing.{ReadStops, PassStops}
 use Rattle.bw_care.specs.declared.scan.Scan.{Scan}
@@ -75,38 +75,50 @@ there_is [] i inside = absurd (omega arith)
 there_is (h ∷ hs) zero inside = (h, refl)
 there_is (h ∷ hs) (suc i) inside = there_is hs i (omega arith)
 
-bytes_told : (o : Option Holding) (h : Holding) (bytes : List ℕ) → o ≡ Some h → IfSome o (λ k. bytes ≡ k.bytes) → bytes ≡ h.bytes
-bytes_told (Some k) h bytes is told = (let same : k ≡ h = cc in told ∙ ap (λ (x : Holding). x.bytes) same)
-bytes_told None h bytes is told = absurd cc
+told_of : (P : Holding → Type 0) (o : Option Holding) (h : Holding) → o ≡ Some h → IfSome o P → P h
+told_of P (Some k) h is told = (let same : k ≡ h = cc in subst P same told)
+told_of P None h is told = absurd cc
 
--- its bytes, as they were read
-pub read_bytes : (old now : List Holding) (i : ℕ) (h : Holding) (bytes : List ℕ) → now ≡ old → slice_get old i ≡ Some h
-    → IfSome (slice_get now i) (λ k. bytes ≡ k.bytes) → bytes ≡ h.bytes
-read_bytes old now i h bytes same is told = bytes_told (slice_get now i) h bytes (ap (λ (hs : List Holding). slice_get hs i) same ∙ is) told
+-- what a look at it told
+told_there : (P : Holding → Type 0) (old now : List Holding) (i : ℕ) (h : Holding) → now ≡ old → slice_get old i ≡ Some h → IfSome (slice_get now i) P
+    → P h
+told_there P old now i h same is told = told_of P (slice_get now i) h (ap (λ (hs : List Holding). slice_get hs i) same ∙ is) told
 
 -- ---- as the code goes
 
 pub inside_map : {X : Type 0} (v : X → Holding) (xs : List X) (i : ℕ) → i < length xs → i < length (map v xs)
 inside_map v xs i inside = omega (arith, length-map xs v)
 
-pub scan_step : (old now : List Holding) (ss more : List Scan) (i : ℕ) (bytes slice : List ℕ) (s : Scan) → now ≡ old → i < length old → AreScans (take i old) ss
-    → IfSome (slice_get now i) (λ k. bytes ≡ k.bytes) → slice ≡ bytes → IsScan slice s → more ≡ ss ++ s ∷ []
+-- what a look at bytes answered, of the box that lends them
+pub scan_lent : {R : Type 0} (now : R → List ℕ) (old hs : List Holding) (i : ℕ) (lent : Option R) (bytes : R) (found : Result Scan ScanFault) → hs ≡ old
+    → IfSome lent (λ b. IfSome (slice_get hs i) (λ h. now b ≡ h.bytes)) → lent ≡ Some bytes → IfOk found (IsScan (now bytes))
+    → IfErr found (FaultIs (fault_in (now bytes))) → IfSome (slice_get old i) (λ h. IsScanned h.bytes found)
+scan_lent {R} now old hs i lent bytes found same told is ok err =
+    let of_bytes : IfSome (slice_get hs i) (λ h. now bytes ≡ h.bytes) = subst (λ o. IfSome o (λ b. IfSome (slice_get hs i) (λ h. now b ≡ h.bytes))) is told in
+    some_as (slice_get old i) (subst (λ l. IfSome (slice_get l i) (λ h. now bytes ≡ h.bytes)) same of_bytes) where
+      looked : (r : Result Scan ScanFault) → IfOk r (IsScan (now bytes)) → IfErr r (FaultIs (fault_in (now bytes))) → IsScanned (now bytes) r
+      looked (Ok scan) ok err = ok
+      looked (Err fault) ok err = err
+
+      some_as : (o : Option Holding) → IfSome o (λ h. now bytes ≡ h.bytes) → IfSome o (λ h. IsScanned h.bytes found)
+      some_as (Some h) same = subst (λ b. IsScanned b found) same (looked found ok err)
+      some_as None same = tt
+
+pub scan_step : (old now : List Holding) (ss more : List Scan) (i : ℕ) (found : Result Scan ScanFault) (s : Scan) → now ≡ old → i < length old
+    → AreScans (take i old) ss → IfSome (slice_get now i) (λ k. IsScanned k.bytes found) → found ≡ Ok s → more ≡ ss ++ s ∷ []
     → AreScans (take (i + 1) old) more
-scan_step old now ss more i bytes slice s same inside all told as_slice one pushed =
+scan_step old now ss more i found s same inside all told is pushed =
     let there = there_is old i inside in
-    let here : IsScan there.0.bytes s = subst (λ (b : List ℕ). IsScan b s) (as_slice ∙ read_bytes old now i there.0 bytes same there.1 told) one in
+    let here : IsScan there.0.bytes s =
+    subst (IsScanned there.0.bytes) is (told_there (λ k. IsScanned k.bytes found) old now i there.0 same there.1 told) in
     let number : suc i ≡ i + 1 = omega arith in
     subst (λ (n : ℕ). AreScans (take n old) more) number (subst (AreScans (take (suc i) old)) (sym pushed) (scans_more old ss i there.0 s there.1 here all))
 
-fault_as : (o : Option ℕ) (fault : ScanFault) (at : ℕ) → FaultIs o fault → fault ≡ scan_bad at → o ≡ Some at
-fault_as o fault at is same = subst (FaultIs o) same is
-
-pub fault_step : (old now : List Holding) (ss : List Scan) (i at : ℕ) (bytes slice : List ℕ) (fault : ScanFault) → now ≡ old → i < length old
-    → AreScans (take i old) ss → IfSome (slice_get now i) (λ k. bytes ≡ k.bytes) → slice ≡ bytes → FaultIs (fault_in slice) fault → fault ≡ scan_bad at
-    → bytes_fault 0 old ≡ Some (BadBytes i at)
-fault_step old now ss i at bytes slice fault same inside all told as_slice one is =
+pub fault_step : (old now : List Holding) (ss : List Scan) (i at : ℕ) (found : Result Scan ScanFault) → now ≡ old → i < length old → AreScans (take i old) ss
+    → IfSome (slice_get now i) (λ k. IsScanned k.bytes found) → found ≡ Err (scan_bad at) → bytes_fault 0 old ≡ Some (BadBytes i at)
+fault_step old now ss i at found same inside all told is =
     let there = there_is old i inside in
     let here : fault_in there.0.bytes ≡ Some at =
-    ap fault_in (sym (as_slice ∙ read_bytes old now i there.0 bytes same there.1 told)) ∙ fault_as (fault_in slice) fault at one is in
+    subst (IsScanned there.0.bytes) is (told_there (λ k. IsScanned k.bytes found) old now i there.0 same there.1 told) in
     let number : 0 + i ≡ i = omega arith in
     fault_here old ss 0 i at there.0 all there.1 here ∙ ap (λ (n : ℕ). Some (BadBytes n at)) number

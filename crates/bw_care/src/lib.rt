@@ -25,6 +25,7 @@ mod fault;
 mod forward;
 pub mod laws;
 mod lengths;
+mod lent;
 mod moves;
 mod newest;
 mod order;

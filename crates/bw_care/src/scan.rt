@@ -13,11 +13,12 @@ ghost use Rattle.bw_codec.specs.Reading.{Gives, front_at};
 ghost use Rattle.bw_record.specs.declared.block.Frame.{Frame};
 ghost use Rattle.bw_log.specs.Starts.{starts_of};
 ghost use Rattle.bw_care.specs.Scanning.{fault_behind, fault_in, FaultIs};
-ghost use Rattle.bw_care.specs.Scanned.{IsScan, AreScans};
+ghost use Rattle.bw_care.specs.Scanned.{IsScan, IsScanned, AreScans};
 ghost use Rattle.bw_care.specs.Behind.{IsBehind};
 ghost use Rattle.bw_care.specs.Spelling.{IsSpelling};
 ghost use Rattle.bw_care.specs.Passing.{ReadStops, PassStops};
 
+use crate::lent::lent_at;
 use bw_codec::{
     CodecFault, FrameRead, FrameSeen, Header, HeaderRead, check_frame, read_frame, read_header,
 };
@@ -108,35 +109,24 @@ fn seen(version: u16, m: u16, f: u32, bytes: &[u8]) -> Result<FrameSeen, CodecFa
 }
 
 /// A whole frame with this number, which these bytes are, at this place of segment 0.
-fn line_of(
-    alloc: Global,
-    version: u16,
-    number: u64,
-    at: usize,
-    bytes: &[u8],
-) -> Result<FrameAt, ScanFault>
+fn line_of(alloc: Global, header: &Header, number: u64, at: usize, bytes: &[u8]) -> FrameAt
+    ghost frame: { Frame }
     requires short { length bytes.now < 2 ^ 32 }
-    requires there { (m f : ℕ) × (frame : Frame) × IsSpelling version m f frame bytes.now }
-    ensures line { (m f : ℕ) (frame : Frame) → IsSpelling version m f frame bytes.now
-        → IfOk result (λ line. line ≡ record {
-          number = number;
-          segment = 0;
-          at = at;
-          len = length bytes.now;
-          starts = starts_of version frame;
-        }) }
-    ensures fault { IfErr result (λ fault. fault ≡ ScanFault.NoMemory) }
+    requires there { IsSpelling header.now.version header.now.m header.now.f frame bytes.now }
+    ensures { result ≡ record {
+      number = number;
+      segment = 0;
+      at = at;
+      len = length bytes.now;
+      starts = starts_of header.now.version frame;
+    } }
 {
-    match Starts::of_found(alloc, version, bytes) {
-        Ok(starts) => Ok(FrameAt {
-            number,
-            segment: 0,
-            at: at as u64,
-            len: bytes.len() as u32,
-            starts,
-        }),
-        Err(CodecFault::NoMemory) => Err(ScanFault::NoMemory),
-        Err(CodecFault::BadBytes) => unreachable!(),
+    FrameAt {
+        number,
+        segment: 0,
+        at: at as u64,
+        len: bytes.len() as u32,
+        starts: Starts::of_found(alloc, header.version, bytes),
     }
 }
 
@@ -152,7 +142,7 @@ pub fn read_behind(alloc: Global, bytes: &[u8], header: Header) -> Result<Behind
         match seen(header.version, header.m, header.f, &bytes[at..]) {
             Ok(FrameSeen::Whole(number, used)) => {
                 let frame = &bytes[at..at + used];
-                lines.push(line_of(alloc, header.version, number, at, frame)?)?;
+                lines.push(line_of(alloc, &header, number, at, frame))?;
                 at += used;
             }
             Ok(FrameSeen::Tail) => {
@@ -223,6 +213,29 @@ pub(crate) fn read_box(
     }
 }
 
+/// What the box at a position is, by the bytes that it lends, or else by those that a read brings.
+fn scan_one(
+    alloc: Global,
+    boxes: &mut Vec<Box<dyn Segment>>,
+    at: usize,
+) -> Result<Result<Scan, ScanFault>, RecoverCause>
+    requires { at < length boxes.old.items }
+    ensures found { IfOk result (λ found.
+        IfSome (slice_get (map holding boxes.old.items) at) (λ h. IsScanned h.bytes found)) }
+    ensures same { OnOk result (map holding boxes.new.items ≡ map holding boxes.old.items) }
+    ensures stops { IfErr result (λ cause.
+        ReadStops at (map holding boxes.old.items) cause (map holding boxes.new.items)) }
+    ensures len { length boxes.new.items ≡ length boxes.old.items }
+{
+    match lent_at(boxes, at)? {
+        Some(bytes) => Ok(scan_bytes(alloc, bytes)),
+        None => {
+            let bytes = read_box(alloc, boxes, at)?;
+            Ok(scan_bytes(alloc, &bytes))
+        }
+    }
+}
+
 /// What each box is, in their order.
 pub fn scan_all(alloc: Global, boxes: &mut Vec<Box<dyn Segment>>) -> Result<Vec<Scan>, RecoverCause>
     requires { length boxes.old.items < 2 ^ 32 }
@@ -233,8 +246,7 @@ pub fn scan_all(alloc: Global, boxes: &mut Vec<Box<dyn Segment>>) -> Result<Vec<
 {
     let mut scans = Vec::new(alloc);
     for at in 0..boxes.len() {
-        let bytes = read_box(alloc, boxes, at)?;
-        match scan_bytes(alloc, &bytes) {
+        match scan_one(alloc, boxes, at)? {
             Ok(scan) => scans.push(scan)?,
             Err(ScanFault::NoMemory) => return Err(RecoverCause::NoMemory),
             Err(ScanFault::BadBytes(offset)) => {

@@ -177,8 +177,8 @@ fn findings_of(
     })
 }
 
-/// Reads all boxes, and moves none. Each box with bytes is read twice: once to find the frames,
-/// once to read their blocks in the order of their numbers.
+/// Goes through all boxes, and moves none. It goes twice through each box with bytes: once to find
+/// the frames, once to read their blocks in the order of their numbers.
 pub fn prepare(alloc: Global, boxes: &mut Vec<Box<dyn Segment>>) -> Result<Findings, RecoverCause>
     requires { Unit {0} }
     ensures findings { IfOk result (AreFindings (map holding boxes.old.items)) }

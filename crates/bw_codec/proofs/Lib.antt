@@ -10,6 +10,7 @@ pub mod Sizing
 pub mod FirstBlock
 pub mod Stepping
 pub mod Checked
+pub mod Lending
 pub mod Vectors
 pub mod Wider
 pub mod Versions

@@ -1,6 +1,7 @@
 -- what callers see, in reading order
 pub mod Bytes
 pub mod Checking
+pub mod Lent
 pub mod Grammar
 pub mod Outline
 pub mod Writing

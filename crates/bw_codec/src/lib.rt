@@ -22,6 +22,7 @@ mod encoder;
 mod fault;
 mod head;
 pub mod laws;
+mod lent;
 pub mod limits;
 mod outline;
 mod parts;
@@ -39,4 +40,5 @@ pub use encoder::{
 };
 pub use fault::CodecFault;
 pub use head::{FrameRead, Head, Header, HeaderRead};
+pub use lent::{find_frame, lent_base, lent_delta, lent_op, lent_pair, lent_split};
 pub use outline::Outline;

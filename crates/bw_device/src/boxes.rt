@@ -53,6 +53,12 @@ fn failures_one(one: &Box<dyn Segment>) -> u64
     one.failures()
 }
 
+fn lend_one(one: &Box<dyn Segment>) -> Option<&[u8]>
+    ensures { IfSome result (λ bytes. bytes.now ≡ (holding one.now).bytes) }
+{
+    one.lend()
+}
+
 /// Whether a box is empty, and has room for so many bytes at least and for `MAX_CAPACITY` at most.
 pub fn is_spare(one: &Box<dyn Segment>, least: u64) -> bool
     ensures { IsTrue result ↔ IsSpareOf least (holding one.now) }
@@ -103,6 +109,15 @@ pub fn read_from(
         (map holding all.old.items) (map holding all.new.items)) }
 {
     read_one(&mut all[i], at, out)
+}
+
+/// All bytes that the i-th box holds, if it lends them.
+pub fn lend_of(all: &[Box<dyn Segment>], i: usize) -> Option<&[u8]>
+    requires { i < length all.now }
+    ensures { IfSome result (λ bytes. IfSome (slice_get (map holding all.now) i)
+        (λ h. bytes.now ≡ h.bytes)) }
+{
+    lend_one(&all[i])
 }
 
 /// How many bytes the i-th box holds.

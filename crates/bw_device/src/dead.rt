@@ -1,5 +1,5 @@
 // A segment of which all calls fail from some call on, on purpose.
-ghost use Rattle.std.specs.Prelude.{◌≡◌, ◌+◌, ◌-◌, ◌<◌, ◌≤◌, ◌↔◌, length, take, drop, OnOk, OnErr, IsErr, MatchResult};
+ghost use Rattle.std.specs.Prelude.{◌≡◌, ◌+◌, ◌-◌, ◌<◌, ◌≤◌, ◌↔◌, length, take, drop, OnOk, OnErr, IfSome, IsNone, IsErr, MatchResult};
 
 use crate::memory::MemSegment;
 use crate::segments::{Fault, Segment};
@@ -110,5 +110,13 @@ impl Segment for DeadSegment {
 
     fn failures(&self) -> u64 {
         self.failures
+    }
+
+    /// It lends nothing, so that each read is counted.
+    fn lend(&self) -> Option<&[u8]>
+        ensures bytes { IfSome result (λ bytes. bytes.now ≡ (dead_holding self.now).bytes) }
+        ensures none { IsNone result }
+    {
+        None
     }
 }

@@ -1,5 +1,5 @@
 // A segment of which one call fails, on purpose.
-ghost use Rattle.std.specs.Prelude.{◌≡◌, ◌≢◌, ◌+◌, ◌≤◌, ◌↔◌, length, take, drop, Some, OnOk, OnErr, IsErr, IsTrue, MatchResult};
+ghost use Rattle.std.specs.Prelude.{◌≡◌, ◌≢◌, ◌+◌, ◌≤◌, ◌↔◌, length, take, drop, Some, OnOk, OnErr, IfSome, IsNone, IsErr, IsTrue, MatchResult};
 
 use crate::memory::MemSegment;
 use crate::segments::{Fault, Segment};
@@ -120,5 +120,13 @@ impl Segment for FuseSegment {
             Some(_) => 0,
             None => 1,
         }
+    }
+
+    /// It lends nothing, so that each read is counted.
+    fn lend(&self) -> Option<&[u8]>
+        ensures bytes { IfSome result (λ bytes. bytes.now ≡ (fuse_holding self.now).bytes) }
+        ensures none { IsNone result }
+    {
+        None
     }
 }

@@ -18,7 +18,7 @@ mod refusals;
 mod segments;
 
 pub use boxes::{
-    append_to, are_spares, capacity_of, failures_of, is_spare, lease_of, len_of, read_from,
+    append_to, are_spares, capacity_of, failures_of, is_spare, lease_of, len_of, lend_of, read_from,
 };
 pub use dead::DeadSegment;
 pub use fuse::FuseSegment;

@@ -1,5 +1,5 @@
 // A segment in memory.
-ghost use Rattle.std.specs.Prelude.{◌≡◌, ◌+◌, ◌<◌, ◌≤◌, ◌↔◌, ◌⊎◌, length, take, drop, [], vec_len, IsOk, IfOk, IfErr, IsErrAnd, IsErrOf};
+ghost use Rattle.std.specs.Prelude.{◌≡◌, ◌+◌, ◌<◌, ◌≤◌, ◌↔◌, ◌⊎◌, length, take, drop, [], vec_len, IsOk, IfOk, IfErr, IfSome, IsSome, IsErrAnd, IsErrOf};
 ghost use Rattle.std.specs.Vec.{vec_capacity};
 ghost use Rattle.bw_device.specs.declared.memory.TheConstants.{MAX_CAPACITY};
 
@@ -67,6 +67,22 @@ impl MemSegment {
                 bytes: filled,
             }),
             Err(cause) => Err(Refused { lease, cause }),
+        }
+    }
+
+    /// A segment of this capacity, in bytes, that holds these where they lie: nothing is copied,
+    /// and no memory is taken. They have room for the capacity.
+    pub fn of_vec(lease: Lease, capacity: u64, bytes: Vec<u8>) -> MemSegment
+        requires in_range { (1 ≤ capacity) × (capacity ≤ MAX_CAPACITY) }
+        requires within { length bytes.items ≤ capacity }
+        requires reserved { capacity ≤ vec_capacity bytes }
+        ensures { memory_holding result ≡
+            fresh_holding (number_of lease) capacity bytes.items }
+    {
+        MemSegment {
+            lease,
+            capacity,
+            bytes,
         }
     }
 
@@ -172,5 +188,13 @@ impl Segment for MemSegment {
 
     fn failures(&self) -> u64 {
         0
+    }
+
+    /// All held bytes, always.
+    fn lend(&self) -> Option<&[u8]>
+        ensures bytes { IfSome result (λ bytes. bytes.now ≡ (memory_holding self.now).bytes) }
+        ensures always { IsSome result }
+    {
+        Some(self.bytes.as_slice())
     }
 }

@@ -1,5 +1,5 @@
 // What a log knows of a segment, and how a call on one fails.
-ghost use Rattle.std.specs.Prelude.{◌≡◌, ◌+◌, ◌<◌, ◌≤◌, length, take, drop, OnOk, MatchResult};
+ghost use Rattle.std.specs.Prelude.{◌≡◌, ◌+◌, ◌<◌, ◌≤◌, length, take, drop, OnOk, IfSome, MatchResult};
 ghost use Rattle.bw_device.specs.Holding.{Holding, appended, IsTorn, failed_once};
 
 use thiserror::Error;
@@ -54,4 +54,12 @@ pub trait Segment: Send + Drop {
     /// How many appends and reads have failed.
     fn failures(&self) -> u64
         ensures { result ≡ (holding self.now).failed };
+
+    /// All held bytes where they lie, if the segment lends them. One that counts its reads, or has
+    /// to ask a device for them, lends none.
+    fn lend(&self) -> Option<&[u8]>
+        ensures { IfSome result (λ bytes. bytes.now ≡ (holding self.now).bytes) }
+    {
+        None
+    }
 }

@@ -1,6 +1,7 @@
 // A folder that was open before, over the files that are there: nothing is made, and nothing is
 // written before whoever opens it says that what was read is a store.
 ghost use Rattle.std.specs.Prelude.{◌≡◌, ◌≤◌, length, IfOk, IfSome};
+ghost use Rattle.std.specs.Vec.{vec_capacity};
 ghost use Rattle.bw_device.specs.Leases.{number_of};
 ghost use Rattle.bw_device.specs.declared.memory.TheConstants.{MAX_CAPACITY};
 ghost use Rattle.bw_digest.specs.Rows.{reach};
@@ -9,7 +10,7 @@ ghost use Rattle.bw_file.specs.FileHolding.{file_holding, IsOpened};
 use crate::files::{Pair, SegmentFile, bytes_of, copy_of, with_capacity};
 use crate::folder::{Folder, LAST, Settled};
 use crate::names::{lock_path, segment_path, sums_path};
-use crate::refusals::{FolderFault, NotOpened};
+use crate::refusals::FolderFault;
 use crate::segment::FileSegment;
 use crate::sums::{checked, sums_of};
 use bw_device::Lease;
@@ -50,21 +51,25 @@ impl<F: SegmentFile> Folder<F> {
         Ok(Pair { file, sums })
     }
 
-    // The files of this lease and its bytes, which fit their sums; none if the sums do not say
-    // each byte, or more stands behind them. Nothing is written.
+    // The files of this lease and its bytes, in a list that has room for so many at least; they fit
+    // their sums. None if the sums do not say each byte, or more stands behind them. Nothing is
+    // written.
     fn read_again<R: AllocGlobal + Files<File = F>>(
         &self,
         rt: &R,
         lease: u32,
+        capacity: u64,
     ) -> Result<Option<Settled<F>>, FolderFault>
         ensures within { IfOk result (λ read. IfSome read
             (λ settled. length settled.1.items ≤ MAX_CAPACITY)) }
+        ensures room { IfOk result (λ read. IfSome read
+            (λ settled. capacity ≤ vec_capacity settled.1)) }
         ensures noted { IfOk result (λ read. IfSome read
             (λ settled. (reach settled.2).end ≡ length settled.1.items)) }
     {
         let files = self.present(rt, lease)?;
         files.file.lock_alone()?;
-        let bytes = bytes_of(rt.alloc(), &files.file)?;
+        let bytes = bytes_of(rt.alloc(), &files.file, capacity)?;
         let sums = sums_of(rt.alloc(), &files.sums)?;
         let row = checked(lease, &bytes, &sums)?;
         let stands = row.count() * SUM_LEN as u64;
@@ -91,14 +96,12 @@ impl<F: SegmentFile> Folder<F> {
         let Ok(lease) = with_capacity(lease, capacity) else {
             return None;
         };
-        let Ok(read) = self.read_again(rt, lease.number()) else {
+        let Ok(read) = self.read_again(rt, lease.number(), capacity) else {
             return None;
         };
         let (files, bytes, row, shared) = read?;
-        match copy_of(rt.alloc(), lease, capacity, &bytes) {
-            Ok(copy) => Some(FileSegment::over(copy, files, row, shared)),
-            Err(NotOpened { .. }) => None,
-        }
+        let copy = copy_of(lease, capacity, bytes);
+        Some(FileSegment::over(copy, files, row, shared))
     }
 
     /// Writes the end of the file of this lease once more, and waits until it and the sums stand on

@@ -1,5 +1,6 @@
 // What is asked of an open file, and the bytes of one.
 ghost use Rattle.std.specs.Prelude.{◌≡◌, ◌≢◌, ◌≤◌, ◌↔◌, length, IsOk, IfOk, IfErr};
+ghost use Rattle.std.specs.Vec.{vec_capacity};
 ghost use Rattle.bw_device.specs.Leases.{number_of};
 ghost use Rattle.bw_device.specs.Memory.{memory_holding};
 ghost use Rattle.bw_device.specs.declared.memory.TheConstants.{MAX_CAPACITY};
@@ -38,16 +39,23 @@ pub(crate) struct Pair<F> {
     pub(crate) sums: F,
 }
 
-/// The bytes of an open file. Its length is looked at before any is read.
-pub(crate) fn bytes_of<F: SegmentFile>(alloc: Global, file: &F) -> Result<Vec<u8>, FolderFault>
+/// The bytes of an open file, in a list that has room for so many at least. Its length is looked at
+/// before any is read.
+pub(crate) fn bytes_of<F: SegmentFile>(
+    alloc: Global,
+    file: &F,
+    capacity: u64,
+) -> Result<Vec<u8>, FolderFault>
     ensures within { IfOk result (λ bytes. length bytes.items ≤ MAX_CAPACITY) }
+    ensures room { IfOk result (λ bytes. capacity ≤ vec_capacity bytes) }
     ensures cause { IfErr result (λ cause. cause ≢ BadConfig) }
 {
     let len = file.metadata()?.len();
     if len > MAX_CAPACITY {
         return Err(FolderFault::TooLong);
     }
-    let mut bytes = vec![in alloc; 0u8; len as usize]?;
+    let mut bytes = Vec::with_capacity(alloc, capacity.max(len) as usize)?;
+    bytes.resize(len as usize, 0u8)?;
     file.read_exact_at(&mut bytes, 0)?;
     Ok(bytes)
 }
@@ -68,29 +76,16 @@ pub(crate) fn with_capacity(lease: Lease, capacity: u64) -> Result<Lease, NotOpe
     })
 }
 
-/// The copy in memory of these bytes.
+/// The copy in memory, which these bytes become where they lie: they have room for the capacity.
 ///
 /// Its capacity is the greater of this one and their number.
-pub(crate) fn copy_of(
-    alloc: Global,
-    lease: Lease,
-    capacity: u64,
-    bytes: &[u8],
-) -> Result<MemSegment, NotOpened>
+pub(crate) fn copy_of(lease: Lease, capacity: u64, bytes: Vec<u8>) -> MemSegment
     requires capacity { (1 ≤ capacity) × (capacity ≤ MAX_CAPACITY) }
-    requires within { length bytes.now ≤ MAX_CAPACITY }
-    ensures opened { IfOk result
-        (λ s. IsOpened (number_of lease) capacity (memory_holding s)) }
-    ensures bytes { IfOk result (λ s. (memory_holding s).bytes ≡ bytes.now) }
-    ensures lease { IfErr result (λ e. e.lease ≡ lease) }
-    ensures cause { IfErr result (λ e. e.cause ≢ BadConfig) }
+    requires within { length bytes.items ≤ MAX_CAPACITY }
+    requires room { capacity ≤ vec_capacity bytes }
+    ensures opened { IsOpened (number_of lease) capacity (memory_holding result) }
+    ensures bytes { (memory_holding result).bytes ≡ bytes.items }
 {
     let capacity = capacity.max(bytes.len() as u64);
-    match MemSegment::with_bytes(alloc, lease, capacity, bytes) {
-        Ok(copy) => Ok(copy),
-        Err(refused) => Err(NotOpened {
-            lease: refused.lease,
-            cause: FolderFault::NoMemory,
-        }),
-    }
+    MemSegment::of_vec(lease, capacity, bytes)
 }

@@ -1,6 +1,7 @@
 // A folder with a file for each segment.
 ghost use Rattle.std.specs.Prelude.{◌≡◌, ◌≢◌, ◌≤◌, ◌<◌, ◌⊎◌, ◌↔◌, [], length, All, IfOk, IfErr, IsErrAnd};
 ghost use Rattle.std.specs.List.Sorted.{IsStrictlyIncreasing};
+ghost use Rattle.std.specs.Vec.{vec_capacity};
 ghost use Rattle.bw_device.specs.Leases.{number_of};
 ghost use Rattle.bw_device.specs.Memory.{fresh_holding};
 ghost use Rattle.bw_device.specs.declared.leases.TheConstants.{MAX_LEASES};
@@ -153,20 +154,23 @@ impl<F: SegmentFile> Folder<F> {
         Ok(Pair { file, sums })
     }
 
-    // The files of this lease and its bytes, which fit their sums, and stand on the disk before
-    // anything follows them. Nothing is written before they were checked.
+    // The files of this lease and its bytes, in a list that has room for so many at least. They fit
+    // their sums, and stand on the disk before anything follows them. Nothing is written before
+    // they were checked.
     fn settled<R: AllocGlobal + Files<File = F>>(
         &self,
         rt: &R,
         lease: u32,
+        capacity: u64,
     ) -> Result<Settled<F>, FolderFault>
         ensures within { IfOk result (λ settled. length settled.1.items ≤ MAX_CAPACITY) }
+        ensures room { IfOk result (λ settled. capacity ≤ vec_capacity settled.1) }
         ensures noted { IfOk result
             (λ settled. (reach settled.2).end ≡ length settled.1.items) }
         ensures cause { IfErr result (λ cause. cause ≢ BadConfig) }
     {
         let files = self.taken(rt, lease)?;
-        let bytes = bytes_of(rt.alloc(), &files.file)?;
+        let bytes = bytes_of(rt.alloc(), &files.file, capacity)?;
         let sums = sums_of(rt.alloc(), &files.sums)?;
         let row = checked(lease, &bytes, &sums)?;
         settle(&files.file, &bytes)?;
@@ -176,11 +180,12 @@ impl<F: SegmentFile> Folder<F> {
 
     /// The segment of this lease, with the bytes of its file, which is made where it is missing.
     ///
-    /// Its capacity is the greater of this one, in bytes, and the file's length. For a moment it
-    /// takes memory for both. `InUse` where a segment stands on the file, `TooLong` where the file
-    /// is longer than any segment may be, `NotPlain` where it is none, `Damaged` where its bytes do
-    /// not fit the sums beside it, `Missing` if the sums say that there were more; the file's bytes
-    /// stay as they are in each refusal, and so do the sums in these. Bytes that no sum tells of, as in a folder without sums, get one here.
+    /// Its capacity is the greater of this one, in bytes, and the file's length. The file is read
+    /// into the memory of the segment. `InUse` where a segment stands on the file, `TooLong` where
+    /// the file is longer than any segment may be, `NotPlain` where it is none, `Damaged` where its
+    /// bytes do not fit the sums beside it, `Missing` if the sums say that there were more; the
+    /// file's bytes stay as they are in each refusal, and so do the sums in these. Bytes that no
+    /// sum tells of, as in a folder without sums, get one here.
     pub fn segment<R: AllocGlobal + Files<File = F>>(
         &self,
         rt: &R,
@@ -194,11 +199,11 @@ impl<F: SegmentFile> Folder<F> {
         ensures lease { IfErr result (λ e. e.lease ≡ lease) }
     {
         let lease = with_capacity(lease, capacity)?;
-        let (files, bytes, row, shared) = match self.settled(rt, lease.number()) {
+        let (files, bytes, row, shared) = match self.settled(rt, lease.number(), capacity) {
             Ok(settled) => settled,
             Err(cause) => return Err(NotOpened { lease, cause }),
         };
-        let copy = copy_of(rt.alloc(), lease, capacity, &bytes)?;
+        let copy = copy_of(lease, capacity, bytes);
         Ok(FileSegment::over(copy, files, row, shared))
     }
 

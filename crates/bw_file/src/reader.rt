@@ -1,6 +1,7 @@
 // A folder that is only looked at.
 ghost use Rattle.std.specs.Prelude.{◌≡◌, ◌≢◌, ◌≤◌, ◌<◌, ◌⊎◌, ◌↔◌, length, All, IfOk, IfErr, IsErrAnd};
 ghost use Rattle.std.specs.List.Sorted.{IsStrictlyIncreasing};
+ghost use Rattle.std.specs.Vec.{vec_capacity};
 ghost use Rattle.bw_device.specs.Leases.{number_of};
 ghost use Rattle.bw_device.specs.Memory.{memory_holding};
 ghost use Rattle.bw_device.specs.declared.leases.TheConstants.{MAX_LEASES};
@@ -93,10 +94,26 @@ impl<F: SegmentFile> FolderReader<F> {
         ensures within { IfOk result (λ bytes. length bytes.items ≤ MAX_CAPACITY) }
         ensures cause { IfErr result (λ cause. cause ≢ BadConfig) }
     {
+        self.bytes_with(rt, lease, 0)
+    }
+
+    // The same, in a list that has room for so many at least.
+    fn bytes_with<R: AllocGlobal + Files<File = F>>(
+        &self,
+        rt: &R,
+        lease: u32,
+        capacity: u64,
+    ) -> Result<Vec<u8>, FolderFault>
+        ensures within { IfOk result (λ bytes. length bytes.items ≤ MAX_CAPACITY) }
+        ensures room { IfOk result (λ bytes. capacity ≤ vec_capacity bytes) }
+        ensures cause { IfErr result (λ cause. cause ≢ BadConfig) }
+    {
         let name = segment_path(rt, self.path.as_str(), lease)?;
         match fs::open(rt, name.as_str()) {
-            Ok(file) => bytes_of(rt.alloc(), &file),
-            Err(error) if error.kind() == ErrorKind::NotFound => Ok(Vec::new(rt.alloc())),
+            Ok(file) => bytes_of(rt.alloc(), &file, capacity),
+            Err(error) if error.kind() == ErrorKind::NotFound => {
+                Ok(Vec::with_capacity(rt.alloc(), capacity as usize)?)
+            }
             Err(error) => Err(FolderFault::from(error)),
         }
     }
@@ -118,17 +135,20 @@ impl<F: SegmentFile> FolderReader<F> {
         }
     }
 
-    // The bytes of the file of this lease, and the row of its sums, which they fit.
+    // The bytes of the file of this lease, in a list that has room for so many at least, and the
+    // row of its sums, which they fit.
     fn fitting<R: AllocGlobal + Files<File = F>>(
         &self,
         rt: &R,
         lease: u32,
+        capacity: u64,
     ) -> Result<(Vec<u8>, Row), FolderFault>
         ensures within { IfOk result (λ found. length found.0.items ≤ MAX_CAPACITY) }
+        ensures room { IfOk result (λ found. capacity ≤ vec_capacity found.0) }
         ensures noted { IfOk result (λ found. (reach found.1).end ≤ length found.0.items) }
         ensures cause { IfErr result (λ cause. cause ≢ BadConfig) }
     {
-        let bytes = self.bytes(rt, lease)?;
+        let bytes = self.bytes_with(rt, lease, capacity)?;
         let sums = self.sums(rt, lease)?;
         let row = checked(lease, &bytes, &sums)?;
         Ok((bytes, row))
@@ -145,7 +165,7 @@ impl<F: SegmentFile> FolderReader<F> {
         ensures within { IfOk result (λ bytes. length bytes.items ≤ MAX_CAPACITY) }
         ensures cause { IfErr result (λ cause. cause ≢ BadConfig) }
     {
-        let (bytes, _) = self.fitting(rt, lease)?;
+        let (bytes, _) = self.fitting(rt, lease, 0)?;
         Ok(bytes)
     }
 
@@ -161,7 +181,7 @@ impl<F: SegmentFile> FolderReader<F> {
             × (sound.len ≤ MAX_CAPACITY)) }
         ensures cause { IfErr result (λ cause. cause ≢ BadConfig) }
     {
-        let (bytes, row) = self.fitting(rt, lease)?;
+        let (bytes, row) = self.fitting(rt, lease, 0)?;
         Ok(Sound {
             len: bytes.len() as u64,
             summed: row.end(),
@@ -189,8 +209,8 @@ impl<F: SegmentFile> FolderReader<F> {
         ensures lease { IfErr result (λ e. e.lease ≡ lease) }
     {
         let lease = with_capacity(lease, capacity)?;
-        match self.sound_bytes(rt, lease.number()) {
-            Ok(bytes) => copy_of(rt.alloc(), lease, capacity, &bytes),
+        match self.fitting(rt, lease.number(), capacity) {
+            Ok((bytes, _)) => Ok(copy_of(lease, capacity, bytes)),
             Err(cause) => Err(NotOpened { lease, cause }),
         }
     }

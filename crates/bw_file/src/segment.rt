@@ -1,5 +1,5 @@
 // A segment in a file, and what it shares with its folder.
-ghost use Rattle.std.specs.Prelude.{◌≡◌, ◌+◌, ◌<◌, ◌≤◌, length, take, drop, OnOk, OnErr, IfOk, IsOk};
+ghost use Rattle.std.specs.Prelude.{◌≡◌, ◌+◌, ◌<◌, ◌≤◌, length, take, drop, OnOk, OnErr, IfOk, IfSome, IsOk, IsSome};
 ghost use Rattle.bw_device.specs.Memory.{memory_holding};
 ghost use Rattle.bw_digest.specs.Rows.{reach};
 
@@ -153,5 +153,13 @@ impl<F: SegmentFile + Send + Sync> Segment for FileSegment<F> {
 
     fn failures(&self) -> u64 {
         self.failed
+    }
+
+    /// All held bytes, of the copy.
+    fn lend(&self) -> Option<&[u8]>
+        ensures bytes { IfSome result (λ bytes. bytes.now ≡ (file_holding self.now).bytes) }
+        ensures always { IsSome result }
+    {
+        self.copy.lend()
     }
 }

@@ -6,3 +6,5 @@ pub mod Sought
 pub mod Trees
 pub mod Wording
 pub mod Chains
+pub mod Hollowed
+pub mod HollowLaws

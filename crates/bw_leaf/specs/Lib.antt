@@ -6,6 +6,8 @@ pub mod Above
 pub mod Forwards
 pub mod Links
 pub mod Words
+pub mod Hollow
+pub mod HollowPages
 -- what private functions say, and how values stand in memory
 pub mod Linked
 pub mod Marks

@@ -154,7 +154,7 @@ impl Draft {
     }
 
     // The page after a record.
-    fn apply(&mut self, change: &Packed) -> Result<(), AllocError>
+    pub(crate) fn apply(&mut self, change: &Packed) -> Result<(), AllocError>
         ensures { OnOk result (self.new ≡ changed change.now self.old) }
     {
         let Draft { leaf, tree } = self;

@@ -14,6 +14,8 @@
 mod chain;
 mod changes;
 mod draft;
+mod hollow;
+mod hollow_page;
 mod replay;
 mod room;
 mod split;
@@ -26,6 +28,7 @@ pub use changes::{
     empty_page, find_key, pair_from, removes, take_back, value_in,
 };
 pub use draft::Draft;
+pub use hollow_page::{HollowDraft, HollowPage};
 pub use replay::{change_all, keep_below, read_block, read_blocks};
 pub use room::fitted_copy;
 pub use split::{Halves, half_of, new_pair, split_in_two};

@@ -206,11 +206,11 @@ wrong_among m frames es got o laws rise of index is =
     (short_all m (blocks_of frames) es blocks_law rise from)
     ∙ fault_is m frames es rise of
 
-numbers_from : (m : ℕ) (frames : List Frame) → AllByRecursion (HasLawful m) frames → AllByRecursion (λ x. 1 ≤ x.number) frames
+pub numbers_from : (m : ℕ) (frames : List Frame) → AllByRecursion (HasLawful m) frames → AllByRecursion (λ x. 1 ≤ x.number) frames
 numbers_from m [] laws = tt
 numbers_from m (x ∷ xs) laws = (laws.0.0, numbers_from m xs laws.1)
 
-none_wrong : (m : ℕ) (frames : List Frame) (es : List Paged) → Rise 0 es → AreOf frames es → fault_among m frames ≡ None
+pub none_wrong : (m : ℕ) (frames : List Frame) (es : List Paged) → Rise 0 es → AreOf frames es → fault_among m frames ≡ None
     → first_wrong m (leaves_set (blocks_of frames)) 0 es ≡ None
 none_wrong m frames es rise of none = fault_is m frames es rise of ∙ none
 
@@ -219,19 +219,18 @@ pub lawful_leaves : (m : ℕ) (frames : List Frame) (es : List Paged) → AllByR
 lawful_leaves m frames es laws some rise of none =
     subst (AreLeaves m) (sym (found_leaves m frames es rise of (none_wrong m frames es rise of none))) (found_stands m frames laws some none).lawful
 
-map_length : {A B : Type 0} (g : A → B) (xs : List A) → length (map g xs) ≡ length xs
+pub map_length : {A B : Type 0} (g : A → B) (xs : List A) → length (map g xs) ≡ length xs
 map_length g [] = refl
 map_length g (x ∷ xs) = ap suc (map_length g xs)
 
 pub right_pages : (m : ℕ) (frames : List Frame) (es : List Paged) (r : Pages) → AllByRecursion (HasLawful m) frames → Rise 0 es → AreOf frames es
     → fault_among m frames ≡ None
-    → r.leaves.m ≡ m → r.leaves.evicted ≡ [] → r.leaves.leaves ≡ leaves_in es → r.table.items ≡ map at_line es → IsRight m frames r
-right_pages m frames es r laws rise of none limit here leaves table =
+    → r.leaves.m ≡ m → r.leaves.leaves ≡ leaves_in es → r.table.items ≡ map at_line es → IsRight m frames r
+right_pages m frames es r laws rise of none limit leaves table =
     let no_fault = none_wrong m frames es rise of none in
     record {
       none = none;
       limit = limit;
-      here = here;
       leaves = leaves ∙ found_leaves m frames es rise of no_fault;
       table = subst (λ (t : List PageAt). IsTable t frames) (sym table) (table_is m frames es rise of (numbers_from m frames laws) no_fault);
       count = ap (λ (t : List PageAt). length t) table ∙ map_length at_line es ∙ sym (leaves_count m 0 (leaves_set (blocks_of frames)) es no_fault)

@@ -123,7 +123,6 @@ HasFrames m lines = (frames : List Frame) × AllByRecursion (HasLawful m) frames
 pub record IsRight (m : ℕ) (frames : List Frame) (r : Pages) : Type 0 where
   pub none : fault_among m frames ≡ None
   pub limit : r.leaves.m ≡ m
-  pub here : r.leaves.evicted ≡ []
   pub leaves : r.leaves.leaves ≡ contents (blocks_of frames) 1 (top_page (blocks_of frames))
   pub table : IsTable r.table.items frames
   pub count : length r.table.items ≡ length r.leaves.leaves

@@ -240,6 +240,7 @@ pub fn pages_of(
     ensures right { (frames : List FrameValue) → AllByRecursion (HasLawful m) frames
         → IsMapOf frames lines
         → IfOk result (IsRight m frames) }
+    ensures here { IfOk result (λ r. r.leaves.evicted ≡ []) }
     ensures fault { (frames : List FrameValue) → AllByRecursion (HasLawful m) frames
         → IsMapOf frames lines
         → IfErr result (PageFaultIs (fault_among m frames)) }

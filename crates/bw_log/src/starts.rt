@@ -2,36 +2,29 @@
 //!
 //! Nobody has to know that before a block is read alone. So a frame is looked through when the
 //! first of its blocks is asked for, and what was found is kept: four bytes a block. The proof
-//! knows from the start what a frame holds, so to look through it changes nothing.
+//! knows from the start which frame it is, so to look through it changes nothing.
 
 ghost use Rattle.std.specs.Prelude.{◌≡◌, ◌<◌, ◌≤◌, ◌^◌, ℕ, Some, None, length, drop, slice_get, IfOk, IfSome, IfErr, MatchOption};
 ghost use Rattle.bw_record.specs.Version.{latest};
 ghost use Rattle.bw_codec.specs.Grammar.{frame_bytes_in, IsFrameIn};
 ghost use Rattle.bw_codec.specs.Reading.{Gives};
-ghost use Rattle.bw_record.specs.declared.block.Frame.{Frame};
+ghost use Rattle.bw_record.specs.declared.block.Frame.{Frame as FrameValue};
 ghost use Rattle.bw_buffer.specs.Filling.{frame_of};
 ghost use Rattle.bw_log.specs.Starts.{starts_of, IsSpan};
 
 use bw_buffer::Buffer;
-use bw_codec::limits::HEAD_LEN;
-use bw_codec::{CodecFault, Outline};
+use bw_codec::limits::{HEAD_LEN, LATEST};
+use bw_codec::{CodecFault, Frame, Outline};
+use bw_told::Told;
 use std::alloc::Global;
 use std::marker::Model;
-use std::snapshot::Snapshot;
-
-/// Where a frame is known from.
-#[derive(Drop)]
-enum Source {
-    /// It was appended.
-    Appended(Snapshot<Buffer>),
-    /// It was found in a segment, and they were read once.
-    Found(Snapshot<Vec<u32>>),
-}
 
 /// Where the blocks of a frame begin in it, once somebody asked.
 #[derive(Drop)]
 pub struct Starts {
-    source: Source,
+    frame: Told<Frame>,
+    /// Its format.
+    version: u16,
     known: Vec<u32>,
 }
 
@@ -68,24 +61,24 @@ impl Starts {
         ensures { result ≡ starts_of latest (frame_of buffer.now) }
     {
         Starts {
-            source: Source::Appended(Snapshot::of(buffer)),
+            frame: Told::about(buffer),
+            version: LATEST,
             known: Vec::new(alloc),
         }
     }
 
-    /// Those of the frame that the bytes spell in a format; nothing that was read for it is kept.
-    /// `NoMemory` is the only fault of a frame's own bytes.
-    pub fn of_found(alloc: Global, version: u16, bytes: &[u8]) -> Result<Starts, CodecFault>
-        requires { length bytes.now < 2 ^ 32 }
-        ensures { (m f : ℕ) (frame : Frame) → m < 2 ^ 16 → IsFrameIn version m f frame
-            → bytes.now ≡ frame_bytes_in version frame
-            → Gives (λ x. x) result (Some (starts_of version frame)) }
+    /// Those of the frame that the bytes spell in a format. Nothing is read, and no memory is
+    /// taken.
+    pub fn of_found(alloc: Global, version: u16, bytes: &[u8]) -> Starts
+        ghost frame: { FrameValue }
+        requires { bytes.now ≡ frame_bytes_in version frame }
+        ensures { result ≡ starts_of version frame }
     {
-        let starts = starts_in(alloc, version, bytes)?;
-        Ok(Starts {
-            source: Source::Found(Snapshot::of(&starts)),
+        Starts {
+            frame: Told::about(&bytes),
+            version,
             known: Vec::new(alloc),
-        })
+        }
     }
 
     /// Where the block of an index begins and ends in the frame, of so many bytes; `None` where
@@ -121,7 +114,7 @@ fn behind(bytes: &[u8], len: usize) -> Result<&[u8], CodecFault>
 /// Where the blocks of the frame begin that the bytes spell in a format.
 pub(crate) fn starts_in(alloc: Global, version: u16, bytes: &[u8]) -> Result<Vec<u32>, CodecFault>
     requires { length bytes.now < 2 ^ 32 }
-    ensures { (m f : ℕ) (frame : Frame) → m < 2 ^ 16 → IsFrameIn version m f frame
+    ensures { (m f : ℕ) (frame : FrameValue) → m < 2 ^ 16 → IsFrameIn version m f frame
         → bytes.now ≡ frame_bytes_in version frame
         → Gives (λ x. x.items) result (Some (starts_of version frame)) }
 {

@@ -9,7 +9,7 @@ use Rattle.std.proofs.lemmas.Bool.{eqb-true, eqb-false, eq-eqb, ne_eqb}
 use Rattle.bw_record.specs.declared.leaf.Leaf.{Leaf}
 use Rattle.bw_page.specs.declared.seats.Seats.TheInside.{Inside}
 use Rattle.bw_page.specs.Leaves.{leaf_at}
-use Rattle.bw_page.specs.Seats.{Seated, Seating, is_among}
+use Rattle.bw_page.specs.Seats.{Seated, Seating, is_among, numbers_from}
 use Rattle.bw_page.specs.Seating.{leaves_of, evicted_from, seats_view}
 
 -- whether the seat at an index is evicted, if there is one
@@ -171,3 +171,29 @@ set_got (x ∷ xs) (suc n) l h = ap (λ ys. x ∷ ys) (set_got xs n l h)
 pub set_itself : (leaves : List Leaf) (p : ℕ) (l : Leaf) → leaf_at p leaves ≡ Some l → slice_set leaves (p - 1) l ≡ leaves
 set_itself leaves zero l h = absurd (cc)
 set_itself leaves (suc n) l h = let e : suc n - 1 ≡ n = omega arith in ap (λ i. slice_set leaves i l) e ∙ set_got leaves n l h
+
+-- one more seat, evicted
+away_more : (n : ℕ) (s : Seated) (ss : List Seated) → s.is_evicted ≡ true → evicted_from n (ss ++ s ∷ []) ≡ evicted_from n ss ++ (n + length ss) ∷ []
+away_more n s [] h = ap (λ b. cond b (n ∷ []) []) h ∙ (let e : n ≡ n + 0 = omega arith in ap (λ k. k ∷ []) e)
+away_more n s (x ∷ ss) h =
+    let e : n + 1 + length ss ≡ n + suc (length ss) = omega arith in
+    elim x.is_evicted as (λ b. cond b (n ∷ evicted_from (n + 1) (ss ++ s ∷ [])) (evicted_from (n + 1) (ss ++ s ∷ []))
+    ≡ cond b (n ∷ evicted_from (n + 1) ss) (evicted_from (n + 1) ss) ++ (n + suc (length ss)) ∷ []) [
+      | true ↦ ap (λ (ps : List ℕ). n ∷ ps) (away_more (n + 1) s ss h ∙ ap (λ k. evicted_from (n + 1) ss ++ k ∷ []) e)
+      | false ↦ away_more (n + 1) s ss h ∙ ap (λ k. evicted_from (n + 1) ss ++ k ∷ []) e
+    ]
+
+pub evicted-away : (s : Seated) (ss : List Seated) → s.is_evicted ≡ true → evicted_from 1 (ss ++ s ∷ []) ≡ evicted_from 1 ss ++ (length (leaves_of ss) + 1) ∷ []
+evicted-away s ss h =
+    let e : 1 + length ss ≡ length (leaves_of ss) + 1 = (let l = length-map ss (λ (s : Seated). s.leaf) in omega (arith, l)) in
+    away_more 1 s ss h ∙ ap (λ k. evicted_from 1 ss ++ k ∷ []) e
+
+-- numbers, and one more
+numbers_suc : (p n : ℕ) → numbers_from p (suc n) ≡ numbers_from p n ++ (n + p) ∷ []
+numbers_suc p zero = let e : p ≡ 0 + p = omega arith in ap (λ k. k ∷ []) e
+numbers_suc p (suc n) =
+    let e : n + (p + 1) ≡ suc n + p = omega arith in
+    ap (λ (ks : List ℕ). p ∷ ks) (numbers_suc (p + 1) n ∙ ap (λ k. numbers_from (p + 1) n ++ k ∷ []) e)
+
+pub numbers_more : (p n : ℕ) → numbers_from p (n + 1) ≡ numbers_from p n ++ (n + p) ∷ []
+numbers_more p n = ap (numbers_from p) (let e : n + 1 ≡ suc n = omega arith in e) ∙ numbers_suc p n

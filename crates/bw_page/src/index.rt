@@ -13,7 +13,7 @@ ghost use Rattle.bw_page.specs.Seats.{is_among};
 
 use crate::seats::Seats;
 use bw_codec::{Key, Leaf};
-use bw_leaf::fitted_copy;
+use bw_leaf::{HollowPage, fitted_copy};
 use bw_lows::LowIndex;
 use std::alloc::{AllocError, Global};
 
@@ -62,6 +62,28 @@ pub(crate) fn index_of(alloc: Global, leaves: &[Leaf]) -> Result<LowIndex, Alloc
         match Key::new(leaf.low.as_slice()) {
             Ok(low) => {
                 index.insert(low, leaf.page)?;
+            }
+            Err(_) => unreachable!(),
+        }
+    }
+    Ok(index)
+}
+
+/// The page of each low key but that of the first page, of pages that were found in the log.
+pub(crate) fn index_of_found(alloc: Global, pages: &[HollowPage]) -> Result<LowIndex, AllocError>
+    requires some { 1 ≤ length pages.now }
+    requires keys { AllByRecursion (λ l. IsKey l.low) (drop 1 pages.now) }
+    ensures { IfOk result (λ index. (q : Bytes)
+        → page_of_low index q ≡ find order q (lows_of (drop 1 pages.now))) }
+{
+    let mut index = LowIndex::new(alloc);
+    let mut at = pages.len();
+    while at > 1 {
+        at -= 1;
+        let found = &pages[at];
+        match Key::new(found.low()) {
+            Ok(low) => {
+                index.insert(low, found.page())?;
             }
             Err(_) => unreachable!(),
         }

@@ -15,6 +15,7 @@ ghost use Rattle.bw_leaf.specs.Changed.{order, empty_leaf, changed_map};
 ghost use Rattle.bw_page.specs.Leaves.{home, leaf_at, directed_at, result_of, AreLeaves, union};
 ghost use Rattle.bw_page.specs.Shown.{TakesKey, IsSpent, after_record, is_evicted_page, leaf_here, IsHere, applied_by};
 ghost use Rattle.bw_page.specs.Aim.{IsAim, IsFound};
+ghost use Rattle.bw_page.specs.Seats.{numbers_from};
 ghost use Rattle.bw_page.specs.Journal.{displaced_by};
 ghost use Rattle.bw_leaf.specs.Seek.{back_of};
 ghost use Rattle.bw_page.specs.Ahead.{HasNoLowAbove, IsNextLow};
@@ -25,13 +26,13 @@ mod hinted;
 mod walk;
 
 use crate::fault::ApplyError;
-use crate::index::{copy_all, index_of};
+use crate::index::{copy_all, index_of, index_of_found};
 use crate::journal::Displaced;
 use crate::seats::Seats;
 use crate::splits::split_one;
 pub use batch::{HasRecord, Step};
 use bw_codec::{Key, Leaf, Packed, Record, Value};
-use bw_leaf::{count_found, count_packed, empty_page, find_key};
+use bw_leaf::{HollowPage, count_found, count_packed, empty_page, find_key};
 use bw_lows::LowIndex;
 use std::alloc::{AllocError, Global};
 use std::marker::Model;
@@ -456,6 +457,26 @@ impl Leaves {
         ensures { IfOk result (λ l. l ≡ self.now) }
     {
         Leaves::of(copy_all(self.leaves.allocator(), &self.leaves)?, self.m)
+    }
+
+    /// Lawful pages that were found in the log, of which page n stands at index n - 1, with at most
+    /// `m` pairs a page, 4 to 32. All of them are evicted. A refused growth is the only error. It costs
+    /// all pages.
+    pub fn found(pages: Vec<HollowPage>, m: u16) -> Result<Leaves, AllocError>
+        requires limit { (4 ≤ m) × (m ≤ 32) }
+        requires lawful { AreLeaves m pages.items }
+        ensures { IfOk result (λ l. l ≡ record {
+          m = m;
+          leaves = pages.items;
+          evicted = numbers_from 1 (length pages.items);
+        }) }
+    {
+        let index = index_of_found(*pages.allocator(), pages.as_slice())?;
+        Ok(Leaves {
+            m,
+            leaves: Seats::away(pages)?,
+            index,
+        })
     }
 
     /// Lawful leaves, of which page n stands at index n - 1, with at most `m` pairs a page, 4 to

@@ -1,6 +1,7 @@
 //! Leaves of which each is in memory or evicted.
 //!
-//! What a leaf that is evicted holds is known to the proof alone: a snapshot has no bytes.
+//! What a leaf that is evicted holds only the proof knows. A leaf may be evicted from the start: of a
+//! page that was found in the log only the keys and the lengths of the values were read.
 
 ghost use Rattle.std.specs.Prelude.{ℕ, ◌≡◌, ◌==◌, ◌<◌, ◌≤◌, ◌+◌, ◌-◌, ◌++◌, ◌^◌, [], ◌∷◌, true, false, None, Some, length, take, slice_get, slice_set, slice_index_or, if◌then◌else◌, IfSome, IsOk, IfOk, OnOk, OnErr, IsTrue};
 ghost use Rattle.std.specs.List.{AllByRecursion};
@@ -15,24 +16,24 @@ ghost use Rattle.bw_leaf.specs.Changed.{Bytes, order, changed};
 ghost use Rattle.bw_leaf.specs.SplitRule.{lower_of, upper_of};
 ghost use Rattle.bw_lows.specs.LowHeads.{page_of_low};
 ghost use Rattle.bw_page.specs.Splitting.{changed_at};
-ghost use Rattle.bw_page.specs.Seats.{is_among};
+ghost use Rattle.bw_page.specs.Seats.{is_among, numbers_from};
 ghost use Rattle.bw_leaf.specs.Seek.{seek_of, back_of, IsWithin, AddsNone, AddsOne};
 ghost use Rattle.bw_record.specs.Record.{key_of};
 
 use crate::splits::split_leaf;
 use bw_codec::{Leaf, Packed, base_length};
-use bw_leaf::{change_found, take_back};
+use bw_leaf::{HollowPage, change_found, take_back};
 use bw_lows::LowIndex;
+use bw_told::Told;
 use std::alloc::{AllocError, Global};
 use std::marker::Model;
 use std::mem;
-use std::snapshot::Snapshot;
 
 /// One leaf, in memory or evicted.
 #[derive(Drop)]
 pub(crate) struct Seat {
     leaf: Option<Leaf>,
-    was: Snapshot<Leaf>,
+    was: Told<Leaf>,
     /// How many bytes its Base has, where it is evicted.
     len: u32,
 }
@@ -54,11 +55,24 @@ impl Seat {
     fn of(leaf: Leaf) -> Seat
         ensures { result ≡ record { leaf = leaf; is_evicted = false } }
     {
-        let was = Snapshot::of(&leaf);
+        let was = Told::of(&leaf);
         Seat {
             leaf: Some(leaf),
             was,
             len: 0,
+        }
+    }
+
+    /// A leaf that was found, and never was in memory.
+    fn away(page: HollowPage) -> Seat
+        requires { IsBase 32 page }
+        ensures { result ≡ record { leaf = page; is_evicted = true } }
+    {
+        let len = page.base_length() as u32;
+        Seat {
+            leaf: None,
+            was: page.into_told(),
+            len,
         }
     }
 
@@ -111,7 +125,7 @@ impl Seat {
         match &mut self.leaf {
             Some(leaf) => {
                 let back = change_found(leaf, found, item)?;
-                self.was = Snapshot::of(leaf);
+                self.was = Told::of(leaf);
                 Ok(back)
             }
             None => unreachable!(),
@@ -149,7 +163,7 @@ impl Seat {
         match &mut self.leaf {
             Some(leaf) => {
                 let upper = split_leaf(index, m, leaf, found, item, page)?;
-                self.was = Snapshot::of(leaf);
+                self.was = Told::of(leaf);
                 Ok(upper)
             }
             None => unreachable!(),
@@ -169,7 +183,7 @@ impl Seat {
         match &mut self.leaf {
             Some(leaf) => {
                 take_back(leaf, found, back);
-                self.was = Snapshot::of(leaf);
+                self.was = Told::of(leaf);
             }
             None => unreachable!(),
         }
@@ -230,6 +244,32 @@ impl Seats {
             seats.push(leaf)?;
         }
         Ok(seats)
+    }
+
+    /// These leaves, all evicted.
+    pub(crate) fn away(pages: Vec<HollowPage>) -> Result<Seats, AllocError>
+        requires { AllByRecursion (IsBase 32) pages.items }
+        ensures items { IfOk result (λ s. s.items ≡ pages.items) }
+        ensures evicted { IfOk result (λ s. s.evicted ≡ numbers_from 1 (length pages.items)) }
+    {
+        let mut seats = Seats::new(*pages.allocator());
+        seats.reserve(pages.len())?;
+        for page in pages {
+            seats.push_away(page)?;
+        }
+        Ok(seats)
+    }
+
+    // A further leaf, evicted. A refusal changes nothing.
+    fn push_away(&mut self, page: HollowPage) -> Result<(), AllocError>
+        requires { IsBase 32 page }
+        ensures items { OnOk result (self.new.items ≡ self.old.items ++ page ∷ []) }
+        ensures evicted { OnOk result
+            (self.new.evicted ≡ self.old.evicted ++ (length self.old.items + 1) ∷ []) }
+        ensures unchanged { OnErr result (self.new.items ≡ self.old.items) }
+    {
+        self.seats.push(Seat::away(page))?;
+        Ok(())
     }
 
     pub(crate) fn allocator(&self) -> Global {

@@ -7,11 +7,11 @@ use Rattle.bw_codec.proofs.FrontFormat.{is_front}
 use Rattle.bw_log.specs.Segments.{entries_from}
 use Rattle.bw_care.specs.Scanning.{rest_of}
 use Rattle.bw_care.proofs.FrontsRead.{ends_parts, ends_torn, fits_there, read_more, ends_tail, ends_bad, tail_lawful}
-use Rattle.bw_care.proofs.FrontsRead.{bad_there, tail_len, whole_from, tail_from, unseen_from, spelled_from, len_from, line_from}
+use Rattle.bw_care.proofs.FrontsRead.{bad_there, tail_len, whole_from, tail_from, unseen_from, first_spelled, len_from, line_from}
 use Rattle.bw_care.proofs.scan.read_behind.Goals as goal
 
-pub line_of-requires-clause-short : goal.line_of-requires-clause-short
-line_of-requires-clause-short c =
+pub line_of-requires : goal.line_of-requires
+line_of-requires c =
     let k = c.args.header in
     let small : k.m < 2 ^ 16 = search rules in
     let limit : k.f < 2 ^ 32 = search rules in
@@ -20,15 +20,7 @@ line_of-requires-clause-short c =
     let fits = fits_there k c.frames.at c.args.bytes.now w.frame c.in-Ok-Whole.used c.frames.invariant.1.within w.there in
     let used = fits.2 in
     let len = len_from k c.args.bytes.now c.frames.at c.in-Ok-Whole.number c.in-Ok-Whole.used w small in
-    omega (arith, len)
-
-pub line_of-requires-clause-there : goal.line_of-requires-clause-there
-line_of-requires-clause-there c =
-    let k = c.args.header in
-    let small : k.m < 2 ^ 16 = search rules in
-    let w = whole_from k c.args.bytes.now c.frames.at c.in-Ok-Whole.field-0 c.in-Ok-Whole.number c.in-Ok-Whole.used c.in-Ok-Whole.ensures.found
-    c.in-Ok-Whole.field-0-is in
-    (k.m, k.f, w.frame, spelled_from k c.args.bytes.now c.frames.at c.in-Ok-Whole.number c.in-Ok-Whole.used w small)
+    (omega (arith, len), first_spelled k c.args.bytes.now c.frames.at c.in-Ok-Whole.number c.in-Ok-Whole.used w small limit)
 
 pub frames-preserved : goal.frames-preserved
 frames-preserved c =
@@ -37,9 +29,7 @@ frames-preserved c =
     let limit : k.f < 2 ^ 32 = search rules in
     let w = whole_from k c.args.bytes.now c.frames.at c.in-Ok-Whole.field-0 c.in-Ok-Whole.number c.in-Ok-Whole.used c.in-Ok-Whole.ensures.found
     c.in-Ok-Whole.field-0-is in
-    let line = line_from k c.args.bytes.now c.frames.at c.in-Ok-Whole.number c.in-Ok-Whole.used c.in_ok-line_of-in-Ok-Whole.field-0 w small
-    (c.in_ok-line_of-in-Ok-Whole.ensures.line k.m k.f w.frame
-    (spelled_from k c.args.bytes.now c.frames.at c.in-Ok-Whole.number c.in-Ok-Whole.used w small)) in
+    let line = line_from k c.args.bytes.now c.frames.at c.in-Ok-Whole.number c.in-Ok-Whole.used c.line_of.result w small limit c.line_of.ensures in
     let front = is_front k.version k.m k.f _ (Whole w.frame c.in-Ok-Whole.used) small limit w.there in (
       c.frames.invariant.0 ++ w.frame ∷ [],
       rw (c.in_ok-push-in-Ok-Whole.ensures.items, line)

@@ -33,6 +33,6 @@ returns-in_ok-leaves-in-None-2-clause-right c = λ frames laws of_map.
     let rise = rise_is c.args.m frames es laws of c.in_ok-pages.ensures.ordered in
     let none = sym (c.in_ok-page.ensures frames laws (subst (AreOf frames) (sym (c.deref.ensures.value ∙ c.in_ok-pages.ensures.same)) of)) ∙ c.in-None.is in
     right_pages c.args.m frames es (record { leaves = c.in_ok-leaves-in-None-2.leaves; table = c.in_ok-leaves-in-None.table }) laws rise of none
-    (cc (c.in_ok-leaves-in-None-2.ensures)) (cc (c.in_ok-leaves-in-None-2.ensures))
+    (cc (c.in_ok-leaves-in-None-2.ensures))
     (cc (c.in_ok-leaves-in-None-2.ensures, c.in_ok-leaves-in-None.ensures.leaves, c.in_ok-pages.ensures.same))
     (c.in_ok-leaves-in-None.ensures.table ∙ ap (map at_line) c.in_ok-pages.ensures.same)

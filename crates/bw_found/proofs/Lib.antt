@@ -1,0 +1,3 @@
+pub mod LentLaws
+pub mod FirstRead
+pub mod Astray

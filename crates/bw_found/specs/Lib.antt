@@ -1,0 +1,2 @@
+-- what callers see, and how blocks stand where their bytes lie
+pub mod Lent

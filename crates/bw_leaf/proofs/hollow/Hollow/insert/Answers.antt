@@ -1,0 +1,24 @@
+use Rattle.std.proofs.Common.{◌∙◌, ap}
+use Rattle.std.specs.Prelude.{insert}
+use Rattle.bw_leaf.specs.Hollow.{blank}
+use Rattle.bw_leaf.proofs.Hollowed.{inserted, more_keys, on_any}
+use Rattle.bw_leaf.proofs.hollow.Hollow.insert.Goals as goal
+
+pub returns-in_err-insert-clause-unchanged : goal.returns-in_err-insert-clause-unchanged
+returns-in_err-insert-clause-unchanged c =
+    on_any _
+    ((more_keys c.self.inside.keys.items c.args.key.now c.add_key.new.keys.items c.self.inside.items.items c.insert.new.self.items
+    c.in_ok-item.ensures.keys c.in_err-insert.ensures.items c.self.invariant).1 ∙ c.self.view_is)
+
+pub invariant_of-self-2 : goal.invariant_of-self-2
+invariant_of-self-2 c =
+    (inserted c.self.inside.keys.items c.args.key.now c.add_key.new.keys.items c.self.inside.items.items c.insert.new.self.items c.args.at
+    c.in_ok-item.item c.args.size c.in_ok-item.ensures.keys c.in_ok-insert.ensures.items c.in_ok-item.ensures.at c.in_ok-item.ensures.len
+    c.in_ok-item.ensures.size c.self.invariant).0
+
+pub returns-clause-ok : goal.returns-clause-ok
+returns-clause-ok c =
+    (inserted c.self.inside.keys.items c.args.key.now c.add_key.new.keys.items c.self.inside.items.items c.insert.new.self.items c.args.at
+    c.in_ok-item.item c.args.size c.in_ok-item.ensures.keys c.in_ok-insert.ensures.items c.in_ok-item.ensures.at c.in_ok-item.ensures.len
+    c.in_ok-item.ensures.size c.self.invariant).1
+    ∙ ap (λ ps. insert ps c.args.at (c.args.key.now, blank c.args.size)) c.self.view_is

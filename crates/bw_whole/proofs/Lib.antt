@@ -1,0 +1,7 @@
+mod Rising
+mod Fitting
+mod Putting
+mod Paged
+mod Ranged
+mod Standing
+mod Made
