@@ -181,21 +181,36 @@ def last_whole(data):
 
 
 def end_again(shim, room):
-    """Whether opening a file writes its last 262,168 bytes again at their place, or all of a shorter one."""
+    """Whether opening a file without sums writes its last 262,168 bytes again at their place, or all of a shorter one; and nothing, where each byte
+    has a sum."""
     for records, most in ((800, 262168), (4000, 262168)):
         folder, log = os.path.join(room, "end%d" % records), os.path.join(room, "end%d.notes" % records)
         os.makedirs(folder)
-        lines = "".join("put 0 k%d %s\nflush\n" % (i, "v" * 100) for i in range(records))
-        for words in (lines, "get k1\n"):
+
+        def run(words, **env):
             subprocess.run(
                 [PROGRAM, "replay", "--dir", folder, "--m", "4", "--capacity", "1048576"],
-                input=words, capture_output=True, text=True, check=True,
-                env={"LD_PRELOAD": shim, "WATCH": folder, "WATCH_LOG": log} if words != lines else {},
+                input=words, capture_output=True, text=True, check=True, env=env,
             )
+
+        def opened():
+            """What is written to the segment's file and to its sums when it is opened."""
+            if os.path.exists(log):
+                os.remove(log)
+            run("get k1\n", LD_PRELOAD=shim, WATCH=folder, WATCH_LOG=log)
+            notes = notes_of(log) if os.path.exists(log) else []
+            return [[(at, many) for letter, at, many, name, _ in notes if letter == "w" and name == "segment-0000" + end] for end in (".bw", ".sum")]
+
+        run("".join("put 0 k%d %s\nflush\n" % (i, "v" * 100) for i in range(records)))
         length = os.path.getsize(os.path.join(folder, "segment-0000.bw"))
         ask(length > 65560 and (length > most) == (records == 4000), "a file of", length, "bytes")
-        again = [(at, many) for letter, at, many, name, _ in notes_of(log) if letter == "w" and name == "segment-0000.bw"]
-        ask(again == [(max(0, length - most), min(length, most))], "at opening", again, "of", length, "bytes")
+        again = opened()
+        ask(again == [[], []], "at opening", again, "of a file whose sums say each byte")
+        os.remove(os.path.join(folder, "segment-0000.sum"))
+        again = opened()
+        ask(again == [[(max(0, length - most), min(length, most))], [(0, 24)]], "at opening", again, "of", length, "bytes")
+        again = opened()
+        ask(again == [[], []], "at a further opening", again)
 
 
 # ---- runs by a table

@@ -1,7 +1,6 @@
 // A folder with a file for each segment.
 ghost use Rattle.std.specs.Prelude.{◌≡◌, ◌≢◌, ◌≤◌, ◌<◌, ◌⊎◌, ◌↔◌, [], length, All, IfOk, IfErr, IsErrAnd};
 ghost use Rattle.std.specs.List.Sorted.{IsStrictlyIncreasing};
-ghost use Rattle.std.specs.Vec.{vec_capacity};
 ghost use Rattle.bw_device.specs.Leases.{number_of};
 ghost use Rattle.bw_device.specs.Memory.{fresh_holding};
 ghost use Rattle.bw_device.specs.declared.leases.TheConstants.{MAX_LEASES};
@@ -10,22 +9,19 @@ ghost use Rattle.bw_digest.specs.Rows.{reach};
 ghost use Rattle.bw_file.specs.FileHolding.{file_holding, IsOpened};
 ghost use Rattle.bw_file.specs.declared.refusals.FolderFault.TheVariants.{BadConfig};
 
-use crate::files::{Pair, SegmentFile, bytes_of, copy_of, with_capacity};
+use crate::files::{Pair, SegmentFile, with_capacity};
 use crate::names::{leases_in, lock_path, segment_path, sums_path};
 use crate::refusals::{FolderFault, NotOpened};
-use crate::segment::{FileSegment, Shared};
-use crate::sums::{checked, complete, sums_for, sums_of};
+use crate::segment::{FileSegment, Place, Shared};
+use crate::sums::sums_for;
+use crate::unsettled::Unsettled;
 use bw_device::{Lease, MAX_CAPACITY, MemSegment};
 use bw_digest::Row;
 use std::alloc::Global;
 use std::fs::{self, File, OpenOptions};
 use std::io::{self, ErrorKind};
 use std::rt::Files;
-use std::sync::Arc;
-
-// So many bytes at the end of a file are written once more when it is opened: no append is longer,
-// a header or the longest frame.
-pub(crate) const LAST: usize = 262_168;
+use std::sync::{Arc, OnceLock};
 
 /// A folder with a file for each segment, named by its lease, which nobody else has open.
 ///
@@ -37,11 +33,9 @@ pub struct Folder<F = File> {
     pub(crate) itself: F,
     /// Shared with every segment of the folder.
     pub(crate) shared: Arc<Shared<F>>,
+    /// What is owed to the segments that are not settled.
+    pub(crate) waiting: Vec<Unsettled<F>>,
 }
-
-// The files of a lease, the bytes of its segment and the sums that tell of them, with what the folder
-// shares.
-pub(crate) type Settled<F> = (Pair<F>, Vec<u8>, Row, Arc<Shared<F>>);
 
 // Makes the folder where it is missing, and then waits until its name stands in its parent. The
 // parent of a folder that is there may be one that nobody may read.
@@ -59,14 +53,14 @@ fn make_folder<R: AllocGlobal + Files<File = F>, F: SegmentFile>(
     Ok(())
 }
 
-// Brings the end of a file and its length to the disk, which have been read.
-//
-// After a sync that failed in an earlier life, what is read may be in the system's memory alone, and
-// the next sync may say Ok all the same: so the end is written again first.
-fn settle<F: SegmentFile>(file: &F, bytes: &[u8]) -> io::Result<()> {
-    let from = bytes.len().saturating_sub(LAST);
-    file.write_all_at(&bytes[from..], from as u64)?;
-    file.sync_all()
+// Where a segment finds these files, which are settled.
+fn placed<F: SegmentFile>(alloc: Global, files: Pair<F>) -> Result<Place<F>, FolderFault>
+    ensures cause { IfErr result (λ cause. cause ≢ BadConfig) }
+{
+    let Ok(place) = Arc::new(alloc, OnceLock::from(files)) else {
+        return Err(FolderFault::NoMemory);
+    };
+    Ok(place)
 }
 
 // The file of this name, made where it is missing, to be read and written.
@@ -121,6 +115,7 @@ impl<F: SegmentFile> Folder<F> {
             path,
             itself,
             shared,
+            waiting: Vec::new(alloc),
         })
     }
 
@@ -154,72 +149,19 @@ impl<F: SegmentFile> Folder<F> {
         Ok(Pair { file, sums })
     }
 
-    // The files of this lease and its bytes, in a list that has room for so many at least. They fit
-    // their sums, and stand on the disk before anything follows them. Nothing is written before
-    // they were checked.
-    fn settled<R: AllocGlobal + Files<File = F>>(
-        &self,
-        rt: &R,
-        lease: u32,
-        capacity: u64,
-    ) -> Result<Settled<F>, FolderFault>
-        ensures within { IfOk result (λ settled. length settled.1.items ≤ MAX_CAPACITY) }
-        ensures room { IfOk result (λ settled. capacity ≤ vec_capacity settled.1) }
-        ensures noted { IfOk result
-            (λ settled. (reach settled.2).end ≡ length settled.1.items) }
-        ensures cause { IfErr result (λ cause. cause ≢ BadConfig) }
-    {
-        let files = self.taken(rt, lease)?;
-        let bytes = bytes_of(rt.alloc(), &files.file, capacity)?;
-        let sums = sums_of(rt.alloc(), &files.sums)?;
-        let row = checked(lease, &bytes, &sums)?;
-        settle(&files.file, &bytes)?;
-        let row = complete(&files.sums, sums.len() as u64, row, &bytes)?;
-        Ok((files, bytes, row, self.shared.clone()?))
-    }
-
-    /// The segment of this lease, with the bytes of its file, which is made where it is missing.
-    ///
-    /// Its capacity is the greater of this one, in bytes, and the file's length. The file is read
-    /// into the memory of the segment. `InUse` where a segment stands on the file, `TooLong` where
-    /// the file is longer than any segment may be, `NotPlain` where it is none, `Damaged` where its
-    /// bytes do not fit the sums beside it, `Missing` if the sums say that there were more; the
-    /// file's bytes stay as they are in each refusal, and so do the sums in these. Bytes that no
-    /// sum tells of, as in a folder without sums, get one here.
-    pub fn segment<R: AllocGlobal + Files<File = F>>(
-        &self,
-        rt: &R,
-        lease: Lease,
-        capacity: u64,
-    ) -> Result<FileSegment<F>, NotOpened>
-        ensures opened { IfOk result (λ s. IsOpened (number_of lease) capacity (file_holding s)) }
-
-        ensures bad_config { IsErrAnd result (λ e. e.cause ≡ BadConfig) ↔
-            ((capacity ≡ 0) ⊎ (MAX_CAPACITY < capacity)) }
-        ensures lease { IfErr result (λ e. e.lease ≡ lease) }
-    {
-        let lease = with_capacity(lease, capacity)?;
-        let (files, bytes, row, shared) = match self.settled(rt, lease.number(), capacity) {
-            Ok(settled) => settled,
-            Err(cause) => return Err(NotOpened { lease, cause }),
-        };
-        let copy = copy_of(lease, capacity, bytes);
-        Ok(FileSegment::over(copy, files, row, shared))
-    }
-
     // The files of this lease, which are empty and stand so, with what the folder shares. The sums
     // go first: those of an earlier segment must not come back beside the bytes of a later one.
     fn emptied<R: AllocGlobal + Files<File = F>>(
         &self,
         rt: &R,
         lease: u32,
-    ) -> Result<(Pair<F>, Arc<Shared<F>>), FolderFault>
+    ) -> Result<(Place<F>, Arc<Shared<F>>), FolderFault>
         ensures cause { IfErr result (λ cause. cause ≢ BadConfig) }
     {
         let files = self.taken(rt, lease)?;
         cut_to_nothing(&files.sums)?;
         cut_to_nothing(&files.file)?;
-        Ok((files, self.shared.clone()?))
+        Ok((placed(rt.alloc(), files)?, self.shared.clone()?))
     }
 
     /// A new segment of this lease and capacity, in bytes, over an empty file: what the file held is

@@ -9,7 +9,6 @@
 //! holds.
 #![tactic(auto)]
 
-mod again;
 mod files;
 mod folder;
 mod names;
@@ -17,6 +16,7 @@ mod reader;
 mod refusals;
 mod segment;
 mod sums;
+mod unsettled;
 
 pub use files::SegmentFile;
 pub use folder::{Folder, HeldBack};

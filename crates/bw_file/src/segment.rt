@@ -9,16 +9,18 @@ use bw_device::{Fault, MemSegment, Segment};
 use bw_digest::Row;
 use std::fs::File;
 use std::io::{self, ErrorKind};
-use std::sync::Arc;
 use std::sync::atomic::{AtomicBool, Ordering};
+use std::sync::{Arc, OnceLock};
 
 /// What a folder and its segments share.
 #[derive(Drop)]
 pub(crate) struct Shared<F> {
     /// Held as long as the folder or a segment of it stands, so that nobody else opens it.
     lock: F,
-    /// Whether an append failed, of any segment.
+    /// Whether an append failed, of any segment, or a settlement.
     has_failed: AtomicBool,
+    /// Whether a segment was opened, and what was read is not settled yet.
+    is_unsettled: AtomicBool,
 }
 
 impl<F> Shared<F> {
@@ -27,9 +29,33 @@ impl<F> Shared<F> {
         Shared {
             lock,
             has_failed: AtomicBool::new(false),
+            is_unsettled: AtomicBool::new(false),
         }
     }
+
+    /// No segment is ever appended to.
+    pub(crate) fn close(&self) {
+        self.has_failed.store(true, Ordering::SeqCst);
+    }
+
+    /// No segment is appended to until all that was read is settled.
+    pub(crate) fn wait(&self) {
+        self.is_unsettled.store(true, Ordering::SeqCst);
+    }
+
+    /// What was read is settled.
+    pub(crate) fn go_on(&self) {
+        self.is_unsettled.store(false, Ordering::SeqCst);
+    }
+
+    // Whether a segment may be appended to.
+    fn is_open(&self) -> bool {
+        !self.has_failed.load(Ordering::SeqCst) && !self.is_unsettled.load(Ordering::SeqCst)
+    }
 }
+
+/// Where a segment finds its files: there are none before they are settled.
+pub(crate) type Place<F> = Arc<OnceLock<Pair<F>>>;
 
 /// A segment in a file, and a copy of its bytes in memory, by which reads are answered.
 ///
@@ -41,8 +67,8 @@ impl<F> Shared<F> {
 #[derive(Drop)]
 pub struct FileSegment<F = File> {
     copy: MemSegment,
-    files: Pair<F>,
-    /// The sums that stand: they tell of each byte that is held.
+    files: Place<F>,
+    /// The sums that stand, once the folder is settled: they tell of each byte that is held.
     row: Row,
     /// Shared with the folder and its other segments.
     shared: Arc<Shared<F>>,
@@ -57,7 +83,7 @@ impl<F: SegmentFile> FileSegment<F> {
     /// Over a file that holds what the copy has, of which this row of sums tells.
     pub(crate) fn over(
         copy: MemSegment,
-        files: Pair<F>,
+        files: Place<F>,
         row: Row,
         shared: Arc<Shared<F>>,
     ) -> FileSegment<F>
@@ -82,12 +108,12 @@ impl<F: SegmentFile> FileSegment<F> {
         ensures { IfOk result
             (λ row. (reach row).end ≡ length (file_holding self.now).bytes + length piece.now) }
     {
-        if self.shared.has_failed.load(Ordering::SeqCst) {
+        let (true, Some(files)) = (self.shared.is_open(), self.files.get()) else {
             return Err(io::Error::from(ErrorKind::Other));
-        }
-        self.files.file.write_all_at(piece, self.copy.len())?;
-        self.files.file.sync_data()?;
-        note(&self.files.sums, self.row, piece)
+        };
+        files.file.write_all_at(piece, self.copy.len())?;
+        files.file.sync_data()?;
+        note(&files.sums, self.row, piece)
     }
 }
 
@@ -99,7 +125,8 @@ impl<F: SegmentFile + Send + Sync> Segment for FileSegment<F> {
 
     /// Adds the piece, and waits until the system says that the file has it; its sum is written
     /// behind it. Where one of these fails, the held bytes stay, and every later append in this
-    /// folder fails.
+    /// folder fails. It fails without a call of the system if a segment of the folder was opened
+    /// and is not settled.
     ///
     /// A piece is at most 262,168 bytes where the files are to be opened again after a sync that
     /// failed: so many the next opening writes once more.
@@ -114,7 +141,7 @@ impl<F: SegmentFile + Send + Sync> Segment for FileSegment<F> {
     {
         // The copy is changed last, so that an append that fails leaves it as it was.
         let Ok(row) = self.write_through(piece) else {
-            self.shared.has_failed.store(true, Ordering::SeqCst);
+            self.shared.close();
             self.failed += 1;
             return Err(Fault);
         };

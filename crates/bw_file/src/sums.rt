@@ -1,7 +1,7 @@
 // The sums beside a segment's file: by them its bytes are checked when they are read again.
-ghost use Rattle.std.specs.Prelude.{◌≡◌, ◌≢◌, ◌+◌, ◌≤◌, ◌↔◌, length, IsOk, IfOk, IfErr};
+ghost use Rattle.std.specs.Prelude.{◌≡◌, ◌≢◌, ◌+◌, ◌≤◌, ◌↔◌, length, drop, IsOk, IfOk, IfErr, MatchOption};
 ghost use Rattle.bw_device.specs.declared.memory.TheConstants.{MAX_CAPACITY};
-ghost use Rattle.bw_digest.specs.Sums.{no_sums, sums_in, with_all, told_end, Fits};
+ghost use Rattle.bw_digest.specs.Sums.{no_sums, sum_of, sums_in, with_all, told_end, Fits};
 ghost use Rattle.bw_digest.specs.Rows.{reach};
 ghost use Rattle.bw_file.specs.Damage.{IsDamage};
 ghost use Rattle.bw_file.specs.declared.refusals.FolderFault.TheVariants.{BadConfig};
@@ -9,7 +9,7 @@ ghost use Rattle.bw_file.specs.declared.refusals.FolderFault.TheVariants.{BadCon
 use crate::files::SegmentFile;
 use crate::refusals::FolderFault;
 use bw_device::MAX_CAPACITY;
-use bw_digest::{Damage, Row, SUM_LEN, check};
+use bw_digest::{Damage, Row, SUM_LEN, Sum, check};
 use std::alloc::{AllocError, Global};
 use std::io;
 
@@ -55,6 +55,24 @@ pub(crate) fn note<F: SegmentFile>(sums: &F, row: Row, piece: &[u8]) -> io::Resu
     Ok(row.with(sum))
 }
 
+/// The row with one sum for the bytes behind its last piece, and that sum; none if there are no such
+/// bytes. Nothing is written.
+pub(crate) fn filled_up(row: Row, bytes: &[u8]) -> (Row, Option<Sum>)
+    requires end { (reach row).end ≤ length bytes.now }
+    requires within { length bytes.now ≤ MAX_CAPACITY }
+    ensures end { (reach result.0).end ≡ length bytes.now }
+    ensures filled { MatchOption result.1
+        ((reach row).end ≡ length bytes.now)
+        (λ sum. sum ≡ sum_of (reach row) (drop (reach row).end bytes.now)) }
+{
+    let rest = &bytes[row.end() as usize..];
+    if rest.is_empty() {
+        return (row, None);
+    }
+    let sum = row.sum_of(rest);
+    (row.with(sum), Some(sum))
+}
+
 // Adds the sum of the piece that ends here to the row, and its bytes to the list. An end that is not
 // ahead, or that is past the bytes, adds nothing.
 fn add_sum(list: &mut Vec<u8>, row: Row, bytes: &[u8], end: u64) -> Result<Row, AllocError>
@@ -82,37 +100,4 @@ pub(crate) fn sums_for(alloc: Global, bytes: &[u8], ends: &[u64]) -> Result<Vec<
     }
     let _ = add_sum(&mut list, row, bytes, bytes.len() as u64)?;
     Ok(list)
-}
-
-// The file of sums ends with this row, and with one sum for the bytes behind its last piece. Where it
-// held so many bytes as the row has, and none are behind, nothing is written.
-fn filled<F: SegmentFile>(sums: &F, held: u64, row: Row, bytes: &[u8]) -> io::Result<Row>
-    requires end { (reach row).end ≤ length bytes.now }
-    requires within { length bytes.now ≤ MAX_CAPACITY }
-    ensures { IfOk result (λ new. (reach new).end ≡ length bytes.now) }
-{
-    let stands = row.count() * SUM_LEN as u64;
-    if stands == held && row.end() == bytes.len() as u64 {
-        return Ok(row);
-    }
-    sums.set_len(stands)?;
-    note(sums, row, &bytes[row.end() as usize..])
-}
-
-/// Makes a file of sums that holds so many bytes end with this row, and with one sum for the bytes
-/// behind its last piece, and waits until that stands: what did not count must not come back behind
-/// other sums, nor what an earlier life cut and did not wait for.
-pub(crate) fn complete<F: SegmentFile>(
-    sums: &F,
-    held: u64,
-    row: Row,
-    bytes: &[u8],
-) -> io::Result<Row>
-    requires end { (reach row).end ≤ length bytes.now }
-    requires within { length bytes.now ≤ MAX_CAPACITY }
-    ensures { IfOk result (λ new. (reach new).end ≡ length bytes.now) }
-{
-    let row = filled(sums, held, row, bytes)?;
-    sums.sync_all()?;
-    Ok(row)
 }

@@ -2,20 +2,21 @@
 
 ghost use Rattle.std.specs.Prelude.{◌≡◌, IfOk, IfSome, IsNone};
 
-use crate::begun::{NotBegun, begin};
+use crate::begun::begin;
 use crate::course::{Course, Legs, Whole};
 use crate::options::Options;
 use bw_care::RecoverCause;
 use bw_device::{MAX_LEASES, Segment};
-use bw_site::{Found, HomeFault, Made, Site, System, look};
+use bw_site::{Found, HomeFault, Made, NotHeld, Site, System, look};
 
 /// How the folder of a store is opened.
 #[derive(Clone, Copy)]
 pub(crate) enum Way {
-    /// Over the files that are there, of which each is read once: nothing is written before
-    /// recovery has taken them. Only a folder that lacks nothing is opened so.
+    /// Over the files that are there, of which each is read once: nothing is made or written before
+    /// recovery has taken them. Only a folder that was open before is opened so.
     Again,
-    /// A copy of it is looked at before. Then what is missing is made.
+    /// A copy of it is looked at before. So why the other way failed is told, and a folder that was
+    /// never open stays as it is if it is refused.
     Anew,
 }
 
@@ -57,16 +58,15 @@ impl Attempt {
 /// A site, how many segments the store begins with, and how many bytes a new one has room for.
 type Place = (Site, u32, u64);
 
-// The folder of this path over the files that are there, if they are all that is wanted. Why they
-// are not is said by the other way.
+// The folder of this path over the files that are there, if it was open before. Why it cannot be opened
+// is said by the other way.
 fn place_again<R: System>(rt: &R, path: &str, leases: u32, options: &Options) -> Option<Place> {
     let Ok(site) = Site::open_again(rt, path, leases) else {
         return None;
     };
-    let Ok(present) = site.present(rt, options.segments) else {
+    let Ok((count, longest)) = site.present(rt, options.segments) else {
         return None;
     };
-    let (count, longest) = present?;
     Some((site, count, options.capacity_beside(longest)))
 }
 
@@ -88,6 +88,22 @@ pub(crate) fn site_of<R: System>(
     let site = Site::open(rt, dir, leases)?;
     let count = site.count(rt, options.segments)?;
     Ok(Some((site, count, options.capacity_beside(longest))))
+}
+
+/// The next segment; none if there is none by this way, and the other one says why.
+pub(crate) fn segment_of<R: System>(
+    rt: &R,
+    site: &mut Site,
+    capacity: u64,
+    way: Way,
+) -> Result<Option<Made>, HomeFault> {
+    match site.segment(rt, capacity) {
+        Ok(made) => Ok(Some(made)),
+        Err(fault) => match way {
+            Way::Again => Ok(None),
+            Way::Anew => Err(fault),
+        },
+    }
 }
 
 // Opens a store, goes leg by leg over it, and ends it; `None` if another attempt is to be made: the
@@ -116,7 +132,7 @@ fn go<R: System, L: Legs<R>>(
     let mut boxes: Vec<Box<dyn Segment>> = Vec::new(rt.alloc());
     let mut are_new = true;
     for _ in 0..count {
-        let Some(made) = site.segment(rt, options.capacity)? else {
+        let Some(made) = segment_of(rt, &mut site, options.capacity, this.way)? else {
             *attempt = this.anew();
             return Ok(None);
         };
@@ -129,8 +145,8 @@ fn go<R: System, L: Legs<R>>(
     }
     let mut home = match begin(rt, options, boxes, are_new, site, this.found) {
         Ok(home) => home,
-        Err(NotBegun::Fault(fault)) => return Err(fault),
-        Err(NotBegun::Cleared(cleared)) => {
+        Err(NotHeld::Fault(fault)) => return Err(fault),
+        Err(NotHeld::Cleared(cleared)) => {
             *attempt = this.cleared(cleared);
             return Ok(None);
         }
@@ -203,10 +219,10 @@ pub fn with_store_in_legs<R: System, L: Legs<R>>(
 /// `Store`: `BadConfig`, where a number of the options is out of its range. `Lease`: more than
 /// 4,096 segments. Files without bytes may have been made then, and no other is written.
 ///
-/// A folder that was open before, and lacks no file, is read once: it takes the time of a recovery,
-/// and memory for its files, for one of them twice for a moment. Any other is looked at before
-/// anything is made in it: that takes memory for all files twice for a moment, and twice the time of
-/// a recovery.
+/// A folder that was open before is read once: it takes the time of a recovery, and memory for its
+/// files, for one of them twice for a moment. Any other is looked at before anything is made in it:
+/// that takes memory for all files twice for a moment, and twice the time of a recovery. So it is
+/// with one that is refused before recovery has taken it.
 pub fn with_store<R: System, C: Course<R>>(
     rt: &R,
     path: &str,

@@ -9,14 +9,13 @@ ghost use Rattle.bw_site.specs.Faults.{IsOfSite};
 ghost use Rattle.bw_home.specs.Renewing.{SharedCleans};
 ghost use Rattle.bw_home.specs.Sharing.{IsShared, IsSharedBeside};
 
-use crate::begun::NotBegun;
-use crate::opened::{Attempt, site_of};
+use crate::opened::{Attempt, segment_of, site_of};
 use crate::options::Options;
-use bw_care::{RecoverCause, Recovered, recover};
+use bw_care::{RecoverCause, Recovered};
 use bw_device::Segment;
 use bw_file::FolderFault;
 use bw_ring::Feed;
-use bw_site::{Found, HomeFault, Made, Site, Stock, System, clear};
+use bw_site::{Found, HomeFault, Made, NotHeld, Site, Stock, System, held_in};
 use bw_store::{Cleaned, Config, Store};
 use std::alloc::{AllocError, Global};
 
@@ -224,25 +223,16 @@ fn begin<R: System>(
     are_new: bool,
     mut site: Site,
     found: Option<Found>,
-) -> Result<SharedHome, NotBegun>
+) -> Result<SharedHome, NotHeld>
     requires { Unit {0} }
     ensures { IfOk result (λ home. IsSharedBeside home holding) }
 {
-    let count = boxes.len();
     if are_new {
-        site.settle(rt, count)?;
+        site.settle(rt)?;
         return Ok(SharedHome::open(rt, options, readers, boxes, site, found)?);
     }
-    match recover(rt.alloc(), boxes) {
-        Ok(found) => {
-            site.settle(rt, count)?;
-            Ok(SharedHome::reopen(rt, options, readers, found, site)?)
-        }
-        Err(fault) => {
-            let cleared = clear(rt, &site, fault, count)?;
-            Err(NotBegun::Cleared(cleared))
-        }
-    }
+    let found = held_in(rt, &mut site, boxes)?;
+    Ok(SharedHome::reopen(rt, options, readers, found, site)?)
 }
 
 /// How a store with readers is opened, and what was found there.
@@ -283,7 +273,7 @@ fn go<R: System, L: SharedLegs<R>>(
     let mut boxes: Vec<Box<dyn Segment>> = Vec::new(rt.alloc());
     let mut are_new = true;
     for _ in 0..count {
-        let Some(made) = site.segment(rt, options.capacity)? else {
+        let Some(made) = segment_of(rt, &mut site, options.capacity, attempt.way)? else {
             opening.attempt = attempt.anew();
             return Ok(None);
         };
@@ -304,8 +294,8 @@ fn go<R: System, L: SharedLegs<R>>(
         attempt.found,
     ) {
         Ok(home) => home,
-        Err(NotBegun::Fault(fault)) => return Err(fault),
-        Err(NotBegun::Cleared(cleared)) => {
+        Err(NotHeld::Fault(fault)) => return Err(fault),
+        Err(NotHeld::Cleared(cleared)) => {
             opening.attempt = attempt.cleared(cleared);
             return Ok(None);
         }

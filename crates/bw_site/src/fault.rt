@@ -1,9 +1,9 @@
 //! Why a store was not opened, or a segment not made.
 
 use bw_care::RecoverCause;
-use bw_core::{StoreFault, TurnFault};
 use bw_device::{NotMade, NotTaken};
 use bw_file::FolderFault;
+use bw_terms::{StoreFault, TurnFault};
 use std::alloc::{AllocError, AllocFailed};
 use std::fmt::{self, Display, Formatter};
 use thiserror::Error;

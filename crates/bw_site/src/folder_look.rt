@@ -9,10 +9,10 @@ use crate::site::{count_over, desk_of, taken};
 use crate::system::System;
 use bw_care::recover;
 use bw_codec::limits::{HEADER_LEN, MAX_FRAME};
-use bw_core::StoreFault;
 use bw_device::{Desk, MemSegment, Segment};
 use bw_file::{FolderFault, FolderReader};
 use bw_log::Log;
+use bw_terms::StoreFault;
 use std::alloc::Global;
 use std::io::ErrorKind;
 

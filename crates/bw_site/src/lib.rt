@@ -15,7 +15,7 @@ mod site;
 mod stock;
 mod system;
 
-pub use beginning::{Beginning, beginning_of, clear};
+pub use beginning::{Beginning, NotHeld, beginning_of, held_in};
 pub use fault::HomeFault;
 pub use folder_look::{Old, copy_of, look, look_for_old};
 pub use found::Found;

@@ -1,6 +1,6 @@
 //! Where the segments of a store stand: in memory, or in the files of a folder.
 
-ghost use Rattle.std.specs.Prelude.{IfErr};
+ghost use Rattle.std.specs.Prelude.{◌≡◌, false, true, IfErr, OnOk, OnErr};
 ghost use Rattle.bw_site.specs.Faults.{IsOfSite};
 
 use crate::fault::HomeFault;
@@ -79,8 +79,8 @@ fn in_file(alloc: Global, opened: Result<FileSegment, NotOpened>) -> Result<Made
 pub struct Site {
     place: Place,
     desk: Desk,
-    /// Whether its files were there, and are still to be settled.
-    is_again: bool,
+    /// Whether what was read of its files is settled.
+    is_settled: bool,
 }
 
 impl Site {
@@ -88,41 +88,39 @@ impl Site {
     /// has a desk of so many leases.
     pub fn open<R: System>(rt: &R, dir: Option<&str>, leases: u32) -> Result<Site, HomeFault> {
         let desk = desk_of(rt.alloc(), leases)?;
-        let place = match dir {
-            Some(path) => Place::Folder(Folder::open(rt, path)?),
-            None => Place::Memory,
-        };
-        Ok(Site {
-            place,
-            desk,
-            is_again: false,
-        })
+        match dir {
+            Some(path) => Ok(Site::over(Folder::open(rt, path)?, desk)),
+            None => Ok(Site::of(desk)),
+        }
     }
 
-    /// The folder of this path, which was open before, over the files that are there: nothing is made
-    /// or written before `settle`.
+    /// The folder of this path, which was open before: nothing is made or written before `settle`.
     pub fn open_again<R: System>(rt: &R, path: &str, leases: u32) -> Result<Site, HomeFault> {
         let desk = desk_of(rt.alloc(), leases)?;
-        let place = Place::Folder(Folder::open_again(rt, path)?);
-        Ok(Site {
-            place,
-            desk,
-            is_again: true,
-        })
+        Ok(Site::over(Folder::open_again(rt, path)?, desk))
     }
 
-    /// How many files of segments the folder has, and how many bytes the longest has, if there is one
-    /// for each of so many leases at least, and none is missing before the last.
-    pub fn present<R: System>(&self, rt: &R, least: u32) -> Result<Option<(u32, u64)>, HomeFault> {
-        let Place::Folder(folder) = &self.place else {
-            return Ok(None);
-        };
-        let leases = folder.leases(rt)?;
-        let count = count_over(&leases, least);
-        if leases.len() as u64 != count as u64 {
-            return Ok(None);
+    // A folder, whose files are still to be settled, with leases of this desk.
+    fn over(folder: Folder, desk: Desk) -> Site
+        ensures { result.is_settled ≡ false }
+    {
+        Site {
+            place: Place::Folder(folder),
+            desk,
+            is_settled: false,
         }
-        Ok(Some((count, folder.longest(rt, &leases)?)))
+    }
+
+    /// How many segments a store begins with, as `count` says, and how many bytes the longest file
+    /// has.
+    pub fn present<R: System>(&self, rt: &R, least: u32) -> Result<(u32, u64), HomeFault> {
+        match &self.place {
+            Place::Memory => Ok((least, 0)),
+            Place::Folder(folder) => {
+                let leases = folder.leases(rt)?;
+                Ok((count_over(&leases, least), folder.longest(rt, &leases)?))
+            }
+        }
     }
 
     /// Memory, with leases of this desk.
@@ -130,7 +128,7 @@ impl Site {
         Site {
             place: Place::Memory,
             desk,
-            is_again: false,
+            is_settled: true,
         }
     }
 
@@ -143,39 +141,39 @@ impl Site {
         }
     }
 
-    /// The segment of the least lease that is free, with what its file has. There is none if the
-    /// folder is open again, and its file cannot be taken as it is.
-    pub fn segment<R: System>(&mut self, rt: &R, capacity: u64) -> Result<Option<Made>, HomeFault> {
+    /// The segment of the least lease that is free, with what its file has. In a folder nothing is
+    /// made or written for it before `settle`.
+    pub fn segment<R: System>(&mut self, rt: &R, capacity: u64) -> Result<Made, HomeFault>
+        ensures refused { IfErr result IsOfSite }
+        ensures unsettled { self.new.is_settled ≡ self.old.is_settled }
+    {
         let lease = taken(&mut self.desk)?;
-        match &self.place {
-            Place::Memory => Ok(Some(in_memory(rt.alloc(), lease, capacity)?)),
-            Place::Folder(folder) if self.is_again => {
-                match folder.segment_again(rt, lease, capacity) {
-                    Some(segment) => Ok(Some(Made::File(Box::new(rt.alloc(), segment)?))),
-                    None => Ok(None),
-                }
-            }
-            Place::Folder(folder) => {
-                let opened = folder.segment(rt, lease, capacity);
-                Ok(Some(in_file(rt.alloc(), opened)?))
-            }
+        match &mut self.place {
+            Place::Memory => in_memory(rt.alloc(), lease, capacity),
+            Place::Folder(folder) => in_file(rt.alloc(), folder.segment(rt, lease, capacity)),
         }
     }
 
-    /// Brings so many files that were there to the disk, if that was not done: what recovery found
-    /// has to stand before anything follows it.
-    pub fn settle<R: System>(&mut self, rt: &R, count: usize) -> Result<(), HomeFault> {
-        if !self.is_again {
-            return Ok(());
+    /// Settles the files of all segments: what recovery found has to stand before anything follows it.
+    pub fn settle<R: System>(&mut self, rt: &R) -> Result<(), HomeFault>
+        ensures refused { IfErr result IsOfSite }
+        ensures settled { OnOk result (self.new.is_settled ≡ true) }
+        ensures unsettled { OnErr result (self.new.is_settled ≡ self.old.is_settled) }
+    {
+        if let Place::Folder(folder) = &mut self.place {
+            folder.settle(rt)?;
         }
-        if let Place::Folder(folder) = &self.place {
-            for lease in 0..u32::try_from(count).unwrap_or(MAX_LEASES) {
-                folder.settle_again(rt, lease)?;
-            }
-            folder.settle_names()?;
-        }
-        self.is_again = false;
+        self.is_settled = true;
         Ok(())
+    }
+
+    /// Lets go of the files of segments that are not settled: nothing is ever appended to them.
+    pub fn forget(&mut self)
+        ensures unsettled { self.new.is_settled ≡ self.old.is_settled }
+    {
+        if let Place::Folder(folder) = &mut self.place {
+            folder.forget();
+        }
     }
 
     /// A new segment of the least lease that is free, once those that came back are, over a file of

@@ -8,8 +8,8 @@ use crate::fault::HomeFault;
 use crate::found::Found;
 use crate::site::{Made, Site};
 use crate::system::System;
-use bw_core::StoreFault;
 use bw_file::FolderFault;
+use bw_terms::StoreFault;
 use std::alloc::{AllocError, Global};
 
 /// A spare that was handed to the store between two legs.

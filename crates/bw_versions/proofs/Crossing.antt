@@ -8,6 +8,7 @@ use Rattle.std.specs.contracts.option.Option as Option
 use Rattle.left_right.specs.contracts.reader.Reader as Inner
 use Rattle.left_right.proofs.reader.Reader.TheSendSync as inner
 use Rattle.bw_record.proofs.leaf.Leaf.TheSendSync.{the_send, the_sync}
+use Rattle.bw_told.proofs.Sent.{told_send, told_sync}
 use Rattle.bw_versions.specs.contracts.board.Marked as Marked
 use Rattle.bw_versions.specs.contracts.board.Posts as Posts
 use Rattle.bw_versions.specs.contracts.book.Front as Front
@@ -19,7 +20,7 @@ use Rattle.bw_versions.proofs.board.Marked.TheSendSync as marked
 use Rattle.bw_versions.proofs.book.Front.TheSendSync as front
 
 -- what shows it of versions and of what reads them
-pub ruleset versions_cross = (inner.the_send, marked.the_send, marked.the_sync, front.the_send, front.the_sync, the_send, the_sync, crosses, sendable)
+pub ruleset versions_cross = (inner.the_send, marked.the_send, marked.the_sync, front.the_send, front.the_sync, the_send, the_sync, told_send, told_sync, crosses, sendable)
 
 -- whoever moves a reader into a thread names this one
 pub reader_crosses : IsSend (ReaderOf.the_row

@@ -9,6 +9,7 @@ mod recovered;
 mod steps;
 mod stored;
 mod summed;
+mod unsettled;
 
 use std::fs;
 use std::test::*;

@@ -1,12 +1,12 @@
-//! The end of a file is written again when it is opened: all of a short one, and of a long one as many
-//! bytes as a header and the longest frame have.
+//! The end of a file is written again when it is settled, if it has no sum: all of a short one, and of a
+//! long one as many bytes as a header and the longest frame have.
 
 use super::Watched;
 use super::steps::lease_of;
 use bw_file::Folder;
 use std::fs;
 
-/// A file's length, and where its last write goes and how many bytes it has.
+/// A file's length, and where the write of its end goes and how many bytes it has.
 const ENDS: [(usize, u64, u64); 4] = [
     (20_000, 0, 20_000),
     (262_168, 0, 262_168),
@@ -24,18 +24,20 @@ fn is_made(watched: &Watched, length: usize) -> bool {
         && fs::write(&rt, "again/segment-0000.bw", bytes.as_slice()).is_ok()
 }
 
-// What is written last when it is opened with the sums that it has since an earlier opening.
+// What is written of it when it is settled: sums are made, the end is written, and the wait for that
+// fails.
 fn written(rt: HostRuntime, length: usize) -> Option<(u64, u64)> {
     let watched = Watched::new(rt, "again")?;
     if !is_made(&watched, length) {
         return None;
     }
-    let folder = Folder::open(&watched, "again").ok()?;
-    let _ = folder.segment(&watched, lease_of(rt.alloc(), 0)?, 600_000);
+    let mut folder = Folder::open(&watched, "again").ok()?;
     let lease = lease_of(rt.alloc(), 0)?;
-    match folder.segment(&watched, lease, 600_000) {
-        Ok(_segment) => Some(watched.watch.wrote()),
-        Err(_not_opened) => None,
+    let _segment = folder.segment(&watched, lease, 600_000).ok()?;
+    watched.watch.fail_after(3, 0);
+    match folder.settle(&watched) {
+        Ok(()) => None,
+        Err(_) => Some(watched.watch.wrote()),
     }
 }
 

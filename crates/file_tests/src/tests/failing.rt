@@ -3,7 +3,8 @@
 
 use super::clear;
 use super::steps::Act::{
-    Append, Copy, Empty, Holds, Leave, Listed, Look, Make, Open, Opens, Segment, Spare, Stop, Write,
+    Append, Copy, Empty, Holds, Leave, Listed, Look, Make, Open, OpenAgain, Opens, Reads, Segment,
+    Settle, Spare, Stop, Write,
 };
 use super::steps::Told::{Done, System};
 use super::steps::{Act, Row, Stand, Told, at, goes, wrong_row};
@@ -31,9 +32,12 @@ const TRIALS: &[Trial] = &[
             Row(Stop(0), Done, ""),
         ],
         Segment(0, 64),
-        13,
+        10,
         &[
-            Row(Segment(0, 64), Done, "nnoloamrmrwaa"),
+            Row(Stop(0), Done, ""),
+            Row(Leave, Done, ""),
+            Row(Open, Done, "dnool"),
+            Row(Segment(0, 64), Done, "nnolomrmra"),
             Row(Holds(0, "abc", 0), Done, ""),
         ],
     ),
@@ -44,12 +48,39 @@ const TRIALS: &[Trial] = &[
             Row(Write("segment-0000.bw", "abc"), Done, ""),
         ],
         Segment(0, 64),
-        14,
+        13,
         &[
+            Row(Stop(0), Done, ""),
+            Row(Leave, Done, ""),
+            Row(Open, Done, "dnool"),
             Row(Opens(0, 64), Done, ""),
             Row(Holds(0, "abc", 0), Done, ""),
             Row(Stop(0), Done, ""),
-            Row(Segment(0, 64), Done, "nnoloamrmrwaa"),
+            Row(Segment(0, 64), Done, "nnolomrmra"),
+        ],
+    ),
+    Trial(
+        "settle",
+        &[
+            Row(Open, Done, "doanool"),
+            Row(Leave, Done, ""),
+            Row(Write("segment-0000.bw", "abc"), Done, ""),
+            Row(OpenAgain, Done, "nool"),
+            Row(Reads(0, 64), Done, "nnolomr"),
+            Row(Reads(1, 64), Done, "nnoo"),
+        ],
+        Settle,
+        11,
+        &[
+            Row(Append(0, "d"), System, ""),
+            Row(Append(1, "d"), System, ""),
+            Row(Stop(0), Done, ""),
+            Row(Stop(1), Done, ""),
+            Row(Leave, Done, ""),
+            Row(Open, Done, "dnool"),
+            Row(Opens(0, 64), Done, ""),
+            Row(Holds(0, "abc", 0), Done, ""),
+            Row(Append(0, "d"), Done, "wsw"),
         ],
     ),
     Trial(
@@ -82,7 +113,7 @@ const TRIALS: &[Trial] = &[
         "append",
         &[
             Row(Open, Done, "doanool"),
-            Row(Segment(0, 64), Done, "nnoloammaa"),
+            Row(Segment(0, 64), Done, "nnoonolnoa"),
             Row(Append(0, "abc"), Done, "wsw"),
         ],
         Append(0, "d"),

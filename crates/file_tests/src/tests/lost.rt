@@ -62,7 +62,7 @@ fn is_opened(rt: HostRuntime, sums: &[u8]) -> bool {
         && goes(&mut stand, Opens(0, 64), "")
         && goes(&mut stand, Holds(0, HELD, 0), "")
         && goes(&mut stand, Stop(0), "")
-        && goes(&mut stand, Segment(0, 64), "nnoloamrmrwaa")
+        && goes(&mut stand, Segment(0, 64), "nnolomrmra")
 }
 
 // The same of so many bytes of what is left.

@@ -143,15 +143,19 @@ pub(super) fn wrong_worked(rt: HostRuntime, all: &[Worked]) -> Option<(&'static 
 }
 
 // One more box, over the file of the next lease.
-fn box_of(rt: &Watched, folder: &Folder<WatchedFile>, desk: &mut Desk) -> Option<Box<dyn Segment>> {
+fn box_of(
+    rt: &Watched,
+    folder: &mut Folder<WatchedFile>,
+    desk: &mut Desk,
+) -> Option<Box<dyn Segment>> {
     let segment = folder.segment(rt, desk.take().ok()?, 65_560).ok()?;
     Some(Box::new(rt.alloc(), segment).ok()?)
 }
 
-/// Boxes over the files of leases 0 to n - 1.
+/// Boxes over the files of leases 0 to n - 1, settled.
 pub(super) fn boxes_of(
     rt: &Watched,
-    folder: &Folder<WatchedFile>,
+    folder: &mut Folder<WatchedFile>,
     n: usize,
 ) -> Option<Vec<Box<dyn Segment>>> {
     let mut desk = Desk::new(rt.alloc(), 8).ok()?;
@@ -159,6 +163,7 @@ pub(super) fn boxes_of(
     for _ in 0..n {
         boxes.push(box_of(rt, folder, &mut desk)?).ok()?;
     }
+    folder.settle(rt).ok()?;
     Some(boxes)
 }
 
@@ -220,10 +225,10 @@ pub(super) fn goes_opened(rt: &Watched, act: &Act) -> bool {
         Tells(n, _) => *n,
         _ => 3,
     };
-    let Ok(folder) = Folder::open(rt, rt.path) else {
+    let Ok(mut folder) = Folder::open(rt, rt.path) else {
         return false;
     };
-    match boxes_of(rt, &folder, n) {
+    match boxes_of(rt, &mut folder, n) {
         Some(boxes) => goes_with(rt, &folder, boxes, act),
         None => false,
     }

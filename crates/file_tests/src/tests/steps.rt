@@ -20,12 +20,20 @@ pub(super) enum Act {
     /// The folder is dropped, and its segments stay.
     Leave,
     LookEvicted,
-    /// A segment of this capacity is opened.
+    /// A segment of this capacity is opened, and settled.
     Segment(u32, u64),
     /// The same. The calls are not told.
     Opens(u32, u64),
     /// A new segment of this capacity.
     Spare(u32, u64),
+    /// The folder is opened again, and then what stood of an earlier opening is dropped.
+    OpenAgain,
+    /// A segment of this capacity is opened.
+    Reads(u32, u64),
+    /// The segments that were opened are settled.
+    Settle,
+    /// They are let go.
+    Forget,
     /// A segment is dropped.
     Stop(u32),
     Append(u32, &'static str),
@@ -189,16 +197,59 @@ fn placed(
     }
 }
 
+// The segment of this place in an open folder, or a new one; none if no folder is open.
+fn segment_in(
+    folder: &mut Option<Folder<WatchedFile>>,
+    rt: &Watched,
+    place: u32,
+    capacity: u64,
+    is_spare: bool,
+) -> Option<Result<FileSegment<WatchedFile>, NotOpened>> {
+    let lease = lease_of(rt.alloc(), place)?;
+    match folder {
+        Some(folder) if is_spare => Some(folder.spare(rt, lease, capacity)),
+        Some(folder) => Some(folder.segment(rt, lease, capacity)),
+        None => None,
+    }
+}
+
 fn segment(stand: &mut Stand, place: u32, capacity: u64, is_spare: bool) -> Told {
-    let (Some(folder), Some(lease)) = (&stand.folder, lease_of(stand.rt.alloc(), place)) else {
+    match segment_in(&mut stand.folder, &stand.rt, place, capacity, is_spare) {
+        Some(opened) => placed(stand, place, opened),
+        None => Told::No,
+    }
+}
+
+fn settle_in(folder: &mut Option<Folder<WatchedFile>>, rt: &Watched) -> Told {
+    let Some(folder) = folder else {
         return Told::No;
     };
-    let opened = if is_spare {
-        folder.spare(&stand.rt, lease, capacity)
-    } else {
-        folder.segment(&stand.rt, lease, capacity)
-    };
-    placed(stand, place, opened)
+    match folder.settle(rt) {
+        Ok(()) => Told::Done,
+        Err(cause) => fault(cause),
+    }
+}
+
+fn settled(stand: &mut Stand, place: u32, capacity: u64) -> Told {
+    match segment(stand, place, capacity, false) {
+        Told::Done => settle_in(&mut stand.folder, &stand.rt),
+        told => told,
+    }
+}
+
+fn open_again(stand: &mut Stand) -> Told {
+    let opened = Folder::open_again(&stand.rt, stand.rt.path);
+    kept(&mut stand.folder, opened)
+}
+
+fn forget_in(folder: &mut Option<Folder<WatchedFile>>) -> Told {
+    match folder {
+        Some(folder) => {
+            folder.forget();
+            Told::Done
+        }
+        None => Told::No,
+    }
 }
 
 fn empty(stand: &Stand, lease: u32) -> Told {
@@ -390,13 +441,17 @@ pub(super) fn goes(stand: &mut Stand, act: &Act) -> Told {
             stand.reader = None;
             Told::Done
         }
-        Act::Segment(place, capacity) => segment(stand, *place, *capacity, false),
+        Act::Segment(place, capacity) => settled(stand, *place, *capacity),
         Act::Opens(place, capacity) => {
-            let went = segment(stand, *place, *capacity, false);
+            let went = settled(stand, *place, *capacity);
             stand.rt.watch.take_letters();
             went
         }
         Act::Spare(place, capacity) => segment(stand, *place, *capacity, true),
+        Act::OpenAgain => open_again(stand),
+        Act::Reads(place, capacity) => segment(stand, *place, *capacity, false),
+        Act::Settle => settle_in(&mut stand.folder, &stand.rt),
+        Act::Forget => forget_in(&mut stand.folder),
         Act::Stop(place) => {
             if *place == 0 {
                 stand.first = None;

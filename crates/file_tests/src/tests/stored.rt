@@ -129,10 +129,10 @@ fn lives_over<R: Wait>(wait: &R, rt: &Watched, boxes: Vec<Box<dyn Segment>>, sto
 
 // A life of a store over two files of the folder.
 fn lives<R: Wait>(wait: &R, rt: &Watched, stop: Stop) -> bool {
-    let Ok(folder) = Folder::open(rt, rt.path) else {
+    let Ok(mut folder) = Folder::open(rt, rt.path) else {
         return false;
     };
-    match boxes_of(rt, &folder, 2) {
+    match boxes_of(rt, &mut folder, 2) {
         Some(boxes) => lives_over(wait, rt, boxes, stop),
         None => false,
     }

@@ -132,10 +132,17 @@ fn held(
     }
 }
 
+/// The segment of this lease, settled.
+fn settled(rt: HostRuntime, folder: &mut Folder, lease: Lease) -> Result<FileSegment, NotOpened> {
+    let segment = folder.segment(&rt, lease, 100)?;
+    let _ = folder.settle(&rt);
+    Ok(segment)
+}
+
 /// One try of a segment, or of one over an emptied file.
 fn makes(
     rt: HostRuntime,
-    folder: &Folder,
+    folder: &mut Folder,
     lease: Lease,
     is_spare: bool,
 ) -> (Option<Try>, Option<Lease>) {
@@ -144,7 +151,7 @@ fn makes(
         let answer = folder.spare(&rt, lease, 100);
         return held(rt, answer, 0);
     }
-    let answer = folder.segment(&rt, lease, 100);
+    let answer = settled(rt, folder, lease);
     held(rt, answer, 10)
 }
 
@@ -172,10 +179,10 @@ fn lease(desk: &mut Desk) -> Option<Lease> {
 }
 
 fn is_made(rt: HostRuntime, lease: Lease, is_spare: bool) -> Option<Try> {
-    let folder: Folder = Folder::open(&rt, PATH).ok()?;
-    match makes(rt, &folder, lease, is_spare) {
+    let mut folder: Folder = Folder::open(&rt, PATH).ok()?;
+    match makes(rt, &mut folder, lease, is_spare) {
         (Some(Try::Refused), Some(lease)) => {
-            then(Try::Refused, makes(rt, &folder, lease, is_spare).0)
+            then(Try::Refused, makes(rt, &mut folder, lease, is_spare).0)
         }
         (first, _) => first,
     }
@@ -191,8 +198,8 @@ fn is_copied(rt: HostRuntime, lease: Lease) -> Option<Try> {
 
 /// The folder, in which lease 2 has a file of ten bytes.
 fn fills(rt: HostRuntime, lease: Lease) -> Option<()> {
-    let folder: Folder = Folder::open(&rt, PATH).ok()?;
-    let mut segment = folder.segment(&rt, lease, 100).ok()?;
+    let mut folder: Folder = Folder::open(&rt, PATH).ok()?;
+    let mut segment = settled(rt, &mut folder, lease).ok()?;
     if appends(rt, &mut segment, 0) {
         Some(())
     } else {
