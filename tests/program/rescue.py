@@ -439,7 +439,7 @@ def copies(room, files):
         ask(status == 0, "compact:", status, out, errors)
         now, counts = scan(to)
         ask(now == held, "a compact copy has", now, "and not", held)
-        ask(len([it for it in counts if it < m]) <= 3 and 0 not in counts, "pages are not full:", counts)
+        ask(len([it for it in counts if it < m]) <= 1 and 0 not in counts, "pages are not full:", counts)
 
 
 def restores(room, files):

@@ -19,6 +19,7 @@ mod measure;
 mod pages;
 mod plan;
 mod records;
+mod shortening;
 mod span;
 mod tables;
 mod task;

@@ -52,6 +52,9 @@ pub struct Load<'a, S, W> {
     has_looked: bool,
     /// Whether there are no more records.
     is_over: bool,
+    /// How many segments are still given up after them, so that the log gets short; none before that
+    /// was asked.
+    left: Option<u32>,
     /// Why there are none.
     fault: Option<KeysFault>,
     /// How many went in.
@@ -81,6 +84,7 @@ impl<'a, S: Records, W: Watch> Load<'a, S, W> {
             waiting: None,
             has_looked: false,
             is_over: false,
+            left: None,
             fault: None,
             count: 0,
             passed: 0,
@@ -211,11 +215,31 @@ impl<'a, S: Records, W: Watch> Load<'a, S, W> {
         ensures { IsReady home.new holding }
     {
         match home.flush() {
-            Ok(_) => Ok(Step::End),
+            Ok(_) => self.shorten(rt, home),
             Err(fault) => {
                 self.tending.room_for(rt, home, HomeFault::from(fault))?;
                 Ok(Step::Room)
             }
+        }
+    }
+
+    /// Gives up the next segment of those that are, once all is durable; the last leg is over if there
+    /// is none, or the records ended early.
+    fn shorten<R: System>(&mut self, rt: &R, home: &mut Home) -> Result<Step, KeysFault>
+        requires { IsReady home.old holding }
+        ensures { IsReady home.new holding }
+    {
+        let left = match self.left {
+            Some(left) => left,
+            None => self.tending.to_shorten(home),
+        };
+        self.left = Some(left.saturating_sub(1));
+        if left == 0 || self.fault.is_some() {
+            return Ok(Step::End);
+        }
+        match self.tending.shorten(rt, home)? {
+            true => Ok(Step::Room),
+            false => Ok(Step::End),
         }
     }
 

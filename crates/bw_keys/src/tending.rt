@@ -217,7 +217,11 @@ impl Tending {
     }
 
     /// Gives up the oldest segment for a spare; `false` if there was too little room for that.
-    fn clean_for_room<R: System>(&mut self, rt: &R, home: &mut Home) -> Result<bool, HomeFault>
+    pub(crate) fn clean_for_room<R: System>(
+        &mut self,
+        rt: &R,
+        home: &mut Home,
+    ) -> Result<bool, HomeFault>
         requires { IsReady home.old holding }
         ensures { IsReady home.new holding }
     {
@@ -270,7 +274,7 @@ impl Tending {
     }
 
     /// Makes a further segment, if there are fewer than may be added; `false` if none was made.
-    fn add_segment_if_allowed<R: System>(
+    pub(crate) fn add_segment_if_allowed<R: System>(
         &mut self,
         rt: &R,
         home: &mut Home,

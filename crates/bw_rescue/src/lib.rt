@@ -3,9 +3,10 @@
 //! Each call but `backup`, which copies an open store, reads a folder that it does not change, and
 //! whose lock it takes beside other readers. `verify` tells the first fault of each of its segments.
 //! `copy` and `compact` write the store of that moment into a new folder, `restore` that of an
-//! earlier frame, and `salvage` all that a damaged one still has (`bw_remains`). A new folder is made
-//! under another name, and gets its own once it was read again and stands on the disk (`Target`): a
-//! part of a copy is never taken for a store.
+//! earlier frame, and `salvage` all that a damaged one still has (`bw_remains`). `compact` and
+//! `salvage` write whole pages (`bw_whole`). A new folder is made under another name, and gets its own
+//! once it was read again and stands on the disk (`Target`): a part of a copy is never taken for a
+//! store.
 #![tactic(auto)]
 
 mod backing;
@@ -14,13 +15,13 @@ mod compared;
 mod copying;
 mod fault;
 mod judged;
-mod load;
 mod locating;
 mod reading;
 mod restoring;
 mod salvaging;
 mod target;
 mod verifying;
+mod whole;
 
 pub use backing::backup;
 pub use bw_remains::Loss;

@@ -3,8 +3,8 @@
 use crate::compared::Wanted;
 use crate::copying::Copied;
 use crate::fault::RescueFault;
-use crate::load::load;
 use crate::target::Target;
+use crate::whole::whole;
 use bw_care::RecoverCause;
 use bw_codec::Leaf;
 use bw_digest::told_end;
@@ -247,15 +247,9 @@ pub fn salvage<R: System, W: Watch>(
         frame_bytes: frame_in_folder(other.capacity),
         ..other
     };
+    let images = whole(rt.alloc(), leases, &options, pairs.as_slice(), watch)?;
     let making = target.begin(rt)?;
-    load(
-        rt,
-        making.partial(),
-        leases,
-        &options,
-        pairs.as_slice(),
-        watch,
-    )?;
+    making.write(rt, images.as_slice(), watch)?;
     let copied = making.end(rt, leases, Wanted::Pairs(pairs.as_slice()), None, watch)?;
     Ok(Salvaged { copied, losses })
 }

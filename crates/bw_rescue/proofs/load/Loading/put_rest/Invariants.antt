@@ -1,5 +1,0 @@
-use Rattle.bw_home.specs.Ready.{IsReady}
-use Rattle.bw_rescue.proofs.load.Loading.put_rest.Given as goal
-
-abbrev pub invariant-pairs : goal.invariant-pairs
-invariant-pairs g l = IsReady l.home (λ z. (goal.Segment-dyn g z).holding z.1)
