@@ -23,11 +23,7 @@ impl Tending {
 
     /// Gives up the oldest segment, or makes a further one if there is too little room for that;
     /// `false` if there is no way, or only one segment is left.
-    pub(crate) fn shorten<R: System>(
-        &mut self,
-        rt: &R,
-        home: &mut Home,
-    ) -> Result<bool, HomeFault>
+    pub(crate) fn shorten<R: System>(&mut self, rt: &R, home: &mut Home) -> Result<bool, HomeFault>
         requires { IsReady home.old holding }
         ensures { IsReady home.new holding }
     {
