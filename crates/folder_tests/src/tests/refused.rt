@@ -57,33 +57,28 @@ fn has<R: System>(rt: &R, path: &str, bytes: &[u8]) -> Result<bool, Fail> {
     Ok(read.as_slice() == bytes)
 }
 
-// Whether the folder is as the row made it: both files, the lock where it was there, and no other.
-fn stays<R: System>(rt: &R, row: &Row, was_open: bool) -> Result<bool, Fail> {
+// Whether the folder is as the row made it: both files, and no lock.
+fn stays<R: System>(rt: &R, row: &Row) -> Result<bool, Fail> {
     let locked = fs::exists(rt, "folder_tests_rows/lock")?;
-    let summed = fs::exists(rt, "folder_tests_rows/segment-0000.sum")?;
     let third = fs::exists(rt, "folder_tests_rows/segment-0002.bw")?;
     Ok(
-        locked == was_open
-            && !summed
+        !locked
             && !third
             && has(rt, "folder_tests_rows/segment-0000.bw", row.0)?
             && has(rt, "folder_tests_rows/segment-0001.bw", row.1)?,
     )
 }
 
-// Whether a call over the row's files goes as told, in a folder that was open before or never was.
-fn goes<R: System>(rt: &R, row: &Row, was_open: bool) -> Result<bool, Fail> {
+// Whether a call over the row's files goes as told.
+fn goes<R: System>(rt: &R, row: &Row) -> Result<bool, Fail> {
     fs::create_dir(rt, "folder_tests_rows")?;
-    if was_open {
-        fs::write(rt, "folder_tests_rows/lock", b"")?;
-    }
     fs::write(rt, "folder_tests_rows/segment-0000.bw", row.0)?;
     fs::write(rt, "folder_tests_rows/segment-0001.bw", row.1)?;
     let went = match with_store(rt, "folder_tests_rows", &Options::default(), PutAndWalk) {
         Ok(pair) => is_first(pair?) && matches!(row.2, Told::Begins),
         Err(HomeFault::Recovery(cause)) => match row.2 {
             Told::Begins => false,
-            Told::Refused(told) => cause == told && stays(rt, row, was_open)?,
+            Told::Refused(told) => cause == told && stays(rt, row)?,
         },
         Err(_) => false,
     };
@@ -94,7 +89,7 @@ fn goes<R: System>(rt: &R, row: &Row, was_open: bool) -> Result<bool, Fail> {
 // The first row that goes otherwise.
 fn wrong_row<R: System>(rt: &R) -> Result<Option<usize>, Fail> {
     for (i, row) in ROWS.iter().enumerate() {
-        if !goes(rt, row, false)? || !goes(rt, row, true)? {
+        if !goes(rt, row)? {
             return Ok(Some(i));
         }
     }
