@@ -9,7 +9,7 @@ use bw_care::Recovered;
 use bw_codec::{Key, Place, Record};
 use bw_device::{
     DeadSegment, Desk, FuseSegment, MemSegment, Segment, append_to, are_spares, capacity_of,
-    failures_of, is_spare, lease_of, len_of, read_from,
+    failures_of, is_spare, lease_of, len_of, lend_of, read_from,
 };
 use bw_drive::{Gate, MeetGate, OpenGate};
 use bw_history::{Entry, PackedEntry};
@@ -106,8 +106,16 @@ fn leases(alloc: Global) -> Option<bool> {
     asked(alloc, is_so && desk.collect() == 1 && !desk.is_out(0))
 }
 
+/// Whether a segment lends these bytes, or lends none if it is one that does not.
+fn lends(one: &dyn Segment, is_lender: bool, bytes: &[u8]) -> bool {
+    match one.lend() {
+        Some(lent) => is_lender && *lent == *bytes,
+        None => !is_lender,
+    }
+}
+
 /// Whether a segment takes three bytes and gives them back, where it has room.
-fn holds(one: &mut dyn Segment, lease: u32) -> bool {
+fn holds(one: &mut dyn Segment, lease: u32, is_lender: bool) -> bool {
     let mut out = [0; 3];
     if one.capacity() != 8 || one.len() != 0 || one.failures() != 0 {
         return false;
@@ -116,19 +124,26 @@ fn holds(one: &mut dyn Segment, lease: u32) -> bool {
     if one.len() < 3 || one.failures() != 0 {
         return false;
     }
-    is_held && one.read(0, &mut out).is_ok() && out == *b"abc" && one.lease() == lease
+    let is_lent = lends(one, is_lender, b"abc");
+    is_held && is_lent && one.read(0, &mut out).is_ok() && out == *b"abc" && one.lease() == lease
 }
 
 /// A segment of each kind in memory.
 fn segments(alloc: Global) -> Option<bool> {
-    let mut desk = Desk::new(alloc, 3).ok()?;
+    let mut desk = Desk::new(alloc, 4).ok()?;
     let mut one = MemSegment::new(alloc, desk.take().ok()?, 8).ok()?;
     let other = MemSegment::new(alloc, desk.take().ok()?, 8).ok()?;
     let third = MemSegment::new(alloc, desk.take().ok()?, 8).ok()?;
+    let lease = desk.take().ok()?;
+    let Ok(bytes) = Vec::with_capacity(alloc, 8) else {
+        return None;
+    };
     begin_without(alloc);
+    let mut fourth = MemSegment::of_vec(lease, 8, bytes);
     let mut fuse = FuseSegment::new(other, 9, 0);
     let mut dead = DeadSegment::new(third, 9, 0, 0);
-    let is_so = holds(&mut one, 0) && holds(&mut fuse, 1) && holds(&mut dead, 2);
+    let are_lenders = holds(&mut one, 0, true) && holds(&mut fourth, 3, true);
+    let is_so = are_lenders && holds(&mut fuse, 1, false) && holds(&mut dead, 2, false);
     asked(alloc, is_so)
 }
 
@@ -149,7 +164,10 @@ fn are_held(boxes: &mut Vec<Box<dyn Segment>>) -> bool {
     if boxes.as_slice().len() != 2 || failures_of(boxes.as_slice(), 0) != 0 {
         return false;
     }
-    went && len_of(boxes.as_slice(), 0) >= 3
+    // Boxes of tests count their reads, and lend nothing.
+    let lends_none = lend_of(boxes.as_slice(), 0).is_none();
+    went && lends_none
+        && len_of(boxes.as_slice(), 0) >= 3
         && read_from(boxes, 0, 0, &mut out).is_ok()
         && out == *b"abc"
 }
