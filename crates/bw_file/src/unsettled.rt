@@ -92,7 +92,7 @@ fn found<R: AllocGlobal + Files<File = F>, F: SegmentFile>(
     }
 }
 
-// The same of a segment's file, under its lock.
+// The segment's file of this name, if it is there, under its lock.
 fn found_alone<R: AllocGlobal + Files<File = F>, F: SegmentFile>(
     rt: &R,
     name: &str,
@@ -115,7 +115,7 @@ fn made<R: AllocGlobal + Files<File = F>, F: SegmentFile>(rt: &R, name: &str) ->
         .open(rt, name)
 }
 
-// The same of a segment's file, under its lock.
+// The segment's file of this name, which is made, under its lock.
 fn made_alone<R: AllocGlobal + Files<File = F>, F: SegmentFile>(
     rt: &R,
     name: &str,
@@ -240,7 +240,7 @@ fn settle<R: AllocGlobal + Files<File = F>, F: SegmentFile>(
     }
 }
 
-// The same of all of these.
+// Settles each of these segments, in this order, up to the first that is refused.
 fn settle_all<R: AllocGlobal + Files<File = F>, F: SegmentFile>(
     rt: &R,
     path: &str,

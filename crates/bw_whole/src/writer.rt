@@ -97,7 +97,7 @@ impl Writer {
         self.pairs.as_slice().len() < usize::from(self.m)
     }
 
-    /// Puts a pair behind all others. `NotAbove` if its key is not above that of the one before it;
+    /// Puts a pair after all others. `NotAbove` if its key is not above that of the one before it;
     /// a refusal gives the pair back, and changes nothing.
     pub fn put(&mut self, pair: Pair) -> Result<(), NotPut>
         ensures ok { OnOk result (self.new ≡ with_pair self.old pair) }
