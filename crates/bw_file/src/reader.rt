@@ -97,7 +97,7 @@ impl<F: SegmentFile> FolderReader<F> {
         self.bytes_with(rt, lease, 0)
     }
 
-    // The bytes of the file of this lease, as `bytes` says, in a list that has room for so many at least.
+    // What `bytes` gives, in a list that has room for so many at least.
     fn bytes_with<R: AllocGlobal + Files<File = F>>(
         &self,
         rt: &R,
