@@ -323,7 +323,8 @@ int hechdoram_scan_over(hechdoram_nearest *nearest, const void *of, const hechdo
                         hechdoram_scan **scan);
 
 /* Reads the store in a folder, whole, and lets go of it: what is written later the reader does not
- * see. It is refused while the folder is open to be written. Nothing in it is changed. */
+ * see. If it is open to be written, the pairs are those of one of its frames, as hechdoram_read.h
+ * says. Nothing in it is changed. */
 static inline int hechdoram_reader_open(const char *folder, hechdoram_reader *reader) {
     return reader ? bw_read_open(folder, &reader->of) : HECHDORAM_MISUSE;
 }

@@ -20,8 +20,11 @@
  *   stands behind its pointer.
  * Time. A folder is read whole when it is opened, and let go of: a reader has the pairs that were
  *   durable then, in memory, and sees nothing of what is written later. While it is read it is
- *   locked beside other readers: a folder that is open to be written is refused, BW_IN_USE. Nothing
- *   in it is changed.
+ *   locked beside other readers. If it is open to be written, it is read without a lock, and no
+ *   writer waits: the pairs are those of one frame, the last one that was durable when the opening
+ *   began, or a later one, which need not be durable yet. If ten readings do not give that, it is
+ *   refused, BW_IN_USE: nothing was ever durable there, it is damaged, or it is written faster than
+ *   it is read. A first segment without a frame has no pairs. Nothing in it is changed.
  * Memory. No pointer is kept that the caller gave, and none goes out but the reader's own: what is
  *   answered is copied into the caller's memory. Memory is taken by malloc, and none after the
  *   opening; a want of it is BW_NO_MEMORY.

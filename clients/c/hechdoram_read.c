@@ -25,14 +25,20 @@
 int32_t bw_pairs_in(const uint8_t *bytes, size_t bytes_len, const uint8_t *sums, size_t sums_len,
                     const uint64_t *parts, size_t parts_len, uint8_t *image, size_t image_len,
                     uint64_t *needed, uint64_t *count);
+/* The number of the segment whose header these bytes begin with; 0 of none. */
+uint64_t bw_number_in(const uint8_t *bytes, size_t bytes_len);
 /* Where each pair of an image begins. */
 void bw_index_of(const uint8_t *image, size_t image_len, uint64_t *starts, size_t starts_len);
 /* How many pairs have a key below this one. */
 size_t bw_first_at(const uint8_t *image, size_t image_len, const uint64_t *starts,
                    size_t starts_len, const uint8_t *key, size_t key_len);
 
-/* No file of a segment is longer, and no lease has a greater number. */
-enum { MAX_FILE = 1 << 30, MAX_LEASES = 4096 };
+/* No file of a segment is longer, and no lease has a greater number. A header has so many bytes. A
+ * folder that somebody writes is read so often at most. */
+enum { MAX_FILE = 1 << 30, MAX_LEASES = 4096, HEADER = 24, TRIES = 10 };
+
+/* Not an answer: what was read of a folder that somebody writes is not of one moment. */
+enum { MOVED = 2 };
 
 /* A run of bytes; what it points to is never null once it was made. */
 typedef struct run { uint8_t *bytes; size_t len; } run;
@@ -150,28 +156,33 @@ static int list(int dir, bool *has_file, int32_t *reason) {
     return answer;
 }
 
-/* Adds the two files of a lease. */
+/* Adds the two files of a lease, the sums first: they follow the bytes, so none of them is ahead of
+ * what is read then, also if somebody writes. */
 static int add_lease(int dir, int lease, files *all, int32_t *reason) {
     char name[32];
     uint64_t *parts = all->parts + 2 * all->count;
-    snprintf(name, sizeof name, "segment-%04d.bw", lease);
-    int answer = add_file(dir, name, false, &all->bytes, &parts[0], reason);
-    if (answer != BW_OK) return answer;
     snprintf(name, sizeof name, "segment-%04d.sum", lease);
-    answer = add_file(dir, name, true, &all->sums, &parts[1], reason);
+    int answer = add_file(dir, name, true, &all->sums, &parts[1], reason);
+    if (answer != BW_OK) return answer;
+    snprintf(name, sizeof name, "segment-%04d.bw", lease);
+    answer = add_file(dir, name, false, &all->bytes, &parts[0], reason);
     all->count++;
     return answer;
 }
 
-/* Reads all files of a folder. */
-static int read_files(int dir, files *all, int32_t *reason) {
-    bool has_file[MAX_LEASES] = {false};
-    int answer = list(dir, has_file, reason);
+/* Files of a folder of which nothing was read yet. */
+static int begin_files(files *all) {
     all->bytes.bytes = (uint8_t *)room_for(1, 1);
     all->sums.bytes = (uint8_t *)room_for(1, 1);
     all->parts = (uint64_t *)room_for(2 * MAX_LEASES, sizeof *all->parts);
-    if (answer == BW_OK && (!all->bytes.bytes || !all->sums.bytes || !all->parts))
-        return BW_NO_MEMORY;
+    return all->bytes.bytes && all->sums.bytes && all->parts ? BW_OK : BW_NO_MEMORY;
+}
+
+/* Reads all files of a folder in which nobody writes. */
+static int read_files(int dir, files *all, int32_t *reason) {
+    bool has_file[MAX_LEASES] = {false};
+    int answer = list(dir, has_file, reason);
+    if (answer == BW_OK) answer = begin_files(all);
     for (int lease = 0; answer == BW_OK && lease < MAX_LEASES; lease++)
         if (has_file[lease]) answer = add_lease(dir, lease, all, reason);
     return answer == BW_OK && all->count == 0 ? BW_NO_STORE : answer;
@@ -183,14 +194,109 @@ static void free_files(files *all) {
     free(all->parts);
 }
 
-/* Reads all files of the folder of this path, under its lock. */
-static int read_folder(const char *path, files *all, int32_t *reason) {
-    int dir = open(path, O_RDONLY | O_CLOEXEC | O_DIRECTORY), locked = -1;
-    if (dir < 0) return refusal(reason);
-    int answer = lock(dir, &locked, reason);
+/* ---- a folder that somebody writes. Why this is enough stands in docs/FORMAT.md, "A folder that
+ * is read while it is written". */
+
+/* The number of the segment in the file of a lease, by its header; 0 if it has none. */
+static int number_in(int dir, int lease, uint64_t *number, int32_t *reason) {
+    char name[32];
+    uint8_t front[HEADER];
+    int fd = -1;
+    snprintf(name, sizeof name, "segment-%04d.bw", lease);
+    int answer = open_plain(dir, name, &fd, reason);
+    *number = 0;
+    if (answer == BW_NOT_FOUND) return BW_OK;
+    if (answer != BW_OK) return answer;
+    ssize_t n = pread(fd, front, sizeof front, 0);
+    if (n < 0) answer = refusal(reason);
+    else *number = bw_number_in(front, (size_t)n);
+    close(fd);
+    return answer;
+}
+
+/* The number of the segment of each lease. No two have the same. */
+static int look(int dir, uint64_t *numbers, int32_t *reason) {
+    bool has_file[MAX_LEASES] = {false};
+    int answer = list(dir, has_file, reason);
+    for (int lease = 0; answer == BW_OK && lease < MAX_LEASES; lease++) {
+        numbers[lease] = 0;
+        if (has_file[lease]) answer = number_in(dir, lease, &numbers[lease], reason);
+    }
+    return answer;
+}
+
+/* The lease of the segment with the least number above this one; -1 if there is none. */
+static int next_of(const uint64_t *numbers, uint64_t number) {
+    int found = -1;
+    for (int lease = 0; lease < MAX_LEASES; lease++)
+        if (numbers[lease] > number && (found < 0 || numbers[lease] < numbers[found]))
+            found = lease;
+    return found;
+}
+
+/* The greatest number of all; 0 if there is no segment. MOVED if two segments have one number. */
+static int newest_of(const uint64_t *numbers, uint64_t *newest) {
+    size_t count = 0, ordered = 0;
+    *newest = 0;
+    for (int lease = 0; lease < MAX_LEASES; lease++) count += numbers[lease] != 0;
+    for (int lease; (lease = next_of(numbers, *newest)) >= 0; ordered++) *newest = numbers[lease];
+    return ordered == count ? BW_OK : MOVED;
+}
+
+/* Adds the files of a lease, if they have the segment that was seen there, or, if none was, one
+ * that is newer than all that were. */
+static int add_seen(int dir, int lease, uint64_t seen, uint64_t newest, files *all,
+                    int32_t *reason) {
+    size_t before = all->bytes.len;
+    int answer = add_lease(dir, lease, all, reason);
+    if (answer != BW_OK) return answer;
+    uint64_t number = bw_number_in(all->bytes.bytes + before, all->bytes.len - before);
+    bool is_allowed = seen ? number == seen : number == 0 || number > newest;
+    return is_allowed ? BW_OK : MOVED;
+}
+
+/* Reads all files: those of the segments that were seen, the oldest first, but for the newest; then
+ * those in which none was seen; then the newest. */
+static int add_in_order(int dir, const uint64_t *numbers, files *all, int32_t *reason) {
+    bool has_file[MAX_LEASES] = {false};
+    uint64_t newest = 0;
+    int answer = newest_of(numbers, &newest);
+    if (answer == BW_OK) answer = newest ? list(dir, has_file, reason) : MOVED;
+    for (int lease = next_of(numbers, 0); answer == BW_OK && numbers[lease] != newest;
+         lease = next_of(numbers, numbers[lease]))
+        answer = add_seen(dir, lease, numbers[lease], newest, all, reason);
+    for (int lease = 0; answer == BW_OK && lease < MAX_LEASES; lease++)
+        if (has_file[lease] && !numbers[lease])
+            answer = add_seen(dir, lease, 0, newest, all, reason);
+    if (answer != BW_OK) return answer;
+    return add_seen(dir, next_of(numbers, newest - 1), newest, newest, all, reason);
+}
+
+/* Reads all files of a folder that somebody writes, as they stand. */
+static int read_standing(int dir, files *all, int32_t *reason) {
+    struct stat about;
+    uint64_t *numbers = (uint64_t *)room_for(2 * MAX_LEASES, sizeof *numbers);
+    if (!numbers) return BW_NO_MEMORY;
+    uint64_t *again = numbers + MAX_LEASES;
+    int answer = begin_files(all);
+    if (answer == BW_OK && fstatat(dir, "unfinished", &about, AT_SYMLINK_NOFOLLOW) == 0)
+        answer = MOVED; /* it is not made whole yet */
+    if (answer == BW_OK) answer = look(dir, numbers, reason);
+    if (answer == BW_OK) answer = look(dir, again, reason);
+    if (answer == BW_OK && memcmp(numbers, again, MAX_LEASES * sizeof *numbers) != 0)
+        answer = MOVED;
+    if (answer == BW_OK) answer = add_in_order(dir, numbers, all, reason);
+    free(numbers);
+    return answer;
+}
+
+/* Reads all files of a folder, under its lock; if somebody writes it, as they stand. */
+static int read_folder(int dir, files *all, bool *is_beside, int32_t *reason) {
+    int locked = -1, answer = lock(dir, &locked, reason);
+    *is_beside = answer == BW_IN_USE;
     if (answer == BW_OK) answer = read_files(dir, all, reason);
+    else if (answer == BW_IN_USE) answer = read_standing(dir, all, reason);
     if (locked >= 0) close(locked);
-    close(dir);
     return answer;
 }
 
@@ -235,13 +341,27 @@ static void free_held(held *found) {
     free(found);
 }
 
-/* What a folder holds. */
-static int hold(const char *path, held *found, int32_t *reason) {
+/* What a folder holds, by one reading; MOVED if somebody writes it, and it is not of one moment. */
+static int hold_once(int dir, held *found, int32_t *reason) {
     files all = {{NULL, 0}, {NULL, 0}, NULL, 0};
-    int answer = read_folder(path, &all, reason);
+    bool is_beside = false;
+    int answer = read_folder(dir, &all, &is_beside, reason);
     if (answer == BW_OK) answer = fill(&all, found);
     free_files(&all);
-    return answer == BW_OK ? finish(found) : answer;
+    if (answer == BW_OK) return finish(found);
+    free(found->image.bytes);
+    found->image.bytes = NULL;
+    return is_beside && answer != BW_NO_MEMORY ? MOVED : answer;
+}
+
+/* What a folder holds. */
+static int hold(const char *path, held *found, int32_t *reason) {
+    int dir = open(path, O_RDONLY | O_CLOEXEC | O_DIRECTORY), answer = MOVED;
+    if (dir < 0) return refusal(reason);
+    for (int tries = 0; answer == MOVED && tries < TRIES; tries++)
+        answer = hold_once(dir, found, reason);
+    close(dir);
+    return answer == MOVED ? BW_IN_USE : answer;
 }
 
 int32_t bw_raw_open(const uint8_t *path, size_t path_len, void **at, int32_t *reason) {

@@ -21,6 +21,7 @@ import struct
 import subprocess
 import sys
 import tempfile
+import threading
 
 HERE = os.path.dirname(os.path.abspath(__file__))
 TOP = os.path.abspath(os.path.join(HERE, "..", ".."))
@@ -328,20 +329,89 @@ def damaged(drawn, programs, folder):
     return count
 
 
-def in_use(programs, folder, pairs):
-    """A writer keeps readers out, and a reader that is open keeps no writer out."""
+def serving(folder, *options):
+    """`serve` over a folder, which is ready."""
+    writer = subprocess.Popen([PROGRAM, "serve", "--dir", folder, *options], stdin=subprocess.PIPE, stdout=subprocess.PIPE)
+    expect(writer.stdout.readline()[:6], b"ready ", "serve over %s" % folder)
+    return writer
+
+
+def asked_of(writer, *requests):
+    """What `serve` answers, of one request after the other."""
+    answers = []
+    for request in requests:
+        writer.stdin.write(request + b"\n")
+        writer.stdin.flush()
+        answers.append(writer.stdout.readline())
+    return answers
+
+
+def never_durable(programs, room):
+    """A folder in which somebody writes, and nothing was ever durable."""
+    folder = os.path.join(room, "begun")
+    with serving(folder) as writer:
+        return refused(programs, folder, IN_USE)
+
+
+def beside(programs, folder, pairs):
+    """A writer keeps no reader out, and a reader keeps no writer out. What is seen is what was durable, and no more of it is than was asked for."""
+    wanted = dict(pairs)
     with hechdoram.read(folder, SHARED) as reader:
-        with subprocess.Popen([PROGRAM, "serve", "--dir", folder], stdin=subprocess.PIPE, stdout=subprocess.PIPE) as writer:
-            expect(writer.stdout.readline()[:6], b"ready ", "serve beside an open reader")
-            count = refused(programs, folder, IN_USE)
-            writer.stdin.write(b"put behind seen\nflush\nquit\n")
-            writer.stdin.close()
-            writer.stdout.read()
-        expect((dict(reader), reader.get(b"behind")), (pairs, None), "a reader that was open before")
-        reader.refresh()
-        expect(reader[b"behind"], b"seen", "a reader that read once more")
-    expect(hechdoram.read(folder, SHARED)[b"behind"], b"seen", "a reader behind the writer")
-    return count
+        with serving(folder) as writer:
+            for number in range(8):
+                key, value = b"beside-%d" % number, b"seen-%d" % number
+                asked_of(writer, b"put " + key + b" " + value, b"flush")
+                wanted[key] = value
+                for name, words in programs.items():
+                    expect(do(*words, folder, given=b"count\n"), b"count %d\n" % len(wanted), "%s beside a writer" % name)
+                expect(dict(hechdoram.read(folder, SHARED)), wanted, "Python beside a writer")
+            expect((dict(reader), reader.get(b"beside-0")), (pairs, None), "a reader that was open before")
+            before = state(folder)
+            reader.refresh()
+            expect(dict(reader), wanted, "a reader that read once more beside a writer")
+            expect(state(folder), before, "what readers left of a folder that is written")
+    expect(dict(hechdoram.read(folder, SHARED)), wanted, "a reader after the writer")
+    return 8 * (len(programs) + 1)
+
+
+def turned(number):
+    """What one more round changes: the last value, and that of one or two more keys."""
+    value = b"%d" % number + b"x" * 180
+    return {b"last": value, b"k%04d" % (number % 300): value, b"k%04d" % (number * 7 % 300): value}
+
+
+def turning(folder, readings=60):
+    """Readings of a folder whose segments are given up and used again meanwhile: each is the whole of one round, and rounds rise."""
+    seen, in_use, is_over = [0], 0, threading.Event()
+    with serving(folder, "--segments", "4", "--capacity", "131100", "--frame", "65536") as writer:
+        def write():
+            number = 0
+            while not is_over.is_set():
+                number += 1
+                asked_of(writer, b"group " + b" ".join(b"put %s %s" % pair for pair in turned(number).items()), b"flush")
+
+        thread = threading.Thread(target=write)
+        thread.start()
+        try:
+            while len(seen) <= readings:
+                try:
+                    pairs = dict(hechdoram.read(folder, SHARED))
+                except hechdoram.InUse:
+                    in_use += 1
+                    expect(in_use < 4 * readings, True, "a folder that is written is in use too often")
+                    continue
+                number = int(pairs[b"last"].rstrip(b"x")) if pairs else 0
+                held = {}
+                for earlier in range(1, number + 1):
+                    held.update(turned(earlier))
+                expect(pairs, held, "the pairs of round %d" % number)
+                expect(seen[-1] <= number, True, "rounds rise: %d, and then %d" % (seen[-1], number))
+                seen.append(number)
+        finally:
+            is_over.set()
+            thread.join()
+    expect(len(set(seen)) > 10, True, "rounds that were seen")
+    return readings
 
 
 def ways_in(programs, folder, pairs):
@@ -428,7 +498,8 @@ def main():
             programs, left = built(room)
             made = folders(drawn, room)
             asked = read_all(drawn, programs, made)
-            kept_out = no_stores(programs, room) + damaged(drawn, programs, made[0][0]) + in_use(programs, *made[2])
+            kept_out = no_stores(programs, room) + damaged(drawn, programs, made[0][0]) + never_durable(programs, room)
+            alongside = beside(programs, *made[2]) + turning(os.path.join(room, "turning"))
             ways_in(programs, *made[3])
             together(programs, *made[1])
             kept_out += refused_memory(programs["C"], room, *made[3])
@@ -436,8 +507,8 @@ def main():
         except Wrong as wrong:
             print("seed %d: %s" % (SEED, wrong))
             return 1
-    print("%d folders, %d questions answered by %s and Python as by a map; %d openings refused; %d examples%s"
-          % (len(made), asked, ", ".join(programs), kept_out, ran, "; left out: " + ", ".join(left) if left else ""))
+    print("%d folders, %d questions answered by %s and Python as by a map; %d openings refused, %d beside a writer; %d examples%s"
+          % (len(made), asked, ", ".join(programs), kept_out, alongside, ran, "; left out: " + ", ".join(left) if left else ""))
     return 0
 
 

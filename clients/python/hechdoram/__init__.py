@@ -132,6 +132,7 @@ def read(path: PathLike, library: PathLike | None = None) -> Reader:
     `make lib` makes; without it, it is looked for at the place that HECHDORAM_READ names, beside
     this package, in the repository, and where the system has its libraries.
 
-    It raises NoStore if there is nothing to read, InUse while the folder is open to be written,
-    Damaged if its bytes are no whole store, and OSError if the system refused a call."""
+    It raises NoStore if there is nothing to read, InUse if the folder is written and ten readings
+    gave no moment of it, Damaged if its bytes are no whole store, and OSError if the system
+    refused a call."""
     return Reader(path, library)

@@ -153,8 +153,10 @@ class Reader(Pairs):
             print(reader[b"key"], len(reader))
 
     The folder is read whole when it is opened, beside other readers and under their lock, and let
-    go of. Nothing in it is changed. What is written later is seen once `refresh` was called; a
-    scan that was begun goes on over what was read before. Threads may share a reader.
+    go of. If another process writes it, it is read without a lock, as it stood at one of its
+    frames, and no writer waits. Nothing in it is changed. What is written later is seen once
+    `refresh` was called; a scan that was begun goes on over what was read before. Threads may
+    share a reader.
     """
 
     def __init__(self, folder: PathLike, library_path: PathLike | None = None) -> None:

@@ -90,7 +90,10 @@ unsafe impl Send for Reader {}
 unsafe impl Sync for Reader {}
 
 impl Reader {
-    /// Reads the store in a folder.
+    /// Reads the store in a folder; if another process writes it, as it stood at one of its
+    /// frames: the last one that was durable when this began, or a later one. No writer waits.
+    ///
+    /// `InUse` if ten readings of a folder that is written gave no such frame.
     pub fn open(folder: impl AsRef<Path>) -> Result<Reader> {
         let folder = folder.as_ref().to_path_buf();
         let path = folder.as_os_str().as_bytes();

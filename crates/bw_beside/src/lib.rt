@@ -6,10 +6,14 @@
 //! one meanwhile, they are read once more. Why that is enough stands in `docs/FORMAT.md`, "A folder
 //! that is read while it is written". Nothing in the folder is made or written.
 //!
+//! What recovery says of segments that were read is asked by `ask_images` and `ask_owned`; `ask` asks a
+//! folder that somebody writes, as `open` reads it.
+//!
 //! Who goes on reading what is added (`bw_follow`) looks at the live segments by a `Row` too, and reads
 //! single files.
 #![tactic(auto)]
 
+mod asking;
 mod files;
 mod found;
 mod host;
@@ -18,9 +22,11 @@ mod opened;
 mod row;
 mod standing;
 
+pub use asking::{Ask, ask_images, ask_owned};
 pub use files::{bytes_in, header_in, stretch_in, sums_from, sums_in, sums_length};
+pub use found::{Found, found_in};
 pub use host::Host;
 pub use miss::Miss;
-pub use opened::{Opened, TRIES, open};
+pub use opened::{Asked, Opened, TRIES, ask, open};
 pub use row::{Live, Row};
 pub use standing::{Stood, is_unfinished};

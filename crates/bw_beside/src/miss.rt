@@ -1,7 +1,6 @@
 //! Why files were not read as of one moment.
 
 use bw_care::RecoverCause;
-use bw_device::{NotMade, NotTaken};
 use std::alloc::{AllocError, AllocFailed};
 use std::io::{self, ErrorKind};
 
@@ -41,24 +40,6 @@ impl From<RecoverCause> for Miss {
         match cause {
             RecoverCause::NoMemory => Miss::NoMemory,
             _ => Miss::Moved,
-        }
-    }
-}
-
-impl From<NotTaken> for Miss {
-    fn from(fault: NotTaken) -> Miss {
-        match fault {
-            NotTaken::NoMemory => Miss::NoMemory,
-            NotTaken::NoLease => Miss::Moved,
-        }
-    }
-}
-
-impl From<NotMade> for Miss {
-    fn from(fault: NotMade) -> Miss {
-        match fault {
-            NotMade::NoMemory => Miss::NoMemory,
-            NotMade::BadConfig => Miss::Moved,
         }
     }
 }

@@ -1,5 +1,6 @@
 //! The segments of a folder that somebody writes, as they stood at one of its frames.
 
+use crate::asking::{Ask, ask_owned};
 use crate::files::{bytes_in, is_there, leases_in, number_of, sums_in};
 use crate::found::{Found, found_in};
 use crate::host::Host;
@@ -8,7 +9,6 @@ use crate::row::Row;
 use bw_device::MAX_LEASES;
 use bw_digest::check;
 use bw_look::Image;
-use bw_page::Leaves;
 use bw_watch::{Watch, Work, folder_bytes};
 use std::alloc::Global;
 use std::collections::BTreeMap;
@@ -27,8 +27,6 @@ pub struct Stood {
     /// The numbers of the first and the last frame that is there.
     pub first: u64,
     pub last: u64,
-    /// The pages as of the last one.
-    pub leaves: Leaves,
 }
 
 /// A file that was read, and the sums beside it.
@@ -96,13 +94,9 @@ pub fn is_unfinished<R: Host>(rt: &R, folder: &str) -> Result<bool, Miss> {
     is_there(rt, folder, MARK)
 }
 
-/// The segments of a folder as they stood at one of its frames, if that is what a reading comes to.
-/// A folder that is not made whole yet has none.
-pub(crate) fn standing<R: Host, W: Watch>(
-    rt: &R,
-    folder: &str,
-    watch: &mut W,
-) -> Result<Stood, Miss> {
+/// The segments of a folder, by their leases, and how many of their bytes have no digest. They are those
+/// of one frame if recovery accepts them. A folder that is not made whole yet has none.
+fn read<R: Host, W: Watch>(rt: &R, folder: &str, watch: &mut W) -> Result<(Vec<Image>, u64), Miss> {
     if is_unfinished(rt, folder)? {
         return Err(Miss::Moved);
     }
@@ -111,17 +105,32 @@ pub(crate) fn standing<R: Host, W: Watch>(
     let leases = leases_in(rt, folder)?;
     let order = row.order(rt.alloc(), leases.as_slice())?;
     let taken = take_all(rt, folder, &row, order.as_slice(), watch)?;
-    let (images, unsummed) = images_of(rt.alloc(), taken)?;
-    let Found {
-        first,
-        last,
-        leaves,
-    } = found_in(rt.alloc(), images.as_slice())?;
+    images_of(rt.alloc(), taken)
+}
+
+/// The segments of a folder as they stood at one of its frames, if that is what a reading comes to.
+pub(crate) fn standing<R: Host, W: Watch>(
+    rt: &R,
+    folder: &str,
+    watch: &mut W,
+) -> Result<Stood, Miss> {
+    let (images, unsummed) = read(rt, folder, watch)?;
+    let Found { first, last } = found_in(rt.alloc(), images.as_slice())?;
     Ok(Stood {
         images,
         unsummed,
         first,
         last,
-        leaves,
     })
+}
+
+/// Asks the pages of a folder as they stood at one of its frames, if that is what a reading comes to.
+pub(crate) fn ask_standing<R: Host, W: Watch, A: Ask<W>>(
+    rt: &R,
+    folder: &str,
+    ask: &mut A,
+    watch: &mut W,
+) -> Result<A::Answer, Miss> {
+    let (images, _) = read(rt, folder, watch)?;
+    Ok(ask_owned(rt.alloc(), images, ask, watch)?)
 }

@@ -8,6 +8,7 @@ use Rattle.bw_record.specs.declared.leaf.Leaf.{Leaf}
 use Rattle.bw_record.specs.declared.block.Frame.{Frame}
 use Rattle.bw_device.specs.Holding.{Holding}
 use Rattle.bw_leaf.specs.Forwards.{blocks_of}
+use Rattle.bw_page.specs.Seats.{numbers_from}
 use Rattle.bw_page.specs.Standing.{Stand}
 use Rattle.bw_log.specs.PageTable.{top_page}
 use Rattle.bw_log.specs.Places.{bad_link, first_number, all_placed}
@@ -164,6 +165,7 @@ findings_made s r first last = record {
   kinds = s.kinds;
   tables = tables_of s r;
   leaves = r.leaves;
+  pairs = r.pairs;
   first = first;
   last = last;
   tail = s.order.tail;
@@ -171,9 +173,9 @@ findings_made s r first last = record {
 }
 
 pub planned_all : (hs : List Holding) (s : Survey) (x : IsSurvey hs s) (r : Pages) (first last : ℕ) → first ≡ first_number (frames_in hs)
-    → last ≡ last_number (frames_in hs) → bad_link first [] (all_placed (frames_in hs)) ≡ None → IsRight s.order.m (frames_in hs) r → r.leaves.evicted ≡ []
+    → last ≡ last_number (frames_in hs) → bad_link first [] (all_placed (frames_in hs)) ≡ None → IsRight s.order.m (frames_in hs) r → r.leaves.evicted ≡ numbers_from 1 (length r.leaves.leaves)
     → AreFindings hs (findings_made s r first last)
-planned_all hs s x r first last begins ends linked right here =
+planned_all hs s x r first last begins ends linked right away =
     let y = facts hs s x in
     let o = x.order in
     let scan = scanned hs s x r first begins linked right in
@@ -199,6 +201,7 @@ planned_all hs s x r first last begins ends linked right here =
       limit = right.limit;
       frame_limit = sym y.f;
       page_limit = sym y.m;
-      here = here;
+      away = away;
       pages = sym right.count;
+      counts = right.pairs;
     }

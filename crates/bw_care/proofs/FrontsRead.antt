@@ -1,13 +1,13 @@
 -- Frames read one after the other behind a header.
 
-use Rattle.std.proofs.Common.{◌≡◌, ℕ, zero, suc, ◌+◌, ◌-◌, ◌^◌, ◌<◌, ◌≤◌, Option, Some, None, Result, Ok, Err, IfOk, IfErr, List, [], ◌∷◌, ◌++◌, length}
+use Rattle.std.proofs.Common.{◌≡◌, ◌≢◌, ℕ, zero, suc, ◌+◌, ◌-◌, ◌^◌, ◌<◌, ◌≤◌, Option, Some, None, Result, Ok, Err, IfOk, IfErr, List, [], ◌∷◌, ◌++◌, length}
 use Rattle.std.proofs.Common.{take, drop, map, refl, sym, ap, subst, ◌∙◌, append_assoc, append-nil, arith, length-append, length-drop}
 use Rattle.std.proofs.lemmas.List.{drop_at, take_at, drop-drop, map-append, take_all}
 use Rattle.std.specs.List.{flat_map, AllByRecursion}
 use Rattle.std.proofs.lemmas.Grind.{flat_map-append}
 use Rattle.bw_log.proofs.Reread.{all-push}
 use Rattle.bw_record.specs.Keys.{IsBytes}
-use Rattle.bw_codec.specs.Grammar.{frame_bytes_in, IsFrameIn, IsTailIn, IsFront}
+use Rattle.bw_codec.specs.Grammar.{body_bytes_in, frame_bytes_in, head_bytes_in, IsFrameIn, IsTailIn, IsFront}
 use Rattle.bw_codec.specs.Reading.{Says, Gives, front_at}
 use Rattle.bw_codec.specs.Checking.{seen_of, IsSeen}
 use Rattle.bw_codec.specs.declared.check.FrameSeen.{FrameSeen}
@@ -18,7 +18,8 @@ use Rattle.bw_codec.specs.declared.head.Header.{Header}
 use Rattle.bw_codec.specs.declared.head.FrameRead.TheVariants.{Whole, Tail}
 use Rattle.bw_codec.specs.declared.fault.CodecFault.{CodecFault}
 use Rattle.bw_codec.specs.declared.fault.CodecFault.TheVariants.{NoMemory, BadBytes}
-use Rattle.bw_codec.proofs.FrontFormat.{is_front, front_is}
+use Rattle.bw_codec.proofs.FrontFormat.{is_front, front_is, length-head}
+use Rattle.bw_found.specs.Lent.{IsBody}
 use Rattle.bw_log.specs.Starts.{starts_of}
 use Rattle.bw_log.specs.Segments.{frames_at, entry_of, entries_from}
 use Rattle.bw_log.specs.declared.places.FrameAt.{FrameAt}
@@ -59,6 +60,16 @@ pub unseen : (v m f : ℕ) (bytes : List ℕ) (result : Result FrameSeen CodecFa
     → OnlySeen v m f bytes result → IfErr result (λ fault. front_at v m f bytes ≡ None)
 unseen v m f bytes (Ok told) small fits only = tt
 unseen v m f bytes (Err fault) small fits only = unseen_by v m f bytes fault (front_at v m f bytes) refl small fits only
+
+-- what is told of bytes that are known to be a frame or a tail
+pub known_front : (v m f : ℕ) (bytes : List ℕ) (told : FrameSeen) → m < 2 ^ 16 → IsBytes bytes → front_at v m f bytes ≢ None
+    → ((read : FrameRead) → IsFront v m f bytes read → told ≡ seen_of read) → IsSeen v m f bytes told
+known_front v m f bytes told small fits some only = known_as (front_at v m f bytes) refl where
+  known_as : (o : Option FrameRead) → front_at v m f bytes ≡ o → IsSeen v m f bytes told
+  known_as None is = absurd (some is)
+  known_as (Some read) is =
+      let there = front_is v m f bytes read small fits is in
+      record { read = read; there = there; is = only read there }
 
 abbrev number_in : FrameSeen → ℕ
 number_in (seen.Whole number used) = number
@@ -293,6 +304,25 @@ pub len_from : (k : Header) (bytes : List ℕ) (at number used : ℕ) (w : IsWho
     → length (take (at + used - at) (drop at bytes)) ≡ used
 len_from k bytes at number used w small =
     ap (λ (b : List ℕ). length b) (spelled_from k bytes at number used w small).parts ∙ sym w.there.3
+
+-- the body of that frame
+pub body_there : (k : Header) (bytes : List ℕ) (at number used : ℕ) (w : IsWhole k.version k.m k.f (drop at bytes) number used) → k.m < 2 ^ 16
+    → IsBody k.version k.m w.frame.blocks (take (at + used - (at + 20)) (drop (at + 20) bytes))
+body_there k bytes at number used w small =
+    let v = k.version in
+    let f = w.frame in
+    let body = body_bytes_in v f.blocks in
+    let head = head_bytes_in v f.number (length body) (length f.blocks) in
+    let rest = w.there.1 in
+    let len : length head ≡ 20 = length-head v f.number (length body) (length f.blocks) in
+    let behind : drop (at + 20) bytes ≡ body ++ rest =
+    sym (drop-drop 20 at bytes) ∙ ap (λ (b : List ℕ). drop 20 b) (w.there.2 ∙ append_assoc head body rest) ∙ drop_at head (body ++ rest) 20 len in
+    let size : at + used - (at + 20) ≡ length body = omega (arith, w.there.3, length-frame_in v f) in
+    record {
+      small = small;
+      lawful = w.there.0.blocks;
+      there = ap (λ (b : List ℕ). take (at + used - (at + 20)) b) behind ∙ take_at body rest (at + used - (at + 20)) (sym size);
+    }
 
 -- it is the one that these bytes begin with
 first_there : (k : Header) (bytes : List ℕ) (at number used : ℕ) (w : IsWhole k.version k.m k.f (drop at bytes) number used) → k.m < 2 ^ 16 → k.f < 2 ^ 32

@@ -1,7 +1,8 @@
 -- The second pass, as far as it went.
 
-use Rattle.std.proofs.Common.{◌≡◌, ℕ, zero, suc, ◌+◌, ◌-◌, ◌<◌, Option, Some, None, List, [], ◌∷◌, ◌++◌, length, drop, map}
+use Rattle.std.proofs.Common.{◌≡◌, ℕ, zero, suc, ◌+◌, ◌-◌, ◌<◌, Option, Some, None, Result, Err, IfErr, List, [], ◌∷◌, ◌++◌, length, drop, map}
 use Rattle.std.proofs.Common.{slice_get, get_or, IfSome, refl, sym, ap, subst, ◌∙◌, append_assoc, append-nil, arith}
+use Rattle.std.specs.BTreeMap as tree
 use Rattle.std.proofs.lemmas.List.{length-map}
 use Rattle.bw_codec.specs.Reading.{front_at, heading_of}
 use Rattle.bw_record.specs.declared.block.Place.{Place}
@@ -14,13 +15,15 @@ use Rattle.bw_log.specs.Places.{all_placed, bad_link}
 use Rattle.bw_log.specs.Segments.{frames_at, segment_frames, frames_of}
 use Rattle.bw_log.specs.declared.places.FrameAt.{FrameAt}
 use Rattle.bw_care.specs.Behind.{frames_behind, EndsInTail}
-use Rattle.bw_care.specs.Forward.{IsFramed, AreReady, ForwardStops}
+use Rattle.bw_care.specs.Forward.{IsFramed, AreReady, ForwardStops, IsForward}
 use Rattle.bw_care.specs.Planned.{as_cause}
-use Rattle.bw_lines.specs.Reading.{LinkFaultIs}
+use Rattle.bw_lines.specs.Reading.{IsRead, LinkFaultIs}
+use Rattle.bw_lines.specs.declared.links.Line.{Line}
 use Rattle.bw_lines.specs.declared.links.ReadFault.{ReadFault}
 use Rattle.bw_lines.specs.declared.links.ReadFault.TheVariants as read
 use Rattle.bw_lines.specs.declared.cause.RecoverCause.{RecoverCause}
 use Rattle.bw_care.proofs.FrontsRead.{IsReadTo, ends_bad, bad_there}
+use Rattle.bw_care.proofs.PassSoFar.{there_is}
 use Rattle.bw_lines.proofs.FramesJoined.{placed_join}
 
 -- ---- one segment
@@ -59,17 +62,45 @@ some_told : (P : Holding → Type 0) (o : Option Holding) (h : Holding) → o �
 some_told P (Some k) h is told = (let same : k ≡ h = cc in subst P same told)
 some_told P None h is told = absurd cc
 
--- the blocks behind the bytes that were read are those of the box
-pub box_frames : (items bytes : List ℕ) (o : Option Holding) (h : Holding) → o ≡ Some h → IfSome o (λ k. items ≡ k.bytes) → bytes ≡ items
-    → segment_frames bytes ≡ segment_frames h.bytes
-box_frames items bytes o h there told same = ap segment_frames (same ∙ some_told (λ k. items ≡ k.bytes) o h there told)
+-- the bytes that a box lends are its own
+pub lent_is : {R : Type 0} (now : R → List ℕ) (old hs : List Holding) (i : ℕ) (lent : Option R) (bytes : R) → hs ≡ old → i < length old
+    → IfSome lent (λ b. IfSome (slice_get hs i) (λ h. now b ≡ h.bytes)) → lent ≡ Some bytes
+    → (h : Holding) × (slice_get old i ≡ Some h) × (now bytes ≡ h.bytes)
+lent_is now old hs i lent bytes same inside told is =
+    let there = there_is old i inside in
+    let of_bytes = subst (λ o. IfSome o (λ b. IfSome (slice_get hs i) (λ h. now b ≡ h.bytes))) is told in (
+      there.0,
+      there.1,
+      some_told (λ h. now bytes ≡ h.bytes) (slice_get old i) there.0 there.1
+          (subst (λ l. IfSome (slice_get l i) (λ h. now bytes ≡ h.bytes)) same of_bytes),
+    )
 
-pub box_wrong : (first : ℕ) (done rest : List (Place × Block)) (fs gs : List Frame) (old new : List Holding) (fault : ReadFault) (cause : RecoverCause)
-    → fs ≡ gs → new ≡ old → LinkFaultIs (bad_link first [] (done ++ (all_placed fs ++ rest))) fault → cause ≡ as_cause fault
-    → ForwardStops first (done ++ (all_placed gs ++ rest)) old cause new
-box_wrong first done rest fs gs old new fault cause frames same wrong is =
-    link_stops_here first (done ++ (all_placed gs ++ rest)) old new fault cause same
-    (subst (λ (l : List Frame). LinkFaultIs (bad_link first [] (done ++ (all_placed l ++ rest))) fault) frames wrong) is
+-- what is known of the box is known of them
+pub framed_lent : {R : Type 0} (now : R → List ℕ) (old hs : List Holding) (i : ℕ) (lent : Option R) (bytes : R) → hs ≡ old → i < length old
+    → IfSome lent (λ b. IfSome (slice_get hs i) (λ h. now b ≡ h.bytes)) → lent ≡ Some bytes
+    → IfSome (slice_get old i) (λ h. IsFramed h.bytes) → IsFramed (now bytes)
+framed_lent now old hs i lent bytes same inside told is framed =
+    let b = lent_is now old hs i lent bytes same inside told is in
+    subst IsFramed (sym b.2) (some_told (λ h. IsFramed h.bytes) (slice_get old i) b.0 b.1 framed)
+
+-- and what they were found to say it says
+pub found_lent : {R : Type 0} (now : R → List ℕ) (P : List ℕ → Type 0) (old hs : List Holding) (i : ℕ) (lent : Option R) (bytes : R) → hs ≡ old
+    → i < length old → IfSome lent (λ b. IfSome (slice_get hs i) (λ h. now b ≡ h.bytes)) → lent ≡ Some bytes → P (now bytes)
+    → IfSome (slice_get old i) (λ h. P h.bytes)
+found_lent now P old hs i lent bytes same inside told is one =
+    let b = lent_is now old hs i lent bytes same inside told is in
+    subst (λ o. IfSome o (λ h. P h.bytes)) (sym b.1) (subst P b.2 one)
+
+-- what was found in the box stops it
+pub box_stops : (first : ℕ) (done rest : List (Place × Block)) (old new : List Holding) (was is : tree.BTreeMap ℕ Line) (o : Option Holding) (h : Holding)
+    (found : Result (Unit {0}) ReadFault) (fault : ReadFault) (cause : RecoverCause) → o ≡ Some h
+    → IfSome o (λ k. IsForward first k.bytes was found is) → found ≡ Err fault → new ≡ old → IsRead first done was → cause ≡ as_cause fault
+    → ForwardStops first (done ++ (all_placed (segment_frames h.bytes) ++ rest)) old cause new
+box_stops first done rest old new was is o h found fault cause there told err same read cause_is =
+    let f = some_told (λ k. IsForward first k.bytes was found is) o h there told in
+    link_stops_here first (done ++ (all_placed (segment_frames h.bytes) ++ rest)) old new fault cause same
+    (subst (λ (r : Result (Unit {0}) ReadFault). IfErr r (LinkFaultIs (bad_link first [] (done ++ (all_placed (segment_frames h.bytes) ++ rest))))) err
+    (f.fault done rest read)) cause_is
 
 pub stops_there : (first : ℕ) (blocks all : List (Place × Block)) (old now new : List Holding) (cause : RecoverCause) → blocks ≡ all → now ≡ old
     → ForwardStops first blocks now cause new → ForwardStops first all old cause new

@@ -1,16 +1,20 @@
 -- The forward reading of all segments: a second pass over their boxes.
 
-use Rattle.std.specs.Prelude.{ℕ, ◌≤◌, ◌≡◌, Some, List, [], ◌∷◌, length, slice_get}
+use Rattle.std.specs.Prelude.{ℕ, ◌≤◌, ◌≡◌, Some, List, [], ◌∷◌, ◌++◌, length, slice_get, Result, OnOk, IfErr}
+use Rattle.std.specs.BTreeMap as tree
 use Rattle.bw_record.specs.declared.block.Place.{Place}
 use Rattle.bw_codec.specs.Reading.{heading_of}
 use Rattle.bw_record.specs.declared.block.Block.{Block}
 use Rattle.bw_codec.specs.declared.head.Header.{Header}
 use Rattle.bw_codec.specs.declared.head.HeaderRead.TheVariants as heading
 use Rattle.bw_device.specs.Holding.{Holding}
-use Rattle.bw_log.specs.Places.{bad_link}
+use Rattle.bw_log.specs.Places.{all_placed, bad_link}
 use Rattle.bw_log.specs.Segments.{segment_frames}
 use Rattle.bw_care.specs.Behind.{frames_behind, EndsInTail}
 use Rattle.bw_care.specs.Passing.{Fails, IsWorn}
+use Rattle.bw_lines.specs.Reading.{IsRead, LinkFaultIs}
+use Rattle.bw_lines.specs.declared.links.Line.{Line}
+use Rattle.bw_lines.specs.declared.links.ReadFault.{ReadFault}
 use Rattle.bw_lines.specs.declared.cause.RecoverCause.{RecoverCause}
 use Rattle.bw_lines.specs.declared.cause.RecoverCause.TheVariants.{NoMemory, BadConfig, Device, Spent, Empty, BadBytes, Gap, Mixed, BadLink, Unlawful}
 
@@ -41,3 +45,9 @@ ForwardStops first blocks old (BadBytes segment at) new = ⊥
 ForwardStops first blocks old Gap new = ⊥
 ForwardStops first blocks old Mixed new = ⊥
 ForwardStops first blocks old (Unlawful page) new = ⊥
+
+-- what the bytes of one segment make of lines, or the page of the first wrong link
+pub record IsForward (first : ℕ) (bytes : List ℕ) (old : tree.BTreeMap ℕ Line) (found : Result (Unit {0}) ReadFault) (new : tree.BTreeMap ℕ Line) : Type 0 where
+  pub ok : (done : List (Place × Block)) → IsRead first done old → OnOk found (IsRead first (done ++ all_placed (segment_frames bytes)) new)
+  pub fault : (done rest : List (Place × Block)) → IsRead first done old
+      → IfErr found (LinkFaultIs (bad_link first [] (done ++ (all_placed (segment_frames bytes) ++ rest))))

@@ -1,7 +1,10 @@
 -- What is ready before boxes are moved.
 
 use Rattle.std.specs.Prelude.{ℕ, ◌≡◌, ◌≤◌, nat_lt, true, false, Ok, List, [], ◌∷◌, length, map}
+use Rattle.std.specs.FinMap as finite
 use Rattle.bw_device.specs.Holding.{Holding}
+use Rattle.bw_page.specs.Leaves.{union}
+use Rattle.bw_page.specs.Seats.{numbers_from}
 use Rattle.bw_page.specs.Standing.{Stand}
 use Rattle.bw_log.specs.Segments.{following}
 use Rattle.bw_log.specs.Places.{first_number}
@@ -88,8 +91,9 @@ pub record AreFindings (boxes : List Holding) (p : Findings) : Type 0 where
   pub limit : p.leaves.m ≡ p.tables.m
   pub frame_limit : p.tables.f ≡ limit_in boxes
   pub page_limit : p.tables.m ≡ pairs_in boxes
-  pub here : p.leaves.evicted ≡ []
+  pub away : p.leaves.evicted ≡ numbers_from 1 (length p.leaves.leaves)
   pub pages : length p.leaves.leaves ≡ length p.tables.pages.items
+  pub counts : p.pairs ≡ finite.len (union p.leaves.leaves)
 
 abbrev pub as_cause : ReadFault → RecoverCause
 as_cause read.NoMemory = NoMemory

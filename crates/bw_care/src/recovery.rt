@@ -5,10 +5,11 @@
 //! begins, and the first fault in that order is the answer. No box is moved before the last step
 //! that may be refused: all come back on a refusal, and whoever was refused memory may try again.
 
-ghost use Rattle.std.specs.Prelude.{◌≡◌, Ok, IfOk, IfErr, map};
+ghost use Rattle.std.specs.Prelude.{◌≡◌, Ok, IfOk, IfErr, length, map};
 ghost use Rattle.bw_care.specs.Recovery.{recovery, limit_in, live_in, pairs_in, spares_in, ends_whole};
 ghost use Rattle.bw_care.specs.Found.{finding_of, IsRecovered, Refuses};
 ghost use Rattle.bw_log.specs.Views.{seen_by};
+ghost use Rattle.bw_page.specs.Seats.{numbers_from};
 
 use crate::boxes::{Parts, part};
 use crate::recovered::Recovered;
@@ -36,8 +37,8 @@ impl Debug for RecoverFault {
     }
 }
 
-/// Reads all boxes, in any order, and makes of them the log that they hold, with the leaves for
-/// which its frames stand.
+/// Reads all boxes, in any order, and makes of them the log that they hold, with the pages for which
+/// its frames stand. No page is in memory afterwards: each is read from the log when it is asked for.
 ///
 /// Step by step, and the first fault is the answer: E10 for too many boxes or one that is too
 /// large; E13 for the first box, in list order, with bytes that are neither a header, nor a frame,
@@ -53,16 +54,19 @@ impl Debug for RecoverFault {
 /// its segments of version 2, or 65,536 where it has none. The newest segment takes frames exactly
 /// where it has version 2 and no tail.
 ///
-/// It reads each box with bytes twice, and holds the bytes of one box and one parsed frame at a
-/// time, beside a line for each frame and for each page that a block touches, with its leaf.
-/// Nothing is sized by a number that was only read. In time it costs the bytes, a search among the
-/// pages for each block and among the pairs of its page for each record, however many these are
-/// between two blocks, and up to 4,096 comparisons for each segment to put them in order, and as
-/// many of its header with the others.
+/// It goes twice through each box with bytes, where the segment lends them, or else by a read, which
+/// holds the bytes of one box at a time. Beside them it holds a line for each frame and for each page
+/// that a block touches, with the keys of that page and the lengths of its values. Nothing is sized
+/// by a number that was only read. In time it costs the bytes, a search among the pages for each
+/// block and among the pairs of its page for each record, however many these are between two blocks,
+/// and up to 4,096 comparisons for each segment to put them in order, and as many of its header with
+/// the others.
 pub fn recover(alloc: Global, boxes: Vec<Box<dyn Segment>>) -> Result<Recovered, RecoverFault>
     requires { Unit {0} }
     ensures found { IfOk result (λ r. recovery (map holding boxes.items) ≡ Ok (finding_of r)) }
     ensures recovered { IfOk result (λ r. IsRecovered holding r) }
+    ensures away { IfOk result (λ r.
+        r.leaves.evicted ≡ numbers_from 1 (length r.leaves.leaves)) }
     ensures live { IfOk result (λ r.
         (seen_by holding r.log).live ≡ live_in (map holding boxes.items)) }
     ensures spares { IfOk result (λ r.
@@ -89,6 +93,7 @@ pub fn recover(alloc: Global, boxes: Vec<Box<dyn Segment>>) -> Result<Recovered,
                 kinds,
                 tables,
                 leaves,
+                pairs,
                 first,
                 last,
                 tail,
@@ -111,6 +116,7 @@ pub fn recover(alloc: Global, boxes: Vec<Box<dyn Segment>>) -> Result<Recovered,
             Ok(Recovered {
                 log,
                 leaves,
+                pairs,
                 first,
                 last,
                 tail,

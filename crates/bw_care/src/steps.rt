@@ -1,9 +1,8 @@
 //! Recovery's steps, one behind the other, before any box is moved.
 //!
 //! Frames are found in a first pass over each box, and their blocks are read in a second one, once
-//! the order of all segments is known. Parsed at once, all blocks of a log would stand in memory,
-//! many times what its pages take; read twice, one box and one parsed frame do. Only what the first
-//! pass found to be lawful is read again.
+//! the order of all segments is known. The second pass makes no record: it looks at blocks where they
+//! lie. Only what the first pass found to be lawful is read again.
 
 ghost use Rattle.std.specs.Prelude.{◌≡◌, ◌≤◌, ◌<◌, nat_lt, true, [], IfOk, IfErr, IfSome, IfNone, OnOk, map, length, slice_get};
 ghost use Rattle.std.specs.Vec.{vec_capacity};
@@ -11,11 +10,12 @@ ghost use Rattle.bw_care.specs.Planned.{HasRoom, AreRooms, RoomsStop, IsSurvey, 
 ghost use Rattle.bw_care.specs.Found.{Refuses};
 
 use crate::boxes::{Kind, Numbered, kinds_of, parts_of};
-use crate::forward::read_forward;
+use crate::finding::read_forward;
 use crate::order::{Order, order_of};
 use crate::scan::scan_all;
 use bw_device::{MAX_CAPACITY, Segment, capacity_of, len_of};
-use bw_lines::{Pages, RecoverCause, pages_of};
+use bw_found::pages_of;
+use bw_lines::{Pages, RecoverCause};
 use bw_log::{FrameAt, Tables};
 use bw_page::Leaves;
 use std::alloc::Global;
@@ -39,6 +39,8 @@ pub struct Findings {
     pub kinds: Vec<Kind>,
     pub tables: Tables,
     pub leaves: Leaves,
+    /// How many pairs the pages have.
+    pub pairs: u64,
     pub first: u64,
     pub last: u64,
     pub tail: u64,
@@ -156,7 +158,11 @@ fn findings_of(
     let first = first_of(&frames);
     let last = last_of(&frames);
     let lines = read_forward(alloc, boxes, &places, first)?;
-    let Pages { leaves, table } = pages_of(alloc, m, lines)?;
+    let Pages {
+        leaves,
+        table,
+        pairs,
+    } = pages_of(alloc, m, lines)?;
     let tables = Tables {
         m,
         f,
@@ -170,6 +176,7 @@ fn findings_of(
         kinds,
         tables,
         leaves,
+        pairs,
         first,
         last,
         tail,

@@ -30,7 +30,7 @@ mod words;
 
 pub use bw_record::{
     Block, Blocks, Frame, Key, Leaf, LengthError, Low, Ops, Packed, Pair, Pairs, Place, Record,
-    Value, ascend, is_before,
+    Value, ascend, compare, is_before,
 };
 pub use check::{FrameSeen, check_frame};
 pub use decoder::{read_block, read_frame, read_header};

@@ -39,7 +39,6 @@ pub mod EvictedPages
 pub mod LookingMore
 pub mod Walks
 pub mod Backwards
-pub mod Counted
 pub mod NeededMore
 pub mod CountsMore
 pub mod Machines

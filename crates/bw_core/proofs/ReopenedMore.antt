@@ -41,7 +41,6 @@ pub record Found (c : logs.Contents) (filed : Shown) (last : ℕ) : Type 0 where
   pub follows : c.next ≡ following last
   pub works : c.is_failed ≡ false
   pub limit : filed.m ≡ c.m
-  pub here : filed.evicted ≡ []
 
 module _ {I : Type 0} {H : I → Type 0} where
   pub found_by : (v : DynBox I Global H → Holding) (r : Recovered I H) → IsRecovered v r → Found (seen_by v r.log) r.leaves r.last
@@ -52,7 +51,6 @@ module _ {I : Type 0} {H : I → Type 0} where
     follows = r.follows;
     works = r.works;
     limit = r.limit;
-    here = is.here;
   }
 
 last_from : (n w : ℕ) (x : Frame) (xs : List Frame) → AreFrom n (x ∷ xs) → fold (λ was f. f.number) w (x ∷ xs) + 1 ≡ n + length (x ∷ xs)

@@ -4,9 +4,11 @@
 //! any page is refused. It is not appended here. A store that was opened and stopped holds nothing,
 //! and whoever opens the same segments again begins anew.
 
-ghost use Rattle.std.specs.Prelude.{◌≡◌, ◌↔◌, [], ◌∷◌, length, map, IsTrue, IfOk, IfErr, MatchResult};
+ghost use Rattle.std.specs.Prelude.{ℕ, ◌≡◌, ◌↔◌, true, false, [], ◌∷◌, length, map, IsTrue, IfOk, IfErr, MatchResult};
 ghost use Rattle.bw_ring.specs.Ends.{ring_of_feed, ring_of_lane};
 ghost use Rattle.bw_making.specs.Begun.{first_place, first_making};
+ghost use Rattle.bw_making.specs.Overlay.{is_made};
+ghost use Rattle.bw_page.specs.Shown.{is_evicted_page};
 ghost use Rattle.bw_core.specs.Opened.{opened, one_empty, AreFresh, AreTaken, IsOpenFault};
 ghost use Rattle.bw_terms.specs.Ranges.{IsConfig};
 ghost use Rattle.bw_core.specs.Counting.{noted_from};
@@ -146,7 +148,8 @@ impl Core {
         before: u64,
     ) -> (Core, Vec<Feed>)
         requires sound { IsSoundLog log holding }
-        requires here { leaves.evicted ≡ [] }
+        requires logged { (p : ℕ) → is_evicted_page p leaves ≡ true
+            → is_made p ends.making.blocks ≡ false }
         requires gone { ends.intake.history.gone ≡ 0 }
         ensures store { kept_by result.0 holding
             ≡ record (reopened (map ring_of_lane ends.intake.lanes.items) before leaves

@@ -9,7 +9,7 @@ ghost use Rattle.bw_file.specs.declared.refusals.FolderFault.TheVariants.{BadCon
 
 use crate::refusals::{FolderFault, NotOpened};
 use bw_device::{Lease, MAX_CAPACITY, MemSegment};
-use std::alloc::Global;
+use std::alloc::{AllocError, Global};
 use std::fs::{File, OpenFile, TryLockError};
 use std::os::unix::fs::FileExt;
 
@@ -39,6 +39,23 @@ pub(crate) struct Pair<F> {
     pub(crate) sums: F,
 }
 
+/// What a list is made longer by, before a file is read into it.
+const BLANK: [u8; 4_096] = [0; 4_096];
+
+// A list of so many bytes, of any kind, with room for so many at least.
+fn blank(alloc: Global, len: usize, room: usize) -> Result<Vec<u8>, AllocError>
+    requires { len ≤ room }
+    ensures len { IfOk result (λ bytes. length bytes.items ≡ len) }
+    ensures room { IfOk result (λ bytes. room ≤ vec_capacity bytes) }
+{
+    let mut bytes = Vec::with_capacity(alloc, room)?;
+    'pieces: while bytes.len() < len {
+        let more = (len - bytes.len()).min(BLANK.len());
+        bytes.extend_from_slice(&BLANK[..more])?;
+    }
+    Ok(bytes)
+}
+
 /// The bytes of an open file, in a list that has room for so many at least. Its length is looked at
 /// before any is read.
 pub(crate) fn bytes_of<F: SegmentFile>(
@@ -54,8 +71,7 @@ pub(crate) fn bytes_of<F: SegmentFile>(
     if len > MAX_CAPACITY {
         return Err(FolderFault::TooLong);
     }
-    let mut bytes = Vec::with_capacity(alloc, capacity.max(len) as usize)?;
-    bytes.resize(len as usize, 0u8)?;
+    let mut bytes = blank(alloc, len as usize, capacity.max(len) as usize)?;
     file.read_exact_at(&mut bytes, 0)?;
     Ok(bytes)
 }

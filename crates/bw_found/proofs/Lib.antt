@@ -1,3 +1,4 @@
 pub mod LentLaws
 pub mod FirstRead
 pub mod Astray
+pub mod PairsCounted

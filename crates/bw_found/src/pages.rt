@@ -1,11 +1,13 @@
 //! Which page is at fault. Nothing is as large as a page number: a page is a line of the map.
 
-ghost use Rattle.std.specs.Prelude.{◌≡◌, ◌≤◌, ◌==◌, ◌||◌, ◌<◌, [], Some, None, nat_lt, map, IfErr, length, IfOk, OnOk, List, if◌then◌else◌};
+ghost use Rattle.std.specs.Prelude.{◌≡◌, ◌≤◌, ◌==◌, ◌||◌, ◌<◌, ◌^◌, [], Some, None, nat_lt, map, IfErr, length, IfOk, OnOk, List, if◌then◌else◌};
 ghost use Rattle.std.specs.List.{list_any, AllByRecursion};
 ghost use Rattle.std.specs.BTreeMap as tree;
 ghost use Rattle.std.specs.Ordering.{nat_cmp};
+ghost use Rattle.std.specs.FinMap as finite;
 ghost use Rattle.bw_record.specs.Keys.{is_below, IsKey};
 ghost use Rattle.bw_leaf.specs.Changed.{Bytes, order};
+ghost use Rattle.bw_page.specs.Leaves.{union, AreLeaves};
 ghost use Rattle.bw_page.specs.Seats.{numbers_from};
 ghost use Rattle.bw_lines.specs.Lawful.{HasLawful, is_bad_leaf, is_bad_page};
 ghost use Rattle.bw_lines.specs.Paging.{IsNext, is_past, has_low, taken_before, IsLows, IsShortIf, IsIndex, first_wrong, Rise, leaves_in, at_line, AreOf, IsMapOf, HasFrames, IsRight, PageFaultIs, fault_among};
@@ -224,6 +226,28 @@ fn take_apart(
     Ok((leaves, table))
 }
 
+// How many pairs a page has. Its number, which is small, bounds how many pages there are.
+fn count_of(page: &HollowPage) -> usize
+    ensures value { result ≡ length page.now.pairs }
+    ensures small { page.now.page < 2 ^ 32 }
+{
+    let _ = page.page();
+    page.count()
+}
+
+// How many pairs lawful pages have.
+fn count_pairs(m: u16, pages: &[HollowPage]) -> u64
+    requires limit { m ≤ 32 }
+    requires lawful { AreLeaves m pages.now }
+    ensures { result ≡ finite.len (union pages.now) }
+{
+    let mut pairs = 0;
+    for page in pages {
+        pairs += count_of(page) as u64;
+    }
+    pairs
+}
+
 /// The pages of lines that were read, if none is at fault; else the least one that is.
 pub fn pages_of(alloc: Global, m: u16, lines: BTreeMap<u32, Touched>) -> Result<Pages, RecoverCause>
     requires limit { (4 ≤ m) × (m ≤ 32) }
@@ -242,8 +266,13 @@ pub fn pages_of(alloc: Global, m: u16, lines: BTreeMap<u32, Touched>) -> Result<
         Some(page) => Err(RecoverCause::Unlawful { page }),
         None => {
             let (leaves, table) = take_apart(alloc, pages)?;
+            let pairs = count_pairs(m, leaves.as_slice());
             let leaves = Leaves::found(leaves, m)?;
-            Ok(Pages { leaves, table })
+            Ok(Pages {
+                leaves,
+                table,
+                pairs,
+            })
         }
     }
 }

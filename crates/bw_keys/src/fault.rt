@@ -1,5 +1,6 @@
 //! Why a task was not done.
 
+use bw_care::RecoverCause;
 use bw_core::{StoreFault, TurnFault};
 use bw_home::HomeFault;
 use bw_pairs::{LineFault, PairsFault};
@@ -68,6 +69,12 @@ impl From<PairsFault> for KeysFault {
             PairsFault::Input => KeysFault::Input,
             PairsFault::Line(number, fault) => KeysFault::Line(number, fault),
         }
+    }
+}
+
+impl From<RecoverCause> for KeysFault {
+    fn from(cause: RecoverCause) -> KeysFault {
+        KeysFault::Home(HomeFault::from(cause))
     }
 }
 

@@ -18,6 +18,7 @@ mod load;
 mod measure;
 mod pages;
 mod plan;
+mod reading;
 mod records;
 mod shortening;
 mod span;

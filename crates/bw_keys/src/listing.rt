@@ -1,10 +1,12 @@
 //! Pairs that are written, in the order of their keys or against it.
 
+ghost use Rattle.bw_care.specs.Found.{IsRecovered};
+
 use crate::fault::KeysFault;
-use crate::pages::count_of;
+use crate::reading::count_of;
 use crate::span::Span;
+use bw_care::Recovered;
 use bw_codec::{Leaf, Pair};
-use bw_page::Leaves;
 use bw_pairs::{
     Letters, Spelling, write_csv, write_csv_field, write_dumped, write_end, write_header,
     write_json, write_line, write_pair,
@@ -79,11 +81,23 @@ impl Style {
     }
 }
 
+/// How pairs go out.
+#[derive(Debug, Clone, Copy)]
+pub(crate) struct Order {
+    pub(crate) style: Style,
+    /// How many at most.
+    pub(crate) limit: u64,
+    /// Only so many with the greatest keys.
+    pub(crate) last: u64,
+    /// Whether the greatest key comes first.
+    pub(crate) reverse: bool,
+}
+
 /// Pairs that go out.
 #[derive(Drop)]
-pub struct Listing<'a, O> {
+pub(crate) struct Listing<'a, O> {
     output: &'a mut O,
-    style: Style,
+    order: Order,
     span: &'a Span,
     /// How many are passed over before.
     passed: u64,
@@ -92,25 +106,20 @@ pub struct Listing<'a, O> {
 }
 
 impl<'a, O: Write> Listing<'a, O> {
-    /// So many pairs of a stretch of keys, at most.
-    pub fn new(output: &'a mut O, style: Style, span: &'a Span, most: u64) -> Listing<'a, O> {
+    /// Pairs of a stretch of keys.
+    pub(crate) fn new(output: &'a mut O, order: Order, span: &'a Span) -> Listing<'a, O> {
         Listing {
             output,
-            style,
+            order,
             span,
             passed: 0,
-            left: most,
+            left: order.limit.min(order.last),
         }
     }
 
-    /// Passes over all pairs of these pages but for so many with the greatest keys.
-    pub fn pass_all_but(&mut self, last: u64, leaves: &Leaves, pages: &[u32]) {
-        self.passed = count_of(leaves, pages, self.span).saturating_sub(last);
-    }
-
     /// Writes what stands before the pairs.
-    pub fn begin(&mut self) -> Result<(), KeysFault> {
-        match self.style {
+    fn begin(&mut self) -> Result<(), KeysFault> {
+        match self.order.style {
             Style::Dump(letters, mapsize) => {
                 write_header(self.output, letters, mapsize).map_err(KeysFault::of_output)
             }
@@ -119,11 +128,17 @@ impl<'a, O: Write> Listing<'a, O> {
     }
 
     /// Writes what stands after them.
-    pub fn end(&mut self) -> Result<(), KeysFault> {
-        match self.style {
+    fn end(&mut self) -> Result<(), KeysFault> {
+        match self.order.style {
             Style::Dump(..) => write_end(self.output).map_err(KeysFault::of_output),
             _ => Ok(()),
         }
+    }
+
+    /// Writes no pair.
+    pub(crate) fn none(&mut self) -> Result<(), KeysFault> {
+        self.begin()?;
+        self.end()
     }
 
     /// Writes a pair, if it is wanted.
@@ -137,7 +152,7 @@ impl<'a, O: Write> Listing<'a, O> {
             return Ok(());
         }
         self.left -= 1;
-        let style = self.style;
+        let style = self.order.style;
         style
             .write(self.output, key, pair.value())
             .map_err(KeysFault::of_output)
@@ -159,35 +174,110 @@ impl<'a, O: Write> Listing<'a, O> {
         Ok(())
     }
 
+    /// Passes over all pairs of these pages but for those with the greatest keys that are wanted, if
+    /// they are not all.
+    fn pass(&mut self, pages: &mut Recovered, numbers: &[u32]) -> Result<(), KeysFault>
+        requires { IsRecovered (λ b. holding (b.vtable, b.value)) pages.old }
+        ensures { IsRecovered (λ b. holding (b.vtable, b.value)) pages.new }
+    {
+        if self.order.last < u64::MAX {
+            let count = count_of(pages, numbers, self.span)?;
+            self.passed = count.saturating_sub(self.order.last);
+        }
+        Ok(())
+    }
+
+    /// Writes the pairs of a page in the order of their keys, if any more are wanted.
+    fn page_up(&mut self, pages: &mut Recovered, number: u32) -> Result<(), KeysFault>
+        requires { IsRecovered (λ b. holding (b.vtable, b.value)) pages.old }
+        ensures { IsRecovered (λ b. holding (b.vtable, b.value)) pages.new }
+    {
+        if self.left == 0 {
+            return Ok(());
+        }
+        match pages.page(number)? {
+            Some(leaf) => self.up(&leaf),
+            None => Ok(()),
+        }
+    }
+
+    /// Writes the pairs of a page against the order of their keys, if any more are wanted.
+    fn page_down(&mut self, pages: &mut Recovered, number: u32) -> Result<(), KeysFault>
+        requires { IsRecovered (λ b. holding (b.vtable, b.value)) pages.old }
+        ensures { IsRecovered (λ b. holding (b.vtable, b.value)) pages.new }
+    {
+        if self.left == 0 {
+            return Ok(());
+        }
+        match pages.page(number)? {
+            Some(leaf) => self.down(&leaf),
+            None => Ok(()),
+        }
+    }
+
     /// Writes the pairs of these pages, in the order of their keys.
-    pub fn all_up<W: Watch>(
+    fn all_up<W: Watch>(
         &mut self,
-        leaves: &Leaves,
-        pages: &[u32],
+        pages: &mut Recovered,
+        numbers: &[u32],
         watch: &mut W,
-    ) -> Result<(), KeysFault> {
-        for (index, page) in pages.iter().enumerate() {
-            watch.see(Work::Listing, index as u64, pages.len() as u64);
-            if let (true, Some(leaf)) = (self.left > 0, leaves.page(*page)) {
-                self.up(leaf)?;
-            }
+    ) -> Result<(), KeysFault>
+        requires { IsRecovered (λ b. holding (b.vtable, b.value)) pages.old }
+        ensures { IsRecovered (λ b. holding (b.vtable, b.value)) pages.new }
+    {
+        'pages: for (index, number) in numbers.iter().enumerate() {
+            watch.see(Work::Listing, index as u64, numbers.len() as u64);
+            self.page_up(pages, *number)?;
         }
         Ok(())
     }
 
     /// Writes the pairs of these pages, against the order of their keys.
-    pub fn all_down<W: Watch>(
+    fn all_down<W: Watch>(
         &mut self,
-        leaves: &Leaves,
-        pages: &[u32],
+        pages: &mut Recovered,
+        numbers: &[u32],
         watch: &mut W,
-    ) -> Result<(), KeysFault> {
-        for (index, page) in pages.iter().rev().enumerate() {
-            watch.see(Work::Listing, index as u64, pages.len() as u64);
-            if let (true, Some(leaf)) = (self.left > 0, leaves.page(*page)) {
-                self.down(leaf)?;
-            }
+    ) -> Result<(), KeysFault>
+        requires { IsRecovered (λ b. holding (b.vtable, b.value)) pages.old }
+        ensures { IsRecovered (λ b. holding (b.vtable, b.value)) pages.new }
+    {
+        'pages: for (index, number) in numbers.iter().rev().enumerate() {
+            watch.see(Work::Listing, index as u64, numbers.len() as u64);
+            self.page_down(pages, *number)?;
         }
         Ok(())
+    }
+
+    /// Writes those pairs of these pages that are wanted.
+    fn wanted<W: Watch>(
+        &mut self,
+        pages: &mut Recovered,
+        numbers: &[u32],
+        watch: &mut W,
+    ) -> Result<(), KeysFault>
+        requires { IsRecovered (λ b. holding (b.vtable, b.value)) pages.old }
+        ensures { IsRecovered (λ b. holding (b.vtable, b.value)) pages.new }
+    {
+        if self.order.reverse {
+            return self.all_down(pages, numbers, watch);
+        }
+        self.pass(pages, numbers)?;
+        self.all_up(pages, numbers, watch)
+    }
+
+    /// Writes those pairs of these pages that are wanted, and what stands around them.
+    pub(crate) fn all<W: Watch>(
+        &mut self,
+        pages: &mut Recovered,
+        numbers: &[u32],
+        watch: &mut W,
+    ) -> Result<(), KeysFault>
+        requires { IsRecovered (λ b. holding (b.vtable, b.value)) pages.old }
+        ensures { IsRecovered (λ b. holding (b.vtable, b.value)) pages.new }
+    {
+        self.begin()?;
+        self.wanted(pages, numbers, watch)?;
+        self.end()
     }
 }

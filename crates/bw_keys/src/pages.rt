@@ -2,10 +2,10 @@
 
 use crate::fault::KeysFault;
 use crate::span::Span;
-use bw_beside::Opened;
+use bw_beside::{Ask, Asked};
 use bw_care::recover;
+use bw_codec::Leaf;
 use bw_codec::limits::{HEADER_LEN, MAX_FRAME};
-use bw_codec::{Key, Leaf, Pair};
 use bw_device::{Desk, MemSegment, Segment};
 use bw_file::{FolderFault, FolderReader};
 use bw_home::{HomeFault, System};
@@ -61,11 +61,18 @@ fn copies_of<R: System, W: Watch>(
     Ok(copies)
 }
 
-/// The pages of these segments; `None` where nothing was ever durable in them: whoever writes there
+/// Asks the pages in these boxes; `None` where nothing was ever durable in them: whoever writes there
 /// begins anew.
-fn pages_of(alloc: Global, boxes: Vec<Box<dyn Segment>>) -> Result<Option<Leaves>, HomeFault> {
+fn ask_boxes<W, A: Ask<W>>(
+    alloc: Global,
+    boxes: Vec<Box<dyn Segment>>,
+    ask: &mut A,
+    watch: &mut W,
+) -> Result<Option<A::Answer>, HomeFault>
+    requires { Unit {0} }
+{
     match recover(alloc, boxes) {
-        Ok(recovered) => Ok(Some(recovered.leaves)),
+        Ok(pages) => Ok(Some(ask.ask(pages, watch))),
         Err(fault) => {
             let _ = beginning_of(fault)?;
             Ok(None)
@@ -73,8 +80,13 @@ fn pages_of(alloc: Global, boxes: Vec<Box<dyn Segment>>) -> Result<Option<Leaves
     }
 }
 
-/// The pages of copies of segments. Their boxes are made only here.
-fn pages_in_copies(alloc: Global, copies: Vec<MemSegment>) -> Result<Option<Leaves>, HomeFault> {
+/// Asks the pages in copies of segments. Their boxes are made only here.
+fn ask_copies<W, A: Ask<W>>(
+    alloc: Global,
+    copies: Vec<MemSegment>,
+    ask: &mut A,
+    watch: &mut W,
+) -> Result<Option<A::Answer>, HomeFault> {
     if copies.iter().all(|copy| copy.len() == 0) {
         return Ok(None);
     }
@@ -82,40 +94,42 @@ fn pages_in_copies(alloc: Global, copies: Vec<MemSegment>) -> Result<Option<Leav
     for copy in copies {
         boxes.push(Box::new(alloc, copy)?)?;
     }
-    pages_of(alloc, boxes)
+    ask_boxes(alloc, boxes, ask, watch)
 }
 
-/// The pages of a folder in which nobody writes.
-fn pages_alone<R: System, W: Watch>(
+/// Asks the pages of a folder in which nobody writes.
+fn ask_alone<R: System, W: Watch, A: Ask<W>>(
     rt: &R,
     path: &str,
     reader: &FolderReader,
     leases: u32,
+    ask: &mut A,
     watch: &mut W,
-) -> Result<Option<Leaves>, KeysFault> {
+) -> Result<Option<A::Answer>, KeysFault> {
     let files = files_of(rt, reader)?;
     let all = folder_bytes(rt, path, leases, watch);
     let copies = copies_of(rt, reader, files.as_slice(), leases, all, watch)?;
     watch.see(Work::Recovering, 0, all);
-    Ok(pages_in_copies(rt.alloc(), copies)?)
+    Ok(ask_copies(rt.alloc(), copies, ask, watch)?)
 }
 
-/// The pages of the store in a folder, which has to be there, and stays as it is; `None` where
+/// Asks the pages of the store in a folder, which has to be there, and stays as it is; `None` where
 /// nothing was ever durable there. Other readers are no hindrance. Where somebody writes it, they are
 /// those of one of its frames, as `bw_beside::open` has it.
 ///
 /// What recovery refuses is refused, a file above so many leases, and a folder without the file of
-/// any segment. It takes memory for a copy of all files, for two where somebody writes them, and the
-/// time of a recovery.
-pub fn pages_in<R: System, W: Watch>(
+/// any segment. It takes memory for a copy of all files, and the time of a recovery and of what is asked;
+/// of up to ten recoveries if somebody writes.
+pub(crate) fn ask_in<R: System, W: Watch, A: Ask<W>>(
     rt: &R,
     path: &str,
     leases: u32,
+    ask: &mut A,
     watch: &mut W,
-) -> Result<Option<Leaves>, KeysFault> {
-    match bw_beside::open(rt, path, watch) {
-        Ok(Opened::Alone(reader)) => pages_alone(rt, path, &reader, leases, watch),
-        Ok(Opened::Beside(stood)) => Ok(Some(stood.leaves)),
+) -> Result<Option<A::Answer>, KeysFault> {
+    match bw_beside::ask(rt, path, ask, watch) {
+        Ok(Asked::Alone(reader)) => ask_alone(rt, path, &reader, leases, ask, watch),
+        Ok(Asked::Beside(answer)) => Ok(Some(answer)),
         Err(fault) => Err(KeysFault::from(HomeFault::from(fault))),
     }
 }
@@ -131,21 +145,28 @@ fn is_missing(fault: &KeysFault) -> bool {
     }
 }
 
-/// The pages of a folder, as `pages_in` has them; `None` also if it is missing, or has no store.
-pub fn pages_if_there<R: System, W: Watch>(
+/// Asks the pages of the store in a folder; `None` where nothing was ever durable there, and also if it
+/// is missing, or has no store. It is refused as `ask_in` is.
+pub(crate) fn ask_if_there<R: System, W: Watch, A: Ask<W>>(
     rt: &R,
     path: &str,
     leases: u32,
+    ask: &mut A,
     watch: &mut W,
-) -> Result<Option<Leaves>, KeysFault> {
-    match pages_in(rt, path, leases, watch) {
+) -> Result<Option<A::Answer>, KeysFault> {
+    match ask_in(rt, path, leases, ask, watch) {
+        Ok(answer) => Ok(answer),
         Err(fault) if is_missing(&fault) => Ok(None),
-        found => found,
+        Err(fault) => Err(fault),
     }
 }
 
 /// The numbers of the pages that may have wanted keys, in the order of their keys.
-pub fn pages_over(alloc: Global, leaves: &Leaves, span: &Span) -> Result<Vec<u32>, KeysFault> {
+pub(crate) fn pages_over(
+    alloc: Global,
+    leaves: &Leaves,
+    span: &Span,
+) -> Result<Vec<u32>, KeysFault> {
     let mut pages = Vec::new(alloc);
     let mut key = span.start_key();
     pages.push(leaves.find(&key))?;
@@ -159,26 +180,8 @@ pub fn pages_over(alloc: Global, leaves: &Leaves, span: &Span) -> Result<Vec<u32
     Ok(pages)
 }
 
-/// The pair of a key.
-pub fn pair_of<'a>(leaves: &'a Leaves, key: &Key) -> Option<&'a Pair> {
-    let leaf = leaves.page(leaves.find(key))?;
-    let pairs = leaf.pairs.as_slice();
-    pairs.iter().find(|pair| pair.key() == key.as_slice())
-}
-
 /// How many keys of a page are wanted.
-fn count_in(leaf: &Leaf, span: &Span) -> u64 {
+pub(crate) fn count_in(leaf: &Leaf, span: &Span) -> u64 {
     let pairs = leaf.pairs.as_slice();
     pairs.iter().filter(|pair| span.has(pair.key())).count() as u64
-}
-
-/// How many keys of these pages are wanted.
-pub fn count_of(leaves: &Leaves, pages: &[u32], span: &Span) -> u64 {
-    let mut count = 0u64;
-    for page in pages {
-        if let Some(leaf) = leaves.page(*page) {
-            count = count.saturating_add(count_in(leaf, span));
-        }
-    }
-    count
 }

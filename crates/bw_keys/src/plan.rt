@@ -1,12 +1,15 @@
 //! What an import would do, by a look at the folder, which stays as it is.
 
+ghost use Rattle.bw_care.specs.Found.{IsRecovered};
+
 use crate::changes::Effect;
 use crate::fault::{KeysFault, TableRefusal};
-use crate::pages::{pages_if_there, pair_of};
+use crate::pages::ask_if_there;
 use crate::tables::have_tables;
-use bw_codec::{Key, Record, Value};
+use bw_beside::Ask;
+use bw_care::Recovered;
+use bw_codec::{Record, Value};
 use bw_home::System;
-use bw_page::Leaves;
 use bw_pairs::{LineFault, Pairs, Skipped};
 use bw_watch::{Watch, Work, input_bytes};
 use std::io::Read;
@@ -28,14 +31,6 @@ pub struct Plan {
     pub first: Option<(u64, LineFault)>,
 }
 
-/// The value of a key, where there are pages.
-fn value_in<'a>(found: Option<&'a Leaves>, key: &Key) -> Option<&'a [u8]> {
-    match found {
-        Some(leaves) => pair_of(leaves, key).map(|pair| pair.value()),
-        None => None,
-    }
-}
-
 impl Plan {
     /// Nothing yet.
     fn new(effect: Effect) -> Plan {
@@ -50,28 +45,27 @@ impl Plan {
     }
 
     /// Counts a key whose value is to be another one, or none.
-    fn note(&mut self, there: Option<&[u8]>, value: Option<&Value>) {
+    fn note(&mut self, there: Option<&Value>, value: Option<&Value>) {
         match (there, value) {
             (None, _) => self.absent = self.absent.saturating_add(1),
-            (Some(there), Some(value)) if there == value.as_slice() => {
+            (Some(there), Some(value)) if there.as_slice() == value.as_slice() => {
                 self.equal = self.equal.saturating_add(1);
             }
             _ => self.other = self.other.saturating_add(1),
         }
     }
 
-    /// Counts a record.
-    fn note_record(&mut self, found: Option<&Leaves>, record: &Record) {
+    /// Counts a record of a key that has this value there.
+    fn note_record(&mut self, there: Option<&Value>, record: &Record) {
         match record {
-            Record::Put(key, value) => self.note(value_in(found, key), Some(value)),
-            Record::Del(key) => self.note(value_in(found, key), None),
+            Record::Put(_, value) => self.note(there, Some(value)),
+            Record::Del(_) => self.note(there, None),
         }
     }
 
-    /// Counts the pairs of an input.
-    fn note_all<I: Read + Drop, W: Watch>(
+    /// Counts the pairs of an input beside a folder that has none.
+    fn note_absent<I: Read + Drop, W: Watch>(
         &mut self,
-        found: Option<&Leaves>,
         pairs: &mut Pairs<I>,
         all: u64,
         watch: &mut W,
@@ -80,18 +74,58 @@ impl Plan {
             let Some(record) = pairs.next_record()? else {
                 break;
             };
-            self.note_record(found, &record);
+            self.note_record(None, &record);
             watch.see(Work::Importing, pairs.bytes(), all);
         }
         Ok(())
     }
 }
 
-/// Whether these pages, if there are any, are those of tables.
-fn are_tables(found: Option<&Leaves>) -> bool {
-    match found {
-        Some(leaves) => have_tables(leaves),
-        None => false,
+/// Counts the pairs of an input beside these pages.
+fn note_all<I: Read + Drop, W: Watch>(
+    plan: &mut Plan,
+    pages: &mut Recovered,
+    pairs: &mut Pairs<I>,
+    all: u64,
+    watch: &mut W,
+) -> Result<(), KeysFault>
+    requires { IsRecovered (λ b. holding (b.vtable, b.value)) pages.old }
+    ensures { IsRecovered (λ b. holding (b.vtable, b.value)) pages.new }
+{
+    'records: for _ in 0..u64::MAX {
+        let Some(record) = pairs.next_record()? else {
+            return Ok(());
+        };
+        let there = pages.get(record.key())?;
+        plan.note_record(there.as_ref(), &record);
+        watch.see(Work::Importing, pairs.bytes(), all);
+    }
+    Ok(())
+}
+
+/// How the pairs of an input stand to the pages of a folder is asked.
+#[derive(Drop)]
+struct Planning<'a, I> {
+    plan: Plan,
+    pairs: &'a mut Pairs<I>,
+    all: u64,
+}
+
+impl<I: Read + Drop, W: Watch> Ask<W> for Planning<'_, I> {
+    type Answer = Result<(), KeysFault>;
+
+    fn ask(&mut self, pages: Recovered, watch: &mut W) -> Result<(), KeysFault> {
+        let mut pages = pages;
+        if have_tables(&mut pages)? {
+            return Err(KeysFault::Table(TableRefusal::HasTables));
+        }
+        note_all(
+            &mut self.plan,
+            &mut pages,
+            &mut *self.pairs,
+            self.all,
+            watch,
+        )
     }
 }
 
@@ -105,13 +139,18 @@ pub fn planned<R: System, I: Read + Drop, W: Watch>(
     effect: Effect,
     watch: &mut W,
 ) -> Result<Plan, KeysFault> {
-    let found = pages_if_there(rt, dir, leases, watch)?;
-    if are_tables(found.as_ref()) {
-        return Err(KeysFault::Table(TableRefusal::HasTables));
-    }
     let all = input_bytes(rt, watch);
-    let mut plan = Plan::new(effect);
-    plan.note_all(found.as_ref(), pairs, all, watch)?;
+    let mut planning = Planning {
+        plan: Plan::new(effect),
+        pairs: &mut *pairs,
+        all,
+    };
+    let answer = ask_if_there(rt, dir, leases, &mut planning, watch)?;
+    let mut plan = planning.plan;
+    match answer {
+        Some(answer) => answer?,
+        None => plan.note_absent(pairs, all, watch)?,
+    }
     let Skipped { count, first } = pairs.skipped();
     plan.skipped = count;
     plan.first = first;

@@ -84,6 +84,11 @@ impl Span {
         is_from && is_within
     }
 
+    /// Whether each key is wanted.
+    pub fn has_all(&self) -> bool {
+        self.from.is_none() && self.to.is_none() && self.prefix.is_none()
+    }
+
     /// Whether a key is wanted.
     pub fn has(&self, key: &[u8]) -> bool {
         self.has_begun(key) && !self.is_over(key)

@@ -1,11 +1,11 @@
 //! Whether a folder has tables, which have a mark among its pairs.
 
+ghost use Rattle.bw_care.specs.Found.{IsRecovered};
 ghost use Rattle.bw_home.specs.Ready.{IsReady};
 
 use crate::fault::KeysFault;
-use crate::pages::pair_of;
+use bw_care::{RecoverCause, Recovered};
 use bw_home::Home;
-use bw_page::Leaves;
 use bw_rows::mark_key;
 
 /// Whether the pairs of a store are those of tables: their mark has no byte.
@@ -20,9 +20,12 @@ pub fn has_tables(home: &mut Home) -> Result<bool, KeysFault>
 }
 
 /// Whether pages have the mark of tables.
-pub fn have_tables(leaves: &Leaves) -> bool {
-    match pair_of(leaves, &mark_key()) {
-        Some(pair) => pair.value().is_empty(),
-        None => false,
+pub(crate) fn have_tables(pages: &mut Recovered) -> Result<bool, RecoverCause>
+    requires { IsRecovered (λ b. holding (b.vtable, b.value)) pages.old }
+    ensures { IsRecovered (λ b. holding (b.vtable, b.value)) pages.new }
+{
+    match pages.get(&mark_key())? {
+        Some(value) => Ok(value.as_slice().is_empty()),
+        None => Ok(false),
     }
 }

@@ -2,13 +2,13 @@
 
 use crate::changes::{Changed, Import, del, del_all, import_pairs, put};
 use crate::fault::KeysFault;
-use crate::listing::{Listing, Style};
-use crate::pages::{count_of, pages_in, pages_over, pair_of};
+use crate::listing::{Listing, Order, Style};
+use crate::pages::ask_in;
+use crate::reading::{CountOf, PairsOf, ValueOf, ValuesOf};
 use crate::span::Span;
 use bw_codec::limits::MAX_VALUE;
 use bw_codec::{Key, Record, Value};
 use bw_home::System;
-use bw_page::Leaves;
 use bw_pairs::{
     PairsFault, Spelling, key_from, key_of, value_from, value_of, write_line, write_word,
 };
@@ -148,23 +148,18 @@ fn keys_by(alloc: Global, words: &[&str]) -> Result<VecDeque<Key>, KeysFault> {
     Ok(keys)
 }
 
-/// Writes the value of a key, alone; whether it has one.
+/// Writes a value, alone.
 fn write_value<O: Write>(
-    leaves: &Leaves,
-    key: &Key,
+    value: &Value,
     spelling: Spelling,
     output: &mut O,
-) -> Result<bool, KeysFault> {
-    let Some(pair) = pair_of(leaves, key) else {
-        return Ok(false);
-    };
+) -> Result<(), KeysFault> {
     let written = if spelling == Spelling::Raw {
-        write_word(output, spelling, pair.value())
+        write_word(output, spelling, value.as_slice())
     } else {
-        write_line(output, spelling, pair.value())
+        write_line(output, spelling, value.as_slice())
     };
-    written.map_err(KeysFault::of_output)?;
-    Ok(true)
+    written.map_err(KeysFault::of_output)
 }
 
 /// Writes the value of a key.
@@ -177,34 +172,31 @@ fn get<R: System, O: Write, W: Watch>(
     output: &mut O,
     watch: &mut W,
 ) -> Result<Told, KeysFault> {
-    let Some(leaves) = pages_in(rt, dir, leases, watch)? else {
-        return Ok(Told::NoValue);
-    };
+    let found = ask_in(rt, dir, leases, &mut ValueOf { key }, watch)?;
     watch.rest();
-    if write_value(&leaves, key, spelling, output)? {
-        Ok(Told::Done)
-    } else {
-        Ok(Told::NoValue)
+    match found {
+        Some(value) => match value? {
+            Some(value) => {
+                write_value(&value, spelling, output)?;
+                Ok(Told::Done)
+            }
+            None => Ok(Told::NoValue),
+        },
+        None => Ok(Told::NoValue),
     }
 }
 
-/// Writes the line of a key's value, where there are pages; whether it has one.
-fn write_value_line<O: Write>(
-    found: Option<&Leaves>,
-    key: &Key,
-    spelling: Spelling,
-    output: &mut O,
-) -> Result<bool, KeysFault> {
-    let pair = match found {
-        Some(leaves) => pair_of(leaves, key),
-        None => None,
-    };
-    match pair {
-        Some(pair) => {
-            write_line(output, spelling, pair.value()).map_err(KeysFault::of_output)?;
-            Ok(true)
-        }
-        None => Ok(false),
+/// The values of these keys, in a folder.
+fn values_in<R: System, W: Watch>(
+    rt: &R,
+    dir: &str,
+    leases: u32,
+    keys: &VecDeque<Key>,
+    watch: &mut W,
+) -> Result<Vec<Option<Value>>, KeysFault> {
+    match ask_in(rt, dir, leases, &mut ValuesOf { keys }, watch)? {
+        Some(values) => values,
+        None => Ok(Vec::new(rt.alloc())),
     }
 }
 
@@ -218,12 +210,15 @@ fn get_all<R: System, O: Write, W: Watch>(
     output: &mut O,
     watch: &mut W,
 ) -> Result<Told, KeysFault> {
-    let found = pages_in(rt, dir, leases, watch)?;
+    let values = values_in(rt, dir, leases, keys, watch)?;
     watch.rest();
     let mut missing = Vec::new(rt.alloc());
-    for (position, key) in keys.iter().enumerate() {
-        if !write_value_line(found.as_ref(), key, spelling, output)? {
-            missing.push(position)?;
+    for position in 0..keys.len() {
+        match values.as_slice().get(position) {
+            Some(Some(value)) => {
+                write_line(output, spelling, value.as_slice()).map_err(KeysFault::of_output)?;
+            }
+            _ => missing.push(position)?,
         }
     }
     Ok(Told::NoValues(missing))
@@ -271,42 +266,17 @@ fn count<R: System, O: Write, W: Watch>(
     output: &mut O,
     watch: &mut W,
 ) -> Result<Told, KeysFault> {
-    let count = match pages_in(rt, dir, leases, watch)? {
-        Some(leaves) => {
-            let pages = pages_over(rt.alloc(), &leaves, span)?;
-            count_of(&leaves, pages.as_slice(), span)
-        }
+    let mut asked = CountOf {
+        alloc: rt.alloc(),
+        span,
+    };
+    let count = match ask_in(rt, dir, leases, &mut asked, watch)? {
+        Some(count) => count?,
         None => 0,
     };
     watch.rest();
     writeln!(output, "{count}").map_err(KeysFault::of_output)?;
     Ok(Told::Done)
-}
-
-/// How pairs go out.
-#[derive(Clone, Copy)]
-struct Order {
-    style: Style,
-    limit: u64,
-    last: u64,
-    reverse: bool,
-}
-
-/// Writes those pairs of these pages that are wanted.
-fn list_pages<O: Write, W: Watch>(
-    listing: &mut Listing<'_, O>,
-    leaves: &Leaves,
-    pages: &[u32],
-    order: Order,
-    watch: &mut W,
-) -> Result<(), KeysFault> {
-    if order.reverse {
-        return listing.all_down(leaves, pages, watch);
-    }
-    if order.last < u64::MAX {
-        listing.pass_all_but(order.last, leaves, pages);
-    }
-    listing.all_up(leaves, pages, watch)
 }
 
 /// Writes the pairs of a stretch of keys.
@@ -319,15 +289,16 @@ fn list<R: System, O: Write, W: Watch>(
     output: &mut O,
     watch: &mut W,
 ) -> Result<Told, KeysFault> {
-    let found = pages_in(rt, dir, leases, watch)?;
-    let most = order.limit.min(order.last);
-    let mut listing = Listing::new(&mut *output, order.style, span, most);
-    listing.begin()?;
-    if let Some(leaves) = found {
-        let pages = pages_over(rt.alloc(), &leaves, span)?;
-        list_pages(&mut listing, &leaves, pages.as_slice(), order, watch)?;
+    let mut listed = PairsOf {
+        alloc: rt.alloc(),
+        span,
+        listing: Listing::new(&mut *output, order, span),
+    };
+    match ask_in(rt, dir, leases, &mut listed, watch)? {
+        Some(listed) => listed?,
+        // A folder in which nothing was ever durable has no pair.
+        None => Listing::new(output, order, span).none()?,
     }
-    listing.end()?;
     Ok(Told::Done)
 }
 

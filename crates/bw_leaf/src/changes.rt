@@ -9,7 +9,7 @@ ghost use Rattle.bw_leaf.specs.Changed.{Pairs as PairList, order, empty_leaf, ch
 ghost use Rattle.bw_record.specs.Record.{key_of};
 ghost use Rattle.bw_leaf.specs.Seek.{seek_of, end_of, IsWithin, AddsNone, back_of};
 
-use bw_codec::{Key, Leaf, Low, Packed, Pair, Pairs, Record, Value};
+use bw_codec::{Key, Leaf, Low, Packed, Pair, Pairs, Record, Value, compare};
 use std::alloc::{AllocError, Global};
 use std::cmp::Ordering;
 
@@ -37,7 +37,7 @@ fn find_whole(pairs: &[Pair], key: &[u8]) -> Result<usize, usize>
     ensures within { IsWithin (length pairs.now) result }
 {
     for (i, pair) in pairs.iter().enumerate() {
-        match key.cmp(pair.key()) {
+        match compare(key, pair.key()) {
             Ordering::Less => return Err(i),
             Ordering::Equal => return Ok(i),
             Ordering::Greater => {}

@@ -12,7 +12,7 @@ ghost use Rattle.bw_leaf.specs.Changed.{Bytes, order, without};
 ghost use Rattle.bw_leaf.specs.Seek.{seek_of, IsWithin};
 ghost use Rattle.bw_leaf.specs.Hollow.{blank, key_in, pair_in, IsIn, is_kept};
 
-use bw_codec::is_before;
+use bw_codec::{compare, is_before};
 use std::alloc::{AllocError, Global};
 use std::cmp::Ordering;
 use std::marker::Model;
@@ -86,7 +86,7 @@ fn find_in(keys: &[u8], items: &[Item], key: &[u8]) -> Result<usize, usize>
     ensures within { IsWithin (length items.now) result }
 {
     for (i, item) in items.iter().enumerate() {
-        match key.cmp(key_of(keys, *item)) {
+        match compare(key, key_of(keys, *item)) {
             Ordering::Less => return Err(i),
             Ordering::Equal => return Ok(i),
             Ordering::Greater => {}

@@ -10,7 +10,7 @@ ghost use Rattle.bw_leaf.specs.Words.{newer, told_by, record_word, records_word,
 ghost use Rattle.bw_leaf.specs.Words.{word_of as word_of_value};
 
 use crate::changes::value_in;
-use bw_codec::{Block, Key, Leaf, Low, Packed, Value};
+use bw_codec::{Block, Key, Leaf, Low, Packed, Value, compare};
 use std::cmp::Ordering;
 
 /// What records or blocks say of a key.
@@ -52,7 +52,7 @@ impl Word {
 pub(crate) fn word_packed(item: &Packed, key: &Key) -> Word
     ensures { result ≡ record_word key.now item.now }
 {
-    match key.as_slice().cmp(item.key()) {
+    match compare(key.as_slice(), item.key()) {
         Ordering::Less => Word::Silent,
         Ordering::Greater => Word::Silent,
         Ordering::Equal => match item.pair() {

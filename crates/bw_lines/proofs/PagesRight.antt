@@ -6,6 +6,7 @@ use Rattle.std.specs.List.{list_any, AllByRecursion}
 use Rattle.std.specs.List.Sorted.{IsStrictlySortedBy}
 use Rattle.std.specs.Option.{option_map}
 use Rattle.std.specs.Ordering.{nat_cmp}
+use Rattle.std.specs.FinMap as finite
 use Rattle.std.proofs.lemmas.Bool.{or_parts, eqb-true}
 use Rattle.bw_record.specs.Keys.{IsKey}
 use Rattle.bw_codec.specs.Grammar.{IsBlock}
@@ -28,7 +29,7 @@ use Rattle.bw_lines.specs.Paging.{Paged, Rise, IsIndex, IsLows, IsShortIf, first
 use Rattle.bw_lines.specs.Paging.{IsRight}
 use Rattle.bw_lines.specs.Reading.{place_in, at_in, leaf_in, line_of}
 use Rattle.bw_lines.specs.declared.links.Line.{Line}
-use Rattle.bw_page.specs.Leaves.{AreLeaves}
+use Rattle.bw_page.specs.Leaves.{AreLeaves, union}
 use Rattle.bw_lines.specs.declared.pages.Pages.{Pages}
 use Rattle.bw_lines.proofs.PageShape.{content_shaped}
 use Rattle.bw_lines.proofs.PagesAtFault.{in_set}
@@ -225,8 +226,9 @@ map_length g (x ∷ xs) = ap suc (map_length g xs)
 
 pub right_pages : (m : ℕ) (frames : List Frame) (es : List Paged) (r : Pages) → AllByRecursion (HasLawful m) frames → Rise 0 es → AreOf frames es
     → fault_among m frames ≡ None
-    → r.leaves.m ≡ m → r.leaves.leaves ≡ leaves_in es → r.table.items ≡ map at_line es → IsRight m frames r
-right_pages m frames es r laws rise of none limit leaves table =
+    → r.leaves.m ≡ m → r.leaves.leaves ≡ leaves_in es → r.table.items ≡ map at_line es → r.pairs ≡ finite.len (union r.leaves.leaves)
+    → IsRight m frames r
+right_pages m frames es r laws rise of none limit leaves table pairs =
     let no_fault = none_wrong m frames es rise of none in
     record {
       none = none;
@@ -235,4 +237,5 @@ right_pages m frames es r laws rise of none limit leaves table =
       table = subst (λ (t : List PageAt). IsTable t frames) (sym table) (table_is m frames es rise of (numbers_from m frames laws) no_fault);
       count = ap (λ (t : List PageAt). length t) table ∙ map_length at_line es ∙ sym (leaves_count m 0 (leaves_set (blocks_of frames)) es no_fault)
           ∙ sym (ap (λ (l : List Leaf). length l) leaves);
+      pairs = pairs;
     }

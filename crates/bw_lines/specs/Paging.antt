@@ -7,9 +7,11 @@ use Rattle.bw_record.specs.Keys.{is_below, IsKey}
 use Rattle.bw_record.specs.declared.leaf.Leaf.{Leaf}
 use Rattle.bw_leaf.specs.Changed.{Bytes}
 use Rattle.std.specs.BTreeMap as tree
+use Rattle.std.specs.FinMap as finite
 use Rattle.std.specs.Ordering.{nat_cmp}
 use Rattle.bw_record.specs.declared.block.Frame.{Frame}
 use Rattle.bw_leaf.specs.Forwards.{blocks_of}
+use Rattle.bw_page.specs.Leaves.{union}
 use Rattle.bw_log.specs.PageTable.{top_page}
 use Rattle.bw_log.specs.Places.{all_placed}
 use Rattle.bw_log.specs.Contents.{IsTable}
@@ -126,6 +128,7 @@ pub record IsRight (m : ℕ) (frames : List Frame) (r : Pages) : Type 0 where
   pub leaves : r.leaves.leaves ≡ contents (blocks_of frames) 1 (top_page (blocks_of frames))
   pub table : IsTable r.table.items frames
   pub count : length r.table.items ≡ length r.leaves.leaves
+  pub pairs : r.pairs ≡ finite.len (union r.leaves.leaves)
 
 -- this is the page at fault, unless memory ran out
 abbrev pub PageFaultIs : Option ℕ → RecoverCause → Type 0

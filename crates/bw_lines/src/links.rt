@@ -45,18 +45,6 @@ impl Model for DraftLine {
 }
 
 impl DraftLine {
-    /// The line as it is when all blocks were read. It takes memory where the page has many pairs.
-    pub fn into_line(self) -> Result<Line, AllocError>
-        ensures { IfOk result (λ line. line ≡ self) }
-    {
-        let DraftLine { at, draft } = self;
-        let leaf = match draft {
-            Some(draft) => Some(draft.into_leaf()?),
-            None => None,
-        };
-        Ok(Line { at, leaf })
-    }
-
     // Whether a block of the page may link back so.
     fn is_last(&self, back: Place) -> bool
         ensures { result ≡ is_place self.now.at.place back }

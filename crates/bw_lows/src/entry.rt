@@ -7,7 +7,7 @@ ghost use Rattle.bw_lows.specs.LowHeads.{order};
 ghost use Rattle.bw_lows.specs.LowRow.{IsHeadBehind};
 ghost use Rattle.bw_lows.specs.Packing.{eight_bytes};
 
-use bw_record::{Key, behind, head_of};
+use bw_record::{Key, behind, compare, head_of};
 use std::alloc::{AllocError, Global};
 use std::cmp::Ordering;
 use std::marker::Model;
@@ -114,9 +114,9 @@ impl Entry {
     {
         if self.short {
             let first = bytes_of(self.first);
-            key.as_slice().cmp(&first[..usize::from(self.count)])
+            compare(key.as_slice(), &first[..usize::from(self.count)])
         } else {
-            key.as_slice().cmp(self.whole.as_slice())
+            compare(key.as_slice(), self.whole.as_slice())
         }
     }
 

@@ -24,3 +24,4 @@ pub mod OneStanding
 pub mod LowsAlone
 pub mod Ahead
 pub mod Stretch
+pub mod Counted

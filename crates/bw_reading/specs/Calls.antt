@@ -3,6 +3,8 @@
 use Rattle.std.specs.Prelude.{ℕ, ◌/◌, ◌%◌, Bool, [], ◌∷◌, ◌++◌, take, drop, length}
 use Rattle.bw_record.specs.Keys.{is_below}
 use Rattle.bw_leaf.specs.Changed.{Bytes}
+use Rattle.bw_codec.specs.declared.head.HeaderRead.{HeaderRead}
+use Rattle.bw_codec.specs.declared.head.HeaderRead.TheVariants as heading
 
 -- room of C's after bytes were written there, as many as it has room for
 abbrev pub over : Bytes → Bytes → Bytes
@@ -28,3 +30,9 @@ key_at image at = key_in (drop at image)
 -- whether the pair that begins there has a key below this one
 abbrev pub is_below_at : Bytes → Bytes → ℕ → Bool
 is_below_at image key at = is_below (key_at image at) key
+
+-- the number of a segment with this heading: 0 of one without a whole header
+abbrev pub number_told : HeaderRead → ℕ
+number_told (heading.Whole h) = h.number
+number_told heading.Part = 0
+number_told heading.Bad = 0

@@ -5,7 +5,8 @@
 //! of their keys, as an image in memory of its own: `bw_pairs_in`. From then on it looks up keys
 //! there: `bw_index_of` notes once where each pair begins, and `bw_first_at` finds the first pair at
 //! or above a key. These two take no memory, and read alone what C lends, so any number of threads
-//! may call. Nothing of Rattle's stays behind a call.
+//! may call. Nothing of Rattle's stays behind a call. `bw_number_in` says which segment a file has: by it
+//! C finds whether files that somebody writes are those of one moment.
 //!
 //! An image has all pairs of pages in the order of their keys, each once (`specs/Images.antt`), and
 //! its index goes from pair to pair by their lengths. What no clause says, and the tests of the program
@@ -18,7 +19,8 @@
 
 ghost use Rattle.std.specs.Prelude.{◌≡◌, ◌⊎◌, ◌≤◌, pos, length, true, false, IfOk};
 ghost use Rattle.std.specs.List.Sorted.{IsPartitionedBy, IsPartitionPoint};
-ghost use Rattle.bw_reading.specs.Calls.{is_below_at};
+ghost use Rattle.bw_codec.specs.Reading.{heading_of};
+ghost use Rattle.bw_reading.specs.Calls.{is_below_at, number_told};
 ghost use Rattle.bw_reading.specs.Answers.{IsRefusal};
 ghost use Rattle.bw_reading.specs.Images.{starts_from, IsImageOfPages, IsTold};
 
@@ -27,7 +29,7 @@ mod image;
 mod segments;
 
 use answer::{DONE, Fault};
-use bw_codec::is_before;
+use bw_codec::{HeaderRead, is_before, read_header};
 use image::{Image, end_of, image_of, key_of, write};
 use segments::pages_in;
 use std::alloc::Global;
@@ -75,6 +77,19 @@ pub extern "C" fn bw_pairs_in(
             DONE
         }
         Err(fault) => fault.number(),
+    }
+}
+
+/// The number of the segment whose header these bytes begin with; 0 if they begin with none that is
+/// whole.
+#[unsafe(no_mangle)]
+pub extern "C" fn bw_number_in(bytes: &[u8]) -> u64
+    ensures { result ≡ number_told (heading_of bytes.now) }
+{
+    match read_header(bytes) {
+        HeaderRead::Whole(header) => header.number,
+        HeaderRead::Part => 0,
+        HeaderRead::Bad => 0,
     }
 }
 

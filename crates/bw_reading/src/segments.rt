@@ -87,7 +87,10 @@ fn pages_of(alloc: Global, boxes: Vec<Box<dyn Segment>>) -> Result<Leaves, Fault
     ensures pages { IfOk result (λ leaves. ArePagesOf (map holding boxes.items) leaves.leaves) }
 {
     match recover(alloc, boxes) {
-        Ok(found) => Ok(found.leaves),
+        Ok(found) => match found.warm() {
+            Ok(found) => Ok(found.leaves),
+            Err(refused) => Err(Fault::from(refused.cause)),
+        },
         Err(refused) => {
             let RecoverFault { mut boxes, cause } = refused;
             if matches!(cause, RecoverCause::Empty) && are_begun(&mut boxes) {

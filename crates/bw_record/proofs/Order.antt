@@ -1,6 +1,6 @@
 -- Bytes in order: a below b, and a up to b. All that is said of keys is said by these two words.
 
-use Rattle.std.proofs.Common.{◌≡◌, ◌≢◌, ℕ, zero, suc, ◌*◌, ◌^◌, ◌<◌, ◌≤◌, ◌⊎◌, inl, inr, Bool, true, false, List, [], ◌∷◌, ◌++◌, refl, sym, ap, ◌∙◌, arith}
+use Rattle.std.proofs.Common.{◌≡◌, ◌≢◌, ℕ, zero, suc, ◌*◌, ◌^◌, ◌<◌, ◌≤◌, ◌⊎◌, inl, inr, Bool, true, false, List, [], ◌∷◌, ◌++◌, length, drop, refl, sym, ap, ◌∙◌, arith}
 use Rattle.std.proofs.lemmas.Bool.{true≢false}
 use Rattle.std.proofs.lemmas.List.{append-nil}
 use Rattle.std.proofs.Math.Nat.{mul-le-mul_right}
@@ -227,3 +227,85 @@ below_by_heads a b fits h = below_by_head 8 a b fits h
 
 pub upto_by_heads : (a b : Bytes) → IsBytes b → head a < head b → UpTo a b
 upto_by_heads a b fits h = below_upto a b (below_by_head 8 a b fits h)
+
+-- what stands in front of two keys, and has one head, does not change their order
+pub order_behind_head : (n : ℕ) (a b : Bytes) → IsBytes a → IsBytes b → n ≤ length a → n ≤ length b → big_from 0 n a ≡ big_from 0 n b
+    → order (drop n a) (drop n b) ≡ order a b
+order_behind_head zero a b ours theirs la lb same = refl
+order_behind_head (suc n) [] b ours theirs la lb same = absurd (omega (arith, la))
+order_behind_head (suc n) (x ∷ xs) [] ours theirs la lb same = absurd (omega (arith, lb))
+order_behind_head (suc n) (x ∷ xs) (y ∷ ys) ours theirs la lb same =
+    let a_behind : IsBytes xs = λ i. ours (suc i) in
+    let b_behind : IsBytes ys = λ i. theirs (suc i) in
+    let a_rest : big_from 1 n (x ∷ xs) ≡ big_from 0 n xs = big_from-cons 0 n x xs in
+    let b_rest : big_from 1 n (y ∷ ys) ≡ big_from 0 n ys = big_from-cons 0 n y ys in
+    let a_small : big_from 0 n xs < 256 ^ n = big_from-lt 0 n xs a_behind in
+    let b_small : big_from 0 n ys < 256 ^ n = big_from-lt 0 n ys b_behind in
+    elim (nat_cmp x y) as (λ o. MatchOrdering o (x < y) (x ≡ y) (y < x) → order (drop n xs) (drop n ys) ≡ ordering_then o (order xs ys)) [
+      | Less ↦ λ less. absurd (let top : suc x * 256 ^ n ≤ y * 256 ^ n = mul-le-mul_right (256 ^ n) less in omega arith)
+      | Equal ↦ λ first. order_behind_head n xs ys a_behind b_behind (omega (arith, la)) (omega (arith, lb)) (let e : x * 256 ^ n ≡ y * 256 ^ n = ap (λ (z : ℕ). z * 256 ^ n) first in omega arith)
+      | Greater ↦ λ more. absurd (let top : suc y * 256 ^ n ≤ x * 256 ^ n = mul-le-mul_right (256 ^ n) more in omega arith)
+    ] (ranked x y (nat_cmp x y) refl)
+
+-- keys stand as their heads do, where these differ
+pub order_by_heads : (a b : Bytes) → IsBytes a → IsBytes b → (head a ≡ head b → ⊥) → nat_cmp (head a) (head b) ≡ order a b
+order_by_heads a b ours theirs differ =
+    elim (nat_cmp (head a) (head b)) as (λ o. MatchOrdering o (head a < head b) (head a ≡ head b) (head b < head a) → o ≡ order a b) [
+      | Less ↦ λ less. sym (is_less (order a b) (below_by_heads a b theirs less))
+      | Equal ↦ λ same. absurd (differ same)
+      | Greater ↦ λ more. sym (order-total.antisymm a b ∙ ap ordering_reverse (is_less (order b a) (below_by_heads b a ours more)))
+    ] (ranked (head a) (head b) (nat_cmp (head a) (head b)) refl)
+
+cmp_less : (m n : ℕ) → m < n → nat_cmp m n ≡ Less
+cmp_less m n l =
+    elim (nat_cmp m n) as (λ o. MatchOrdering o (m < n) (m ≡ n) (n < m) → o ≡ Less) [
+      | Less ↦ λ less. refl
+      | Equal ↦ λ same. absurd (omega arith)
+      | Greater ↦ λ more. absurd (omega arith)
+    ] (ranked m n (nat_cmp m n) refl)
+
+cmp_greater : (m n : ℕ) → n < m → nat_cmp m n ≡ Greater
+cmp_greater m n l =
+    elim (nat_cmp m n) as (λ o. MatchOrdering o (m < n) (m ≡ n) (n < m) → o ≡ Greater) [
+      | Less ↦ λ less. absurd (omega arith)
+      | Equal ↦ λ same. absurd (omega arith)
+      | Greater ↦ λ more. refl
+    ] (ranked m n (nat_cmp m n) refl)
+
+cmp_same : (m : ℕ) → nat_cmp m m ≡ Equal
+cmp_same m =
+    elim (nat_cmp m m) as (λ o. MatchOrdering o (m < m) (m ≡ m) (m < m) → o ≡ Equal) [
+      | Less ↦ λ less. absurd (omega arith)
+      | Equal ↦ λ same. refl
+      | Greater ↦ λ more. absurd (omega arith)
+    ] (ranked m m (nat_cmp m m) refl)
+
+cmp_next : (m n : ℕ) → nat_cmp (suc m) (suc n) ≡ nat_cmp m n
+cmp_next m n =
+    elim (nat_cmp m n) as (λ o. MatchOrdering o (m < n) (m ≡ n) (n < m) → nat_cmp (suc m) (suc n) ≡ o) [
+      | Less ↦ λ less. cmp_less (suc m) (suc n) (omega arith)
+      | Equal ↦ λ same. ap (λ (k : ℕ). nat_cmp (suc m) (suc k)) (sym same) ∙ cmp_same (suc m)
+      | Greater ↦ λ more. cmp_greater (suc m) (suc n) (omega arith)
+    ] (ranked m n (nat_cmp m n) refl)
+
+-- of two keys with one head, one of which is shorter than that, the shorter one is below the other
+pub order_by_length : (n : ℕ) (a b : Bytes) → IsBytes a → IsBytes b → (n ≤ length a → length b < n) → big_from 0 n a ≡ big_from 0 n b
+    → nat_cmp (length a) (length b) ≡ order a b
+order_by_length zero a b ours theirs short same = absurd (let no = short (omega arith) in omega arith)
+order_by_length (suc n) [] [] ours theirs short same = refl
+order_by_length (suc n) [] (y ∷ ys) ours theirs short same = cmp_less 0 (suc (length ys)) (omega arith)
+order_by_length (suc n) (x ∷ xs) [] ours theirs short same = cmp_greater (suc (length xs)) 0 (omega arith)
+order_by_length (suc n) (x ∷ xs) (y ∷ ys) ours theirs short same =
+    let a_behind : IsBytes xs = λ i. ours (suc i) in
+    let b_behind : IsBytes ys = λ i. theirs (suc i) in
+    let a_rest : big_from 1 n (x ∷ xs) ≡ big_from 0 n xs = big_from-cons 0 n x xs in
+    let b_rest : big_from 1 n (y ∷ ys) ≡ big_from 0 n ys = big_from-cons 0 n y ys in
+    let a_small : big_from 0 n xs < 256 ^ n = big_from-lt 0 n xs a_behind in
+    let b_small : big_from 0 n ys < 256 ^ n = big_from-lt 0 n ys b_behind in
+    let rest : n ≤ length xs → length ys < n = λ long. (let b_short = short (omega arith) in omega arith) in
+    elim (nat_cmp x y) as (λ o. MatchOrdering o (x < y) (x ≡ y) (y < x) → nat_cmp (suc (length xs)) (suc (length ys)) ≡ ordering_then o (order xs ys)) [
+      | Less ↦ λ less. absurd (let top : suc x * 256 ^ n ≤ y * 256 ^ n = mul-le-mul_right (256 ^ n) less in omega arith)
+      | Equal ↦ λ first. cmp_next (length xs) (length ys) ∙ order_by_length n xs ys a_behind b_behind rest
+          (let e : x * 256 ^ n ≡ y * 256 ^ n = ap (λ (z : ℕ). z * 256 ^ n) first in omega arith)
+      | Greater ↦ λ more. absurd (let top : suc y * 256 ^ n ≤ x * 256 ^ n = mul-le-mul_right (256 ^ n) more in omega arith)
+    ] (ranked x y (nat_cmp x y) refl)

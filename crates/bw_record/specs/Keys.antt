@@ -3,9 +3,13 @@
 use Rattle.std.specs.Prelude.{ℕ, ◌<◌, ◌≤◌, ◌&&◌, Bool, true, List, [], ◌∷◌, get_or, length}
 use Rattle.std.specs.Ordering.{nat_cmp, is_lt}
 use Rattle.std.specs.Cmp.Lexicographic.{slice_cmp}
+use Rattle.std.specs.declared.cmp.Ordering.{Ordering}
 use Rattle.bw_record.specs.Version.{latest, key_limit}
 
 -- keys are ordered by bytes, a beginning before its continuation
+abbrev pub order : List ℕ → List ℕ → Ordering
+order = slice_cmp nat_cmp
+
 abbrev pub is_below : List ℕ → List ℕ → Bool
 is_below a b = is_lt (slice_cmp nat_cmp a b)
 

@@ -7,39 +7,14 @@
 
 ghost use Rattle.std.specs.Prelude.{◌≡◌, ◌≢◌, ℕ, List, ◌≤◌, ◌<◌, ◌++◌, MatchOption, IsTrue, get_or, length, take, drop, insert, remove, slice_set};
 ghost use Rattle.std.specs.List.{AllByRecursion};
-ghost use Rattle.bw_record.specs.Keys.{IsBytes};
+ghost use Rattle.bw_record.specs.Keys.{IsBytes, order};
 ghost use Rattle.bw_record.specs.Heads.{PairList, head, AreBelow, BeginAbove, BeginsWith, IsRow};
 
 use crate::key::is_before;
 use crate::pair::Pair;
 use arrayvec::ArrayVec;
 use std::alloc::Global;
-
-// A byte of a key; zeros stand behind its end.
-fn byte_at(key: &[u8], at: usize) -> u8
-    ensures { result ≡ get_or key.now at 0 }
-{
-    match key.get(at) {
-        Some(byte) => *byte,
-        None => 0,
-    }
-}
-
-// The head of a key of fewer than eight bytes.
-fn short_head(key: &[u8]) -> u64
-    ensures { result ≡ head key.now }
-{
-    u64::from_be_bytes([
-        byte_at(key, 0),
-        byte_at(key, 1),
-        byte_at(key, 2),
-        byte_at(key, 3),
-        byte_at(key, 4),
-        byte_at(key, 5),
-        byte_at(key, 6),
-        byte_at(key, 7),
-    ])
-}
+use std::cmp::Ordering;
 
 /// The head of a key.
 pub fn head_of(key: &[u8]) -> u64
@@ -48,8 +23,55 @@ pub fn head_of(key: &[u8]) -> u64
 {
     match key {
         [a, b, c, d, e, f, g, h, ..] => u64::from_be_bytes([*a, *b, *c, *d, *e, *f, *g, *h]),
-        _ => short_head(key),
+        [a, b, c, d, e, f, g] => u64::from_be_bytes([*a, *b, *c, *d, *e, *f, *g, 0]),
+        [a, b, c, d, e, f] => u64::from_be_bytes([*a, *b, *c, *d, *e, *f, 0, 0]),
+        [a, b, c, d, e] => u64::from_be_bytes([*a, *b, *c, *d, *e, 0, 0, 0]),
+        [a, b, c, d] => u64::from_be_bytes([*a, *b, *c, *d, 0, 0, 0, 0]),
+        [a, b, c] => u64::from_be_bytes([*a, *b, *c, 0, 0, 0, 0, 0]),
+        [a, b] => u64::from_be_bytes([*a, *b, 0, 0, 0, 0, 0, 0]),
+        [a] => u64::from_be_bytes([*a, 0, 0, 0, 0, 0, 0, 0]),
+        [] => 0,
     }
+}
+
+/// How one key stands to another. It looks at eight bytes of each at a time.
+pub fn compare(a: &[u8], b: &[u8]) -> Ordering
+    ensures { result ≡ order a.now b.now }
+{
+    let mut ours = a;
+    let mut theirs = b;
+    'heads: while ours.len() >= 8 && theirs.len() >= 8 {
+        let head = head_of(ours);
+        let other = head_of(theirs);
+        if head != other {
+            return head.cmp(&other);
+        }
+        ours = behind_head(ours);
+        theirs = behind_head(theirs);
+    }
+    compare_short(ours, theirs)
+}
+
+// How two keys stand to one another, of which one has fewer than eight bytes. If their heads are the
+// same, one is the other and zeros, if any.
+fn compare_short(a: &[u8], b: &[u8]) -> Ordering
+    requires { 8 ≤ length a.now → length b.now < 8 }
+    ensures { result ≡ order a.now b.now }
+{
+    let head = head_of(a);
+    let other = head_of(b);
+    if head != other {
+        return head.cmp(&other);
+    }
+    a.len().cmp(&b.len())
+}
+
+// What stands in a key behind its first eight bytes.
+fn behind_head(key: &[u8]) -> &[u8]
+    requires { 8 ≤ length key.now }
+    ensures { result.now ≡ drop 8 key.now }
+{
+    &key[8..]
 }
 
 /// What a search for a key steps over, as far as heads tell.

@@ -4,7 +4,7 @@ ghost use Rattle.std.specs.Prelude.{◌≡◌, ◌≤◌, ◌↔◌, length, IsO
 ghost use Rattle.bw_record.specs.Keys.{is_below, IsBytes};
 ghost use Rattle.bw_record.specs.Heads.{head};
 
-use crate::heads::head_of;
+use crate::heads::{compare, head_of};
 use crate::limits::{MAX_KEY, MAX_VALUE};
 use arrayvec::ArrayVec;
 use std::cmp::Ordering;
@@ -135,5 +135,5 @@ impl Value {
 pub fn is_before(a: &[u8], b: &[u8]) -> bool
     ensures { result ≡ is_below a.now b.now }
 {
-    a.cmp(b) == Ordering::Less
+    compare(a, b) == Ordering::Less
 }

@@ -25,7 +25,7 @@ mod record;
 pub mod version;
 
 pub use block::{Block, Blocks, Frame, Place};
-pub use heads::{Skip, beginning, behind, head_of};
+pub use heads::{Skip, beginning, behind, compare, head_of};
 pub use key::{Key, LengthError, Value, is_before};
 pub use leaf::{Leaf, Low, Pairs};
 pub use ops::Ops;

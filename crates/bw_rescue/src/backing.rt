@@ -62,8 +62,12 @@ pub fn backup<R: System>(
 {
     let target = Target::of(rt, to)?;
     let images = live_images(rt.alloc(), home)?;
-    let judged = judge(rt.alloc(), images.as_slice(), &mut Unseen)?;
+    let _ = judge(rt.alloc(), images.as_slice(), &mut Unseen)?;
+    let wanted = Wanted {
+        images: images.as_slice(),
+        tally: None,
+    };
     let making = target.begin(rt)?;
     making.write(rt, images.as_slice(), &mut Unseen)?;
-    making.end(rt, leases, Wanted::Pages(&judged.leaves), None, &mut Unseen)
+    making.end(rt, leases, wanted, None, &mut Unseen)
 }

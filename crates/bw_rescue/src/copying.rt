@@ -3,7 +3,7 @@
 use crate::compared::Wanted;
 use crate::fault::RescueFault;
 use crate::judged::Judged;
-use crate::reading::{Source, source_of};
+use crate::reading::source_of;
 use crate::target::Target;
 use bw_codec::{HeaderRead, read_header};
 use bw_home::System;
@@ -26,8 +26,8 @@ impl Copied {
     pub(crate) fn of(judged: &Judged) -> Copied {
         Copied {
             frame: judged.found.last,
-            pages: judged.pages(),
-            pairs: judged.pairs(),
+            pages: u64::from(judged.pages),
+            pairs: judged.pairs,
         }
     }
 }
@@ -44,8 +44,9 @@ fn live_of(images: Vec<Image>) -> Result<Vec<Image>, AllocError> {
 }
 
 /// Copies the live segments of a folder, byte by byte, into a new one, with a digest for each of their
-/// pieces, and the times that are noted of its frames. It opens as the store of that moment: its pages
-/// are compared with those of the other one before it gets its name. There are so many leases.
+/// pieces, and the times that are noted of its frames. It opens as the store of that moment:
+/// before it gets its name, its bytes are read again and compared, and recovery has to accept them.
+/// There are so many leases.
 ///
 /// The folder may be one that somebody writes: that moment is one of its frames then, as
 /// `bw_beside::open` has it.
@@ -62,12 +63,12 @@ pub fn copy<R: System, W: Watch>(
     watch: &mut W,
 ) -> Result<Copied, RescueFault> {
     let target = Target::of(rt, to)?;
-    let Source {
-        images,
-        leaves: pages,
-    } = source_of(rt, from, leases, watch)?;
-    let live = live_of(images)?;
+    let live = live_of(source_of(rt, from, leases, watch)?)?;
+    let wanted = Wanted {
+        images: live.as_slice(),
+        tally: None,
+    };
     let making = target.begin(rt)?;
     making.write(rt, live.as_slice(), watch)?;
-    making.end(rt, leases, Wanted::Pages(&pages), Some(from), watch)
+    making.end(rt, leases, wanted, Some(from), watch)
 }

@@ -1,7 +1,6 @@
 //! Why a folder was not verified, copied, salvaged or restored.
 
 use bw_care::RecoverCause;
-use bw_device::{NotMade, NotTaken};
 use bw_file::FolderFault;
 use bw_home::HomeFault;
 use std::alloc::{AllocError, AllocFailed};
@@ -88,24 +87,6 @@ impl From<FolderFault> for RescueFault {
         match fault {
             FolderFault::NoMemory => RescueFault::NoMemory,
             other => RescueFault::Source(other),
-        }
-    }
-}
-
-impl From<NotTaken> for RescueFault {
-    fn from(fault: NotTaken) -> RescueFault {
-        match fault {
-            NotTaken::NoMemory => RescueFault::NoMemory,
-            NotTaken::NoLease => RescueFault::NoLease,
-        }
-    }
-}
-
-impl From<NotMade> for RescueFault {
-    fn from(fault: NotMade) -> RescueFault {
-        match fault {
-            NotMade::NoMemory => RescueFault::NoMemory,
-            NotMade::BadConfig => RescueFault::Recovery(RecoverCause::BadConfig),
         }
     }
 }

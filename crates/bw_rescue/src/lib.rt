@@ -21,6 +21,7 @@ mod restoring;
 mod salvaging;
 mod target;
 mod verifying;
+mod walking;
 mod whole;
 
 pub use backing::backup;

@@ -1,12 +1,11 @@
 //! The segments of a folder that is read, as bytes.
 
 use crate::fault::RescueFault;
-use crate::judged::judge;
-use bw_beside::{Opened, open};
+use crate::judged::{bytes_of, judge};
+use bw_beside::{Ask, Asked, Opened, ask, ask_owned, open};
 use bw_file::{FolderFault, FolderReader};
 use bw_home::System;
 use bw_look::Image;
-use bw_page::Leaves;
 use bw_watch::{Watch, Work, folder_bytes};
 
 /// The lease again, where it is below the number of leases.
@@ -54,33 +53,40 @@ pub(crate) fn sound_images<R: System, W: Watch>(
     images_of(rt, path, &reader, leases, watch)
 }
 
-/// The segments of a folder, and the pages that they hold.
-#[derive(Drop)]
-pub(crate) struct Source {
-    pub(crate) images: Vec<Image>,
-    pub(crate) leaves: Leaves,
+/// Asks the pages of a folder; if somebody writes it, as they stood at one of its frames.
+pub(crate) fn ask_in<R: System, W: Watch, A: Ask<W>>(
+    rt: &R,
+    path: &str,
+    leases: u32,
+    asked: &mut A,
+    watch: &mut W,
+) -> Result<A::Answer, RescueFault> {
+    match ask(rt, path, asked, watch)? {
+        Asked::Alone(reader) => {
+            let images = images_of(rt, path, &reader, leases, watch)?;
+            watch.see(Work::Recovering, 0, bytes_of(images.as_slice()));
+            Ok(ask_owned(rt.alloc(), images, asked, watch)?)
+        }
+        Asked::Beside(answer) => Ok(answer),
+    }
 }
 
-/// The segments of a folder, by their leases, and their pages; as they stood at one of its frames,
-/// where somebody writes it.
+/// The segments of a folder, by their leases, which recovery accepts; as they stood at one of its
+/// frames, if somebody writes it.
 pub(crate) fn source_of<R: System, W: Watch>(
     rt: &R,
     path: &str,
     leases: u32,
     watch: &mut W,
-) -> Result<Source, RescueFault> {
-    let reader = match open(rt, path, watch)? {
-        Opened::Alone(reader) => reader,
-        Opened::Beside(stood) => {
-            return Ok(Source {
-                images: stood.images,
-                leaves: stood.leaves,
-            });
+) -> Result<Vec<Image>, RescueFault> {
+    match open(rt, path, watch)? {
+        Opened::Alone(reader) => {
+            let images = images_of(rt, path, &reader, leases, watch)?;
+            let _ = judge(rt.alloc(), images.as_slice(), watch)?;
+            Ok(images)
         }
-    };
-    let images = images_of(rt, path, &reader, leases, watch)?;
-    let leaves = judge(rt.alloc(), images.as_slice(), watch)?.leaves;
-    Ok(Source { images, leaves })
+        Opened::Beside(stood) => Ok(stood.images),
+    }
 }
 
 /// A segment as it was read, be it damaged or not.

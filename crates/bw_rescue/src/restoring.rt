@@ -68,8 +68,8 @@ fn greatest_page(survey: &Survey) -> u64 {
 /// Refuses a store that lacks a page: where the log had so many pages, a segment with its blocks was
 /// given up since.
 fn with_pages(then: Judged, pages: u64) -> Result<Judged, RescueFault> {
-    if then.pages() < pages {
-        let page = then.leaves.count().saturating_add(1);
+    if u64::from(then.pages) < pages {
+        let page = then.pages.saturating_add(1);
         return Err(RescueFault::Recovery(RecoverCause::Unlawful { page }));
     }
     Ok(then)
@@ -158,7 +158,7 @@ fn of_sound<W: Watch>(
 ) -> Result<Restored, RescueFault> {
     let survey = Survey::of(alloc, images.as_slice())?;
     with_frame(alloc, &survey, &now.found, frame)?;
-    let pages = pages_at(&survey, frame, now.pages());
+    let pages = pages_at(&survey, frame, u64::from(now.pages));
     let cut = cut_at(alloc, images, frame)?;
     let then = with_pages(judge(alloc, cut.as_slice(), watch)?, pages)?;
     Ok(Restored { cut, then })

@@ -1,6 +1,6 @@
 //! What a damaged folder still has goes into a new store.
 
-use crate::compared::Wanted;
+use crate::compared::{Tally, Wanted};
 use crate::copying::Copied;
 use crate::fault::RescueFault;
 use crate::target::Target;
@@ -248,8 +248,14 @@ pub fn salvage<R: System, W: Watch>(
         ..other
     };
     let images = whole(rt.alloc(), leases, &options, pairs.as_slice(), watch)?;
+    let mut tally = Tally::new(rt.alloc());
+    tally.add_all(pairs.as_slice())?;
+    let wanted = Wanted {
+        images: images.as_slice(),
+        tally: Some(&tally),
+    };
     let making = target.begin(rt)?;
     making.write(rt, images.as_slice(), watch)?;
-    let copied = making.end(rt, leases, Wanted::Pairs(pairs.as_slice()), None, watch)?;
+    let copied = making.end(rt, leases, wanted, None, watch)?;
     Ok(Salvaged { copied, losses })
 }

@@ -1,17 +1,20 @@
 //! A new folder. It is made under another name beside, and gets its own at the end: whatever stops
 //! this in between, a part of it is never taken for a store.
 
-use crate::compared::Wanted;
+use crate::compared::{Tally, Wanted, are_same};
 use crate::copying::Copied;
 use crate::fault::RescueFault;
-use crate::judged::{bytes_of, judge};
+use crate::judged::{Judged, bytes_of, judge_owned};
 use crate::reading::sound_images;
+use crate::walking::TallyOf;
+use bw_beside::ask_owned;
 use bw_file::{Folder, FolderFault};
 use bw_home::System;
 use bw_look::Image;
 use bw_partial::{begin, ends_of, is_left, partial_of, refuse_there};
 use bw_times::carry;
 use bw_watch::{Watch, Work};
+use std::alloc::Global;
 use std::io::{self, ErrorKind};
 
 /// A new folder, and the one in which it is to be made.
@@ -49,6 +52,24 @@ fn write_images<R: System, W: Watch>(
         watch.see(Work::Writing, done, all);
     }
     Ok(())
+}
+
+/// What recovery says of segments that were written and read again. Their pairs have this tally, if there
+/// is one.
+fn judge_again<W: Watch>(
+    alloc: Global,
+    images: Vec<Image>,
+    tally: Option<&Tally>,
+    watch: &mut W,
+) -> Result<Judged, RescueFault> {
+    let Some(wanted) = tally else {
+        return judge_owned(alloc, images, watch);
+    };
+    let (judged, found) = ask_owned(alloc, images, &mut TallyOf { alloc }, watch)??;
+    if !wanted.is_same(&found) {
+        return Err(RescueFault::Unlike);
+    }
+    Ok(judged)
 }
 
 impl Target {
@@ -110,11 +131,10 @@ impl Making {
             Err(RescueFault::Source(fault)) => return Err(RescueFault::Partial(fault)),
             Err(fault) => return Err(fault),
         };
-        let judged = judge(rt.alloc(), images.as_slice(), watch)?;
-        if !wanted.is(rt.alloc(), &judged)? {
+        if !are_same(wanted.images, images.as_slice()) {
             return Err(RescueFault::Unlike);
         }
-        let copied = Copied::of(&judged);
+        let copied = Copied::of(&judge_again(rt.alloc(), images, wanted.tally, watch)?);
         if let Some(from) = noted {
             let _ = carry(rt, from, self.partial(), copied.frame);
         }

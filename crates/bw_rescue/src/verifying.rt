@@ -1,7 +1,7 @@
 //! A folder is verified: its digests first, and then by recovery.
 
 use crate::fault::RescueFault;
-use crate::judged::{bytes_of, judge};
+use crate::judged::{bytes_of, judge_owned};
 use crate::reading::allowed;
 use bw_beside::{Opened, Stood, open};
 use bw_codec::limits::HEADER_LEN;
@@ -182,11 +182,17 @@ pub fn verify<R: System, W: Watch>(
     if !walk.hurts.is_empty() {
         return Ok(Verdict::Hurt(walk.hurts));
     }
-    let found = judge(rt.alloc(), walk.images.as_slice(), watch)?.found;
+    let Walk {
+        images,
+        hurts: _,
+        bytes,
+        unsummed,
+    } = walk;
+    let found = judge_owned(rt.alloc(), images, watch)?.found;
     Ok(Verdict::Whole(Verified {
         segments: u64::from(found.live),
         frames: found.last.saturating_sub(found.first).saturating_add(1),
-        bytes: walk.bytes,
-        unsummed: walk.unsummed,
+        bytes,
+        unsummed,
     }))
 }

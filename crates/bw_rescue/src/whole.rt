@@ -24,7 +24,7 @@ impl From<WholeFault> for RescueFault {
 }
 
 /// Puts a pair.
-fn put(writer: &mut Writer, pair: &Pair) -> Result<(), RescueFault> {
+pub(crate) fn put(writer: &mut Writer, pair: &Pair) -> Result<(), RescueFault> {
     match writer.put(pair.copy()?) {
         Ok(()) => Ok(()),
         Err(refused) => Err(RescueFault::from(refused.cause)),
@@ -60,7 +60,7 @@ fn add(images: &mut Vec<Image>, bytes: Vec<u8>, leases: u32) -> Result<(), Rescu
 }
 
 /// The segments of a log, and spares after them, so that there are as many as are wanted.
-fn leased(
+pub(crate) fn leased(
     alloc: Global,
     segments: Vec<Vec<u8>>,
     wanted: u32,
@@ -76,6 +76,16 @@ fn leased(
     Ok(images)
 }
 
+/// A writer of a new store by these options.
+pub(crate) fn writer_of(alloc: Global, options: &Options) -> Result<Writer, RescueFault> {
+    Ok(Writer::new(
+        alloc,
+        options.pairs_a_page,
+        options.frame_bytes,
+        options.capacity,
+    )?)
+}
+
 /// The segments of a new store by these options, with these pairs, whose keys ascend. There are so
 /// many leases.
 pub(crate) fn whole<W: Watch>(
@@ -85,12 +95,7 @@ pub(crate) fn whole<W: Watch>(
     pairs: &[Pair],
     watch: &mut W,
 ) -> Result<Vec<Image>, RescueFault> {
-    let mut writer = Writer::new(
-        alloc,
-        options.pairs_a_page,
-        options.frame_bytes,
-        options.capacity,
-    )?;
+    let mut writer = writer_of(alloc, options)?;
     put_all(&mut writer, pairs, watch)?;
     leased(alloc, writer.end()?, options.segments, leases)
 }

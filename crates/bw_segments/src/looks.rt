@@ -6,10 +6,8 @@ use crate::images::{bytes_in, images, images_stood};
 use crate::judged::{Judged, judge};
 use crate::numbers::write_numbers;
 use bw_care::RecoverCause;
-use bw_codec::Leaf;
 use bw_file::FolderFault;
 use bw_look::{Counts, Image, Printer, Scene, Survey, write_counts, write_image, write_picture};
-use bw_page::Leaves;
 use bw_times::notes_in;
 use bw_watch::{Watch, Work};
 use bw_words::{Met, Miss, Refusal, Stop, System, View, missed, refuse};
@@ -17,34 +15,12 @@ use std::alloc::{AllocError, Global};
 use std::fs;
 use std::io::{Read, Write};
 
-/// How many bytes a page has as a Base: a pair is its key and value, with one byte for the length of
-/// the key and two for that of the value.
-fn base_length(leaf: &Leaf) -> u64 {
-    let mut length = 8 + leaf.low.as_slice().len() as u64;
-    for pair in leaf.pairs.as_slice() {
-        let cells = 3 + pair.key().len() as u64 + pair.value().len() as u64;
-        length = length.saturating_add(cells);
-    }
-    length
-}
-
-/// How many bytes the Base of each page would have, from page 1 on.
-fn lengths_of(alloc: Global, leaves: &Leaves) -> Result<Vec<u64>, AllocError> {
-    let mut lengths = Vec::new(alloc);
-    for index in 0..leaves.count() {
-        if let Some(leaf) = leaves.page(index.saturating_add(1)) {
-            lengths.push(base_length(leaf))?;
-        }
-    }
-    Ok(lengths)
-}
-
 fn counts_of(judged: &Judged) -> Counts {
     Counts {
         spares: u64::from(judged.found.spares),
         tail: judged.found.tail,
-        pages: judged.pages(),
-        pairs: judged.pairs(),
+        pages: judged.pages,
+        pairs: judged.pairs,
         first: judged.found.first,
         last: judged.found.last,
     }
@@ -92,14 +68,13 @@ fn count_images<O: Write>(
         Ok(judged) => judged,
         Err(miss) => return missed(output, 0, miss),
     };
-    let lengths = lengths_of(alloc, &judged.leaves)?;
     let survey = Survey::of(alloc, images)?;
     let counts = counts_of(&judged);
     if is_json {
-        return print_numbers(alloc, &survey, counts, lengths.as_slice(), output);
+        return print_numbers(alloc, &survey, counts, judged.lengths.as_slice(), output);
     }
     let mut out = Printer::new(output);
-    write_counts(&mut out, &survey, counts, lengths.as_slice());
+    write_counts(&mut out, &survey, counts, judged.lengths.as_slice());
     out.end()?;
     Ok(Met::NOTHING)
 }
@@ -124,21 +99,6 @@ fn print_numbers<O: Write>(
     Ok(Met::NOTHING)
 }
 
-/// How many pages have no pair, how many have one, and so on, up to the most that a page holds.
-fn fills_of(alloc: Global, survey: &Survey, leaves: &Leaves) -> Result<Vec<u64>, AllocError> {
-    let most = survey.segments().first().map_or(0, |row| row.m);
-    let mut fills: Vec<u64> = Vec::new(alloc);
-    fills.resize(usize::from(most).saturating_add(1), 0)?;
-    for index in 0..leaves.count() {
-        if let Some(leaf) = leaves.page(index.saturating_add(1)) {
-            if let Some(pages) = fills.get_mut(leaf.pairs.as_slice().len()) {
-                *pages = pages.saturating_add(1);
-            }
-        }
-    }
-    Ok(fills)
-}
-
 /// Draws segments, once recovery has found them to be those of a log. Each has room for so many bytes.
 fn draw_images<O: Write>(
     alloc: Global,
@@ -151,14 +111,12 @@ fn draw_images<O: Write>(
         Err(miss) => return missed(output, 0, miss),
     };
     let survey = Survey::of(alloc, images)?;
-    let fills = fills_of(alloc, &survey, &judged.leaves)?;
-    let lengths = lengths_of(alloc, &judged.leaves)?;
     let scene = Scene {
         spares: u64::from(judged.found.spares),
-        pages: judged.pages(),
-        pairs: judged.pairs(),
-        fills: fills.as_slice(),
-        lengths: lengths.as_slice(),
+        pages: judged.pages,
+        pairs: judged.pairs,
+        fills: judged.fills.as_slice(),
+        lengths: judged.lengths.as_slice(),
         room,
     };
     let mut out = Printer::new(output);

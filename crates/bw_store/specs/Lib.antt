@@ -2,6 +2,7 @@
 pub mod Kept
 pub mod Views
 pub mod Opened
+pub mod Handing
 pub mod Following
 pub mod Reading
 pub mod Going

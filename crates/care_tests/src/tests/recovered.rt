@@ -1,6 +1,6 @@
 //! What recovery says of worked boxes.
 
-ghost use Rattle.bw_care.specs.Views.{IsSound};
+ghost use Rattle.bw_care.specs.Found.{IsRecovered};
 
 use super::boxes::{
     Yard, add_box, add_boxes, add_kept, add_piece, add_pieces, all_out, empty_yard,
@@ -329,9 +329,25 @@ const OLD_SPARES: &[Row] = &[
     ),
 ];
 
+// Whether no page is in memory, and all of them are shown so once they are brought there.
+fn are_read(found: bw_care::Recovered, pages: &str) -> bool
+    requires { IsRecovered (λ b. holding (b.vtable, b.value)) found }
+{
+    let is_away = !found.leaves.is_here(1);
+    match found.warm() {
+        Ok(found) => is_away && are_shown(&found.leaves, pages),
+        Err(_) => false,
+    }
+}
+
+// How many pairs are told of: each has one sign of equality.
+fn pairs_in(pages: &str) -> u64 {
+    pages.bytes().filter(|byte| *byte == b'=').count() as u64
+}
+
 // Whether it was found as told, where it was; the desk tells how many boxes were dropped.
-fn is_found(found: &bw_care::Recovered, returned: u32, told: &Told) -> bool
-    requires { IsSound found.now.log holding }
+fn is_found(found: bw_care::Recovered, returned: u32, told: &Told) -> bool
+    requires { IsRecovered (λ b. holding (b.vtable, b.value)) found }
 {
     match told {
         Found(first, last, tail, live, spares, dropped, pages) => {
@@ -342,7 +358,7 @@ fn is_found(found: &bw_care::Recovered, returned: u32, told: &Told) -> bool
                 found.dropped,
                 returned,
             ] == [*live, *spares, *dropped, *dropped];
-            numbers && counts && are_shown(&found.leaves, pages)
+            numbers && counts && found.pairs == pairs_in(pages) && are_read(found, pages)
         }
         Fault(_) => false,
     }
@@ -417,7 +433,7 @@ fn is_told(alloc: Global, yard: &mut Yard, told: &Told) -> bool {
     let boxes = all_out(yard);
     let count = boxes.len();
     match recover(alloc, boxes) {
-        Ok(found) => is_found(&found, yard.desk.collect(), told),
+        Ok(found) => is_found(found, yard.desk.collect(), told),
         Err(fault) => {
             let back = fault.boxes.len() == count && yard.desk.collect() == 0;
             match told {

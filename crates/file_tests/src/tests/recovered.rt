@@ -1,6 +1,6 @@
 //! What recovery says of files: of worked ones, of what a store left, and of what a cleaning left.
 
-ghost use Rattle.bw_care.specs.Views.{IsSound};
+ghost use Rattle.bw_care.specs.Found.{IsRecovered};
 
 use super::steps::Act::{Bytes, Cleans, Make, Tells};
 use super::steps::Told::Done;
@@ -182,8 +182,8 @@ fn is_page(leaves: &Leaves, told: &[(&'static str, &'static str)]) -> bool {
 }
 
 // Whether it was found as told.
-fn is_found(found: &Recovered, told: &Said) -> bool
-    requires { IsSound found.now.log holding }
+fn is_found(found: Recovered, told: &Said) -> bool
+    requires { IsRecovered (λ b. holding (b.vtable, b.value)) found }
 {
     let Found(first, last, tail, live, spares, dropped, pairs) = told else {
         return false;
@@ -192,7 +192,11 @@ fn is_found(found: &Recovered, told: &Said) -> bool
     let counts = (found.log.live() == *live)
         & (found.log.spares() == *spares)
         & (found.dropped == *dropped);
-    numbers & counts & is_page(&found.leaves, *pairs)
+    let is_shown = match found.warm() {
+        Ok(found) => is_page(&found.leaves, *pairs),
+        Err(_) => false,
+    };
+    numbers & counts & is_shown
 }
 
 fn is_fault(cause: RecoverCause, act: &Act) -> bool {
@@ -210,9 +214,12 @@ fn goes_with(
     act: &Act,
 ) -> bool {
     match recover(rt.alloc(), boxes) {
-        Ok(mut found) => match act {
-            Tells(_, told) => is_found(&found, told),
-            Cleans(empties) => is_given_up(rt, folder, &mut found.log, *empties),
+        Ok(found) => match act {
+            Tells(_, told) => is_found(found, told),
+            Cleans(empties) => {
+                let mut found = found;
+                is_given_up(rt, folder, &mut found.log, *empties)
+            }
             _ => false,
         },
         Err(fault) => is_fault(fault.cause, act),

@@ -4,7 +4,7 @@ ghost use Rattle.bw_care.specs.Views.{IsSound};
 ghost use Rattle.bw_log.specs.Views.{IsSound as IsSoundBeside};
 
 use super::boxes::{Supply, supplied};
-use super::recovering::{found_in, recovered};
+use super::recovering::{found_in, recovered, warmed};
 use bw_care::{CleanFault, Cleaned, Upgraded, clean, upgrade};
 use bw_device::Segment;
 use bw_log::{Log, LogFault};
@@ -265,8 +265,15 @@ fn scanned(alloc: Global) -> Option<Try> {
     let Supply { boxes, desk: _desk } = supply;
     let (first, found) = recovered(alloc, boxes)?;
     let is_told = (found.first, found.last, found.tail, found.dropped) == (1, 3, 0, 1);
+    let (second, found) = warmed(alloc, found)?;
     match found.leaves.page(1) {
-        Some(leaf) if is_told && shows(leaf, b": j=2 k=3") => Some(first),
+        Some(leaf) if is_told && shows(leaf, b": j=2 k=3") => {
+            if first == Try::Went {
+                Some(second)
+            } else {
+                then(first, Some(second))
+            }
+        }
         _ => None,
     }
 }

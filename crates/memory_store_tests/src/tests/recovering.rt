@@ -49,3 +49,23 @@ pub(super) fn recovered(alloc: Global, boxes: Vec<Box<dyn Segment>>) -> Option<(
         }
     }
 }
+
+/// What was recovered, with each page in memory, brought there in a window, once more where memory was
+/// refused: what was recovered came back then. None where it is otherwise.
+pub(super) fn warmed(alloc: Global, found: Recovered) -> Option<(Try, Recovered)>
+    requires { IsRecovered (λ b. holding (b.vtable, b.value)) found }
+    ensures { IfSome result (λ r. IsRecovered (λ b. holding (b.vtable, b.value)) r.1) }
+{
+    begin(alloc);
+    let answer = found.warm();
+    let refused = end(alloc);
+    match answer {
+        Ok(found) => Some((if refused { Try::Spared } else { Try::Went }, found)),
+        Err(fault) => {
+            if fault.cause != RecoverCause::NoMemory || !refused {
+                return None;
+            }
+            Some((Try::Refused, fault.recovered.warm().ok()?))
+        }
+    }
+}

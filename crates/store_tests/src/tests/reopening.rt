@@ -1,11 +1,16 @@
 //! A store is opened again over the bytes of worked segments: the tables.
 
-use super::walking::{Stand, Tables, all_go};
+use super::opening::{reopened, shut};
+use super::telling::went;
+use super::walking::{Stand, Tables, all_go, recovered_from, with_bytes, wrong_step};
 use bw_store::StoreFault;
+use std::sync::Wait;
 use test_subjects::steps::Step;
 use test_subjects::steps::Step::{
-    Bytes, Clean, Cuts, Flush, Get, History, Live, Page, Put, Refused, Roll, Settle, Stands,
+    Bytes, Clean, Cuts, Evict, Flush, Get, History, Live, Page, Put, Refused, Roll, Settle, Stands,
+    Taken,
 };
+use test_subjects::subject::Over;
 use test_vectors::{FIRST, GREATEST, THIRD_NEWER, THIRD_OLDER};
 
 /// After the first worked segment: frame 2 in a segment of its own has the bytes of the third.
@@ -52,4 +57,46 @@ const TABLES: &[Tables] = &[
 #[test]
 fn a_store_goes_on_from_worked_segments(rt: HostRuntime) {
     all_go(&rt, TABLES);
+}
+
+/// No page is in memory. One that is asked for is read and does not stay; one that a record changes
+/// is brought back.
+const AWAY: &[Step] = &[
+    Evict(1, Ok(false)),
+    Page(1, "1 : j=2 k=3"),
+    Get(b"j", b"2"),
+    Get(b"x", b""),
+    Evict(1, Ok(false)),
+    Taken(b"l", b"4"),
+    Page(1, "1 : j=2 k=3 l=4"),
+    Flush(Some(5)),
+    Evict(1, Ok(true)),
+    Get(b"l", b"4"),
+    Clean(2, 0, 0, 0),
+    Page(1, "1 : j=2 k=3 l=4"),
+];
+
+// The first step that does not go as told over a core that begins without its pages.
+fn away<R: AllocGlobal + Wait>(rt: &R, texts: &[&'static str], steps: &[Step]) -> Option<usize> {
+    let Some(mut supply) = with_bytes(rt.alloc(), texts, 2) else {
+        return Some(0);
+    };
+    let Some(recovered) = recovered_from(rt.alloc(), &mut supply) else {
+        return Some(0);
+    };
+    let Some(mut opened) = reopened(rt, Over::Core, recovered, 8, &mut supply) else {
+        return Some(0);
+    };
+    let wrong = wrong_step(rt, &mut opened, steps);
+    let _ = shut(rt, opened, &mut supply);
+    wrong
+}
+
+#[test]
+fn a_core_begins_without_its_pages(rt: HostRuntime) {
+    went(
+        &rt,
+        Over::Core,
+        away(&rt, &[THIRD_OLDER, THIRD_NEWER], AWAY),
+    );
 }

@@ -72,8 +72,9 @@ pub(super) fn recovered_from(alloc: Global, supply: &mut Supply) -> Option<Recov
     }
 }
 
-/// The same over a store of what is recovered from these boxes, frames 1 to `last`; where it is not
-/// told, any.
+/// The steps over a core or a store of what is recovered from these boxes, with each page in memory:
+/// the first step that did not go as told, and the first one if there was none to walk them over.
+/// Recovery finds frames 1 to `last`, or any if it is `None`.
 pub(super) fn lives_on<R: AllocGlobal + Wait>(
     rt: &R,
     over: Over,
@@ -87,6 +88,9 @@ pub(super) fn lives_on<R: AllocGlobal + Wait>(
     if !are_found(&recovered, last) {
         return Some(0);
     }
+    let Ok(recovered) = recovered.warm() else {
+        return Some(0);
+    };
     let Some(mut opened) = reopened(rt, over, recovered, 8, supply) else {
         return Some(0);
     };
@@ -131,8 +135,8 @@ fn over_fuses<R: AllocGlobal + Wait>(
     None
 }
 
-// A box for each of these texts in hex, and so many spares.
-fn with_bytes(alloc: Global, texts: &[&'static str], spares: u32) -> Option<Supply> {
+/// A box for each of these texts in hex, and so many spares.
+pub(super) fn with_bytes(alloc: Global, texts: &[&'static str], spares: u32) -> Option<Supply> {
     let mut maker = maker_of(alloc, LEAST)?;
     let mut boxes: Vec<Box<dyn Segment>> = Vec::new(alloc);
     for text in texts {

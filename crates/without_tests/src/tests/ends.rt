@@ -252,6 +252,7 @@ fn log_is_adopted(alloc: Global) -> Option<bool> {
     let Recovered {
         log,
         leaves: _leaves,
+        pairs: _pairs,
         first: _first,
         last: _last,
         tail: _tail,

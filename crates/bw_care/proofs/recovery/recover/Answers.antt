@@ -1,9 +1,10 @@
-use Rattle.std.proofs.Common.{refl, sym, ap, ◌∙◌, subst, arith}
+use Rattle.std.proofs.Common.{refl, sym, ap, ◌∙◌, subst, arith, rules}
 use Rattle.bw_page.specs.Standing.{Stand}
 use Rattle.bw_log.specs.Contents.{Contents, counted, IsSound}
 use Rattle.bw_log.specs.Places.{first_number}
 use Rattle.bw_care.specs.Recovery.{last_number}
 use Rattle.bw_care.proofs.BoxesMoved.{moved, few_moved, adopted_moved}
+use Rattle.bw_care.proofs.Warmed.{numbered_found}
 use Rattle.bw_care.proofs.recovery.recover.Goals as goal
 
 pub boxes_of-live-requires-clause-room : goal.boxes_of-live-requires-clause-room
@@ -28,7 +29,6 @@ returns-in-Ok-prepare-clause-recovered g c =
     record {
       sound = c.adopt-log.ensures.sound;
       stands = subst (λ (k : Contents). Stand c.in-Ok-prepare.findings.leaves.m (counted k) c.in-Ok-prepare.findings.leaves.leaves) (sym same) findings.stands;
-      here = findings.here;
       first = ap (λ (k : Contents). first_number (counted k)) same ∙ findings.begins;
       last = ap (λ (k : Contents). last_number (counted k)) same ∙ findings.ends;
     }
@@ -47,3 +47,13 @@ returns-in-Ok-prepare-clause-limit g c = ap (λ (k : Contents). k.f) c.adopt-log
 
 pub returns-in-Ok-prepare-clause-pairs : goal.returns-in-Ok-prepare-clause-pairs
 returns-in-Ok-prepare-clause-pairs g c = ap (λ (k : Contents). k.m) c.adopt-log.ensures.made ∙ c.in-Ok-prepare.ensures.findings.page_limit
+
+pub invariant_of-result : goal.invariant_of-result
+invariant_of-result g c = record {
+  follows = search rules;
+  works = search rules;
+  limit = search rules;
+  pages = search rules;
+  counts = c.in-Ok-prepare.ensures.findings.counts;
+  numbered = numbered_found c.in-Ok-prepare.findings.leaves c.in-Ok-prepare.ensures.findings.away;
+}

@@ -38,4 +38,4 @@ returns-clause-findings g c =
     planned_all _ c.args.survey c.requires c.in_ok-leaves.field-0 c.first_of-first.result c.last_of-last.result
     (first_is _ c.args.survey c.requires _ _ c.first_of-first.ensures c.deref.ensures.value)
     (last_is _ c.args.survey c.requires _ _ c.last_of-last.ensures c.deref-2.ensures.value) read.linked
-    (c.in_ok-leaves.ensures.right _ y.frames read.lines) c.in_ok-leaves.ensures.here
+    (c.in_ok-leaves.ensures.right _ y.frames read.lines) c.in_ok-leaves.ensures.away

@@ -1,7 +1,7 @@
 use Rattle.std.proofs.Common.{◌+◌, sym, ap, ◌∙◌, arith}
 use Rattle.std.specs.FinMap as finite
 use Rattle.bw_leaf.specs.Changed.{Map}
-use Rattle.bw_core.proofs.Counted.{counted, pairs_more, total_all, total_few, total_none}
+use Rattle.bw_page.proofs.Counted.{counted, pairs_more, total_all, total_few, total_none}
 use Rattle.bw_core.proofs.LookingMore.{reads_behind, reads_no_more, stays_on, stays_yet}
 use Rattle.bw_core.proofs.store.Core.count.Goals as goal
 

@@ -1,5 +1,5 @@
 use Rattle.std.proofs.Common.{◌≡◌}
-use Rattle.bw_core.proofs.Counted.{total}
+use Rattle.bw_page.proofs.Counted.{total}
 use Rattle.bw_core.proofs.LookingMore.{Stays}
 use Rattle.bw_core.proofs.store.Core.count.Given as goal
 

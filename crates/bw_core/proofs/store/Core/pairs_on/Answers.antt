@@ -2,7 +2,7 @@ use Rattle.std.proofs.Common.{length, ap, sym, ◌∙◌, arith}
 use Rattle.std.specs.Option.{option_copied}
 use Rattle.bw_leaf.specs.Changed.{Pairs}
 use Rattle.bw_core.proofs.EvictedPages.{none_evicted, was_evicted}
-use Rattle.bw_core.proofs.Counted.{pairs_at}
+use Rattle.bw_page.proofs.Counted.{pairs_at}
 use Rattle.bw_core.proofs.store.Core.pairs_on.Goals as goal
 
 pub returns-in_err-leaf-clause-memory : goal.returns-in_err-leaf-clause-memory

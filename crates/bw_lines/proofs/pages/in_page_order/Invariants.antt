@@ -1,8 +1,0 @@
-use Rattle.std.proofs.Common.{◌≡◌, ◌++◌, length}
-use Rattle.bw_lines.proofs.pages.in_page_order.Given as goal
-
-abbrev pub invariant-next : goal.invariant-next
-invariant-next l = l.pages.items ++ l.lines.entries ≡ l.initial.lines.entries
-
-abbrev pub decreases-next : goal.decreases-next
-decreases-next l = length l.lines.entries
