@@ -7,10 +7,15 @@ ghost use Rattle.bw_bench.specs.Lent.{Keeps};
 
 use crate::asking::{evict_all, get_all, read_all, read_back, reader_of};
 use crate::batches::{bytes_of, put_script};
+use crate::bench::Bench;
 use crate::beside::{end_if, start_if};
+use crate::cost::Cost;
+use crate::report::Seen;
+use crate::shape::{Span, WHOLE};
+use crate::stop::Stop;
 use crate::subject::Subject;
 use crate::walks::walks;
-use bw_load::{Bench, Cost, Seen, Span, Stop, WHOLE, resident};
+use crate::watch::resident;
 use bw_ring::Feed;
 use bw_store::Store;
 use std::sync::Wait;

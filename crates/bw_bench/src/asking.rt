@@ -3,8 +3,10 @@
 ghost use Rattle.bw_store.specs.Views.{IsSound};
 ghost use Rattle.bw_bench.specs.Lent.{Keeps};
 
+use crate::bench::Bench;
+use crate::stop::Stop;
+use crate::watch::Meter;
 use bw_codec::Value;
-use bw_load::{Bench, Meter, Stop};
 use bw_store::{ReadFault, Reader, Store};
 
 /// The value of a put's key.

@@ -4,11 +4,16 @@
 ghost use Rattle.bw_core.specs.Views.{IsSound};
 
 use crate::batches::put_all;
+use crate::bench::Bench;
+use crate::cost::Cost;
+use crate::segments::{CAPACITY, count_of, memory};
+use crate::shape::{Span, WHOLE};
+use crate::stop::Stop;
+use crate::watch::{Meter, resident};
 use bw_codec::Record;
 use bw_codec::limits::{MAX_PAIRS, MIN_FRAME};
 use bw_core::{Config, Core};
 use bw_device::{Desk, Segment};
-use bw_load::{Bench, CAPACITY, Cost, Meter, Span, Stop, WHOLE, count_of, memory, resident};
 use bw_ring::Feed;
 
 // Takes so many records, each in a group of its own, and flushes.

@@ -5,8 +5,11 @@ ghost use Rattle.bw_ring.specs.Ends.{ring_of_feed};
 ghost use Rattle.bw_store.specs.Views.{IsSound};
 ghost use Rattle.bw_bench.specs.Lent.{Keeps};
 
+use crate::bench::Bench;
+use crate::cost::Cost;
+use crate::stop::Stop;
+use crate::watch::Meter;
 use bw_codec::Record;
-use bw_load::{Bench, Cost, Meter, Stop};
 use bw_ring::Feed;
 use bw_store::Store;
 use std::sync::Wait;

@@ -4,7 +4,10 @@ ghost use Rattle.bw_store.specs.Views.{IsSound};
 ghost use Rattle.bw_bench.specs.Lent.{Keeps};
 
 use crate::asking::reader_of;
-use bw_load::{Bench, Seen, Shape, Stop};
+use crate::bench::Bench;
+use crate::report::Seen;
+use crate::shape::Shape;
+use crate::stop::Stop;
 use bw_store::{Reader, Store};
 use std::thread;
 use std::thread::{JoinHandle, Threads};

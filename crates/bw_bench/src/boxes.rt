@@ -2,11 +2,13 @@
 
 ghost use Rattle.bw_bench.specs.Lent.{AreReady};
 
+use crate::bench::Bench;
+use crate::options::Options;
 use crate::reopened::reopened;
+use crate::segments::{CAPACITY, count_of, memory};
 use crate::subject::{Course, Subject};
 use bw_codec::limits::MIN_FRAME;
 use bw_device::{Desk, Segment};
-use bw_load::{Bench, CAPACITY, Options, count_of, memory};
 use bw_ring::Feed;
 use bw_store::{Config, Store};
 use std::sync::Wait;

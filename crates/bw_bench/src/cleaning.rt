@@ -3,11 +3,13 @@
 
 ghost use Rattle.bw_care.specs.Views.{IsSound};
 
+use crate::bench::Bench;
+use crate::segments::memory;
+use crate::stop::Stop;
 use bw_care::{clean, recover};
 use bw_codec::limits::{LATEST, MIN_FRAME};
 use bw_codec::{Header, encode_frame_head, encode_header};
 use bw_device::{Desk, Segment};
-use bw_load::{Bench, Stop, memory};
 use bw_log::Log;
 use std::alloc::{AllocError, Global};
 

@@ -4,11 +4,13 @@ ghost use Rattle.std.specs.Prelude.{◌≡◌, vec_len, IfSome};
 ghost use Rattle.bw_bench.specs.Lent.{AreReady};
 
 use crate::asking::read_back;
+use crate::bench::Bench;
 use crate::beside::{end_if, start_if};
+use crate::report::Seen;
+use crate::shape::{Part, Span};
 use crate::subject::Subject;
 use bw_codec::Record;
 use bw_drive::{OpenGate, Plan, drive};
-use bw_load::{Bench, Part, Seen, Span};
 use bw_ring::{Feed, Group};
 use bw_store::Store;
 use std::alloc::{AllocError, Global};

@@ -1,13 +1,15 @@
 //! Segments in files: appends with their sync, and a store in a folder, opened again.
 
+use crate::bench::Bench;
 use crate::boxes::{READERS, writers_of};
 use crate::reopened::tell_opened;
+use crate::segments::{CAPACITY, count_of};
+use crate::stop::Stop;
 use crate::subject::{Course, Subject};
 use bw_codec::limits::{MAX_PAIRS, MIN_FRAME};
 use bw_device::{Desk, MAX_LEASES, Segment};
 use bw_file::{FileSegment, Folder};
 use bw_home::{Options, SharedHome, SharedLegs, System, with_readers};
-use bw_load::{Bench, CAPACITY, Stop, count_of};
 use std::thread::Threads;
 
 /// What is appended: as it is told, and its bytes.

@@ -3,31 +3,42 @@
 //! `bw_bench` runs the subjects of `subject` one after the other, each over a store of its own, and
 //! prints what each did and what it read back. With `--times` it also prints nanoseconds and bytes,
 //! and with `--dir` its segments stand in files.
-//! Keys are 8 bytes, behind those that all share, and come in a scattered order; `bw_load::Shape`
-//! says which value each put has.
+//! Keys are 8 bytes, behind those that all share, and come in a scattered order; `shape` says which
+//! key and value each put has. A `Bench` is what each subject is given: the system, the options and a
+//! clock. By it a subject tells counts and times, and why it goes no further.
 #![tactic(auto)]
 
 mod alone;
 mod asking;
 mod bare;
 mod batches;
+mod bench;
 mod beside;
 mod boxes;
 mod cleaning;
+mod cost;
 mod driven;
 mod folders;
+mod options;
 mod pages;
 mod reopened;
+mod report;
+mod segments;
+mod shape;
 mod steady;
+mod stop;
 mod subject;
 mod walks;
+mod watch;
 
+use bench::Bench;
 use bw_home::System;
-use bw_load::{Bench, Stop, is_memory, options_of};
 use clap::Error;
+use options::{is_memory, options_of};
 use std::io;
 use std::process::ExitCode;
 use std::thread::Threads;
+use stop::Stop;
 use subject::run;
 
 /// The words after the program's name.

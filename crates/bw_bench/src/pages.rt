@@ -2,8 +2,11 @@
 
 ghost use Rattle.std.specs.Prelude.{◌≡◌, []};
 
+use crate::bench::Bench;
+use crate::shape::{Shape, Span, WHOLE};
+use crate::stop::Stop;
+use crate::watch::resident;
 use bw_codec::{Packed, Record};
-use bw_load::{Bench, Shape, Span, Stop, WHOLE, resident};
 use bw_page::{ApplyError, Leaves};
 
 fn apply_all(bench: &Bench, leaves: &mut Leaves, script: &[Record]) -> Option<()>

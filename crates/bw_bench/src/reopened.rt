@@ -5,9 +5,10 @@ ghost use Rattle.bw_bench.specs.Lent.{Keeps};
 
 use crate::asking::read_back;
 use crate::batches::bytes_of;
+use crate::bench::Bench;
+use crate::stop::Stop;
 use bw_care::recover;
 use bw_device::Segment;
-use bw_load::{Bench, Stop};
 use bw_store::Store;
 use std::sync::Wait;
 

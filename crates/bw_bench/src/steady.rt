@@ -3,10 +3,12 @@
 
 ghost use Rattle.bw_home.specs.Ready.{IsReady};
 
+use crate::bench::Bench;
 use crate::folders::must_be_new;
+use crate::stop::Stop;
+use crate::watch::{Meter, resident};
 use bw_codec::Record;
 use bw_home::{Home, Legs, Options, System, with_store_in_legs};
-use bw_load::{Bench, Meter, Stop, resident};
 
 /// How many segments there are, and how many bytes each has room for.
 const SEGMENTS: u32 = 4;

@@ -1,13 +1,15 @@
 //! The subjects, each over a store of its own.
 
 use crate::bare::bare;
+use crate::bench::Bench;
 use crate::boxes::over_memory;
 use crate::cleaning::cleaning;
 use crate::folders::{appends, over_files};
+use crate::options::Scope;
 use crate::pages::pages;
 use crate::steady::steady;
+use crate::stop::Stop;
 use bw_home::System;
-use bw_load::{Bench, Scope, Stop};
 use std::thread::Threads;
 
 /// What is done with a store.

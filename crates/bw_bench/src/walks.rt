@@ -4,8 +4,10 @@
 ghost use Rattle.bw_store.specs.Views.{IsSound};
 ghost use Rattle.bw_bench.specs.Lent.{Keeps};
 
+use crate::bench::Bench;
+use crate::shape::Shape;
+use crate::stop::Stop;
 use bw_codec::{Key, Pair, Value};
-use bw_load::{Bench, Shape, Stop};
 use bw_store::{Store, StoreFault};
 
 /// How the pairs of a stretch are taken.
