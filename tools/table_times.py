@@ -3,7 +3,7 @@
 
     table_times.py PROGRAM [COUNT [ROUNDS]]
 
-PROGRAM is a built `bw_table_bench`. Of COUNT keys (100,000) each subject has its turn in each round (5). Nanoseconds an operation are printed, with
+PROGRAM is a built `bw_tabled`, asked for `--times`. Of COUNT keys (100,000) each subject has its turn in each round (5). Nanoseconds an operation are printed, with
 the times of what each stands beside, and for values of 1 MiB megabytes a second."""
 
 import re
@@ -45,7 +45,7 @@ def main():
     program = sys.argv[1]
     count = sys.argv[2] if len(sys.argv) > 2 else "100000"
     rounds = sys.argv[3] if len(sys.argv) > 3 else "5"
-    ran = subprocess.run([program, count, rounds], stdout=subprocess.PIPE, text=True, check=True)
+    ran = subprocess.run([program, "--times", count, rounds], stdout=subprocess.PIPE, text=True, check=True)
     found = rounds_of(ran.stdout)
     for (subject, operation), nanos in found.items():
         median, more = statistics.median(nanos), ""

@@ -15,7 +15,9 @@ folders are the beginning of a further run, whose opening is stopped likewise.
 A call of each kind, and then the opening that follows, is stopped after each of its groups: a frame ends there, since what was put before is of that
 length.
 
-Then runs are killed at random moments, and what they leave is asked the same. And wrong folders and a wrong model have to be told as such."""
+Then runs are killed at random moments, and what they leave is asked the same. And wrong folders and a wrong model have to be told as such.
+
+Before all of this the same program, asked for times, makes its calls in memory once, and has to read back each row as it was put."""
 
 import os
 import random
@@ -26,7 +28,7 @@ import sys
 import tempfile
 import time
 
-from checks import BUILT, FAST, TOP, Wrong, ask, held_in, notes_of, shim_of, write
+from checks import BUILT, FAST, TOP, Wrong, ask, expect, held_in, notes_of, shim_of, write
 from disk import Disk
 
 DRIVER = os.path.join(TOP, "crates", "bw_tabled", "out", "bw_tabled")
@@ -44,6 +46,16 @@ SHAPES = (("8", "1048576", "32"), ("40", "131104", "4"), ("40", "131104", "32"))
 # What may stand half done: a number that is doomed, a table that is gone, a batch that stands, a row that is aside.
 DOOMED, GONE, STANDS, ASIDE = 2, 3, 5, 6
 HALF_DONE = {DOOMED: "a number is doomed", GONE: "a table is gone", STANDS: "a batch stands", ASIDE: "a row is aside"}
+# What `bw_tabled --times` tells, without numbers: of each subject its operations, and how many of each. A row that is not right is a line more.
+COUNTED = (
+    ("the store itself", ("set, new", "set, changed", "get of the store"), 1000),
+    ("a table without long values", ("put, new", "put, changed", "get of a table"), 1000),
+    ("a table with a long value", ("put, new", "put, changed", "get of a table"), 1000),
+    ("batches of 100", ("batches, new", "batches, changed"), 1000),
+    ("batches of 1000", ("batches, new", "batches, changed"), 1000),
+    ("long values", ("1 MiB, new", "1 MiB, changed", "1 MiB, read", "1 MiB, deleted"), 1),
+    ("openings", ("a search", "an opening"), 1000),
+)
 
 
 # ---- calls, and the tables after each
@@ -514,6 +526,14 @@ def wrong_is_told(room, draw):
         told(HALF_DONE[kind], ask_whole, {**pairs_of(folder), bytes.fromhex("%02x%s" % (kind, rest)): b"\x02"})
 
 
+def counted():
+    """The calls that are timed, without their times: each row is read back as it was put."""
+    wanted = [line for subject, told, count in COUNTED for line in (subject, *("%s: %d" % (it, count) for it in told))]
+    ran = subprocess.run([DRIVER, "--times"], stdin=subprocess.DEVNULL, capture_output=True, text=True, check=False)
+    ask(ran.returncode == 0, "--times:", ran.stderr)
+    expect(ran.stdout.split("\n"), [*wanted, ""], "--times")
+
+
 def main():
     draw = random.Random(SEED)
     seen, runs, folders, kills, places = {}, 0, 0, 0, 0
@@ -521,6 +541,7 @@ def main():
         ask(os.path.exists(BUILT), BUILT + " is not built: make run")
         ask(os.path.exists(DRIVER), DRIVER + " is not built: rt ci")
         with tempfile.TemporaryDirectory(dir=FAST, prefix="bw-tables-") as room:
+            counted()
             shim = shim_of("watch", room)
             wrong_is_told(room, draw)
             places = each_group(shim, room, draw, seen, KINDS)

@@ -1,5 +1,5 @@
 use Rattle.bw_home.specs.Ready.{IsReady}
-use Rattle.bw_table_bench.proofs.pairs.put_all.Given as goal
+use Rattle.bw_tabled.proofs.pairs.count_set.Given as goal
 
 abbrev pub invariant-pairs : goal.invariant-pairs
 invariant-pairs g l = IsReady l.home (λ z. (goal.Segment-dyn g z).holding z.1)

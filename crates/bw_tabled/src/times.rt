@@ -1,19 +1,11 @@
 //! Times of calls on tables, beside those of the store that they stand on, in memory.
 //!
-//!     bw_table_bench [COUNT ROUNDS]
-//!
-//! COUNT keys of 8 bytes come in a scattered order, with values of 100 bytes, and each is read back.
-//! With ROUNDS the processor time of this thread is told, of all subjects in turn, so often.
-#![tactic(auto)]
+//! Keys of 8 bytes come in a scattered order, with values of 100 bytes, and each is read back.
 
-mod meter;
-mod pairs;
-mod subject;
-
+use crate::meter::{Host, Meter};
+use crate::subject::{Bench, Subject};
 use anyhow::{Context, Result};
 use bw_home::{Options, System, with_store_in_memory};
-use meter::{Host, Meter};
-use subject::{Bench, Subject};
 
 /// How many keys there are, if nobody says so.
 const COUNT: u64 = 1_000;
@@ -49,9 +41,10 @@ fn round<R: Host + System>(rt: &R, count: u64, meter: Meter) -> Result<()> {
     Ok(())
 }
 
-// Runs what the words ask for.
-fn start<R: Host + System>(rt: &R, words: &[String]) -> Result<()> {
-    let [_, count, rounds, ..] = words else {
+/// Runs what the words `COUNT ROUNDS` ask for: so many keys, and all subjects in turn so often, with
+/// the processor time of this thread. Without them there is one round, of which no times are told.
+pub fn measure<R: Host + System>(rt: &R, words: &[String]) -> Result<()> {
+    let [count, rounds, ..] = words else {
         return round(rt, COUNT, Meter { is_timed: false });
     };
     let count = count.parse().context("COUNT")?;
@@ -60,12 +53,4 @@ fn start<R: Host + System>(rt: &R, words: &[String]) -> Result<()> {
         round(rt, count, Meter { is_timed: true })?;
     }
     Ok(())
-}
-
-fn main(rt: HostRuntime) -> Result<()> {
-    let mut words = Vec::new(rt.alloc());
-    'words: for word in std::env::args(&rt)? {
-        words.push(word)?;
-    }
-    start(&rt, words.as_slice())
 }

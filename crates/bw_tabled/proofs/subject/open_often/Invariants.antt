@@ -1,5 +1,5 @@
 use Rattle.bw_home.specs.Ready.{IsReady}
-use Rattle.bw_table_bench.proofs.subject.open_often.Given as goal
+use Rattle.bw_tabled.proofs.subject.open_often.Given as goal
 
 abbrev pub invariant-openings : goal.invariant-openings
 invariant-openings g l = IsReady l.home (λ z. (goal.Segment-dyn g z).holding z.1)
