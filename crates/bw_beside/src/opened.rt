@@ -5,7 +5,7 @@ use crate::host::Host;
 use crate::miss::Miss;
 use crate::standing::{Stood, ask_standing, standing};
 use bw_file::{FolderFault, FolderReader};
-use bw_watch::Watch;
+use bw_look::Watch;
 
 /// How often a folder that somebody writes is read at most.
 pub const TRIES: u32 = 10;

@@ -8,8 +8,7 @@ use crate::miss::Miss;
 use crate::row::Row;
 use bw_device::MAX_LEASES;
 use bw_digest::check;
-use bw_look::Image;
-use bw_watch::{Watch, Work, folder_bytes};
+use bw_look::{Image, Watch, Work, folder_bytes};
 use std::alloc::Global;
 use std::collections::BTreeMap;
 

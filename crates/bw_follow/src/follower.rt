@@ -8,8 +8,7 @@ use crate::target::Target;
 use crate::whole::{copy, mend, replace};
 use bw_beside::{Host, Live, Row, TRIES, is_unfinished};
 use bw_file::{FolderFault, FolderReader};
-use bw_look::Image;
-use bw_watch::Watch;
+use bw_look::{Image, Watch};
 use std::io::{self, ErrorKind};
 
 /// What a round did.

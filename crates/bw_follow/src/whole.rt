@@ -13,9 +13,8 @@ use bw_codec::{HeaderRead, read_header};
 use bw_device::MAX_LEASES;
 use bw_digest::Row;
 use bw_file::{Folder, FolderFault, FolderReader};
-use bw_look::Image;
+use bw_look::{Image, Watch, Work, folder_bytes};
 use bw_partial::{Making, begin, ends_of, is_left, is_there, partial_of, remove_left, rename};
-use bw_watch::{Watch, Work, folder_bytes};
 use std::alloc::{AllocError, Global};
 use std::fs::{self, File, OpenFile, OpenOptions};
 

@@ -12,9 +12,8 @@ use crate::span::Span;
 use crate::tending::Tending;
 use bw_codec::{Key, Record};
 use bw_home::{Options, System, with_store_at};
-use bw_look::frame_in_folder;
+use bw_look::{Watch, Work, folder_bytes, frame_in_folder, input_bytes};
 use bw_pairs::{LineFault, Pairs, Skipped, Source};
-use bw_watch::{Watch, Work, folder_bytes, input_bytes};
 use std::collections::VecDeque;
 use std::io::Read;
 

@@ -7,11 +7,11 @@ use crate::reading::count_of;
 use crate::span::Span;
 use bw_care::Recovered;
 use bw_codec::{Leaf, Pair};
+use bw_look::{Watch, Work};
 use bw_pairs::{
     Letters, Spelling, write_csv, write_csv_field, write_dumped, write_end, write_header,
     write_json, write_line, write_pair,
 };
-use bw_watch::{Watch, Work};
 use std::io::{self, Write};
 
 /// How pairs are written.

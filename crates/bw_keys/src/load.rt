@@ -12,8 +12,8 @@ use crate::tending::{Tending, forget};
 use bw_codec::Record;
 use bw_core::StoreFault;
 use bw_home::{Added, Home, HomeFault, Legs, System};
+use bw_look::{Watch, Work};
 use bw_ring::{FullGroup, Group};
-use bw_watch::{Watch, Work};
 
 /// What comes next.
 #[derive(Debug, Clone, Copy, PartialEq, Eq)]

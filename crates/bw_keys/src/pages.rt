@@ -9,9 +9,9 @@ use bw_codec::limits::{HEADER_LEN, MAX_FRAME};
 use bw_device::{Desk, MemSegment, Segment};
 use bw_file::{FolderFault, FolderReader};
 use bw_home::{HomeFault, System};
+use bw_look::{Watch, Work, folder_bytes};
 use bw_page::Leaves;
 use bw_site::{beginning_of, copy_of};
-use bw_watch::{Watch, Work, folder_bytes};
 use std::alloc::Global;
 use std::io::ErrorKind;
 

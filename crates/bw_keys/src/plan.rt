@@ -10,8 +10,8 @@ use bw_beside::Ask;
 use bw_care::Recovered;
 use bw_codec::{Record, Value};
 use bw_home::System;
+use bw_look::{Watch, Work, input_bytes};
 use bw_pairs::{LineFault, Pairs, Skipped};
-use bw_watch::{Watch, Work, input_bytes};
 use std::io::Read;
 
 /// How the pairs of an input stand to those of a folder. Each is compared with the folder as it is,

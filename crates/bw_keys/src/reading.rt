@@ -12,7 +12,7 @@ use crate::span::Span;
 use bw_beside::Ask;
 use bw_care::{RecoverCause, Recovered};
 use bw_codec::{Key, Value};
-use bw_watch::Watch;
+use bw_look::Watch;
 use std::alloc::Global;
 use std::collections::VecDeque;
 use std::io::Write;

@@ -9,10 +9,10 @@ use crate::span::Span;
 use bw_codec::limits::MAX_VALUE;
 use bw_codec::{Key, Record, Value};
 use bw_home::System;
+use bw_look::Watch;
 use bw_pairs::{
     PairsFault, Spelling, key_from, key_of, value_from, value_of, write_line, write_word,
 };
-use bw_watch::Watch;
 use std::alloc::Global;
 use std::collections::VecDeque;
 use std::io::{Read, Write};

@@ -7,10 +7,10 @@
 //! picture stays small, however many pages there are. At the end pages are counted by how many pairs
 //! they have.
 
+use crate::amount::{Amount, Unit};
 use crate::counts::{needed_in, rewritten_in};
 use crate::printer::Printer;
 use crate::survey::{BlockRow, FrameRow, SegmentRow, Survey};
-use bw_watch::{Amount, Unit};
 use std::io::Write;
 
 /// What a picture shows beside the blocks.

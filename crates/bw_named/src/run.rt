@@ -11,7 +11,7 @@ use bw_home::{Home, Legs, System};
 use bw_keys::{
     Admission, KeysFault, TableRefusal, Tending, forget, has_tables, last_frame, refused_spare,
 };
-use bw_watch::{Watch, Work};
+use bw_look::{Watch, Work};
 
 /// How much a call adds to the log.
 #[derive(Debug, Clone, Copy, PartialEq, Eq)]

@@ -12,9 +12,9 @@ use bw_keys::{
     Changed, Effect, KeysFault, Loaded, Range, Style, Tending, Told, check_store, leases_of,
     options,
 };
+use bw_look::{Watch, Work, folder_bytes, input_bytes};
 use bw_pairs::{LineFault, Rows, Skipped, Source, Spelling};
 use bw_rows::Name;
-use bw_watch::{Watch, Work, folder_bytes, input_bytes};
 use std::alloc::Global;
 use std::io::{Read, Write};
 

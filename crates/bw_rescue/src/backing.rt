@@ -8,8 +8,7 @@ use crate::fault::RescueFault;
 use crate::judged::judge;
 use crate::target::Target;
 use bw_home::{Home, HomeFault, System};
-use bw_look::Image;
-use bw_watch::Unseen;
+use bw_look::{Image, Unseen};
 use std::alloc::Global;
 
 /// The i-th live segment, from 0; `None` where there are fewer.

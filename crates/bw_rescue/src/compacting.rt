@@ -15,7 +15,7 @@ use bw_codec::Leaf;
 use bw_codec::limits::HEADER_LEN;
 use bw_core::StoreFault;
 use bw_home::{HomeFault, Options, System};
-use bw_watch::Watch;
+use bw_look::Watch;
 use bw_whole::Writer;
 
 /// Refuses segments without room for a frame, before anything is made.

@@ -7,8 +7,7 @@ use crate::reading::source_of;
 use crate::target::Target;
 use bw_codec::{HeaderRead, read_header};
 use bw_home::System;
-use bw_look::Image;
-use bw_watch::Watch;
+use bw_look::{Image, Watch};
 use std::alloc::AllocError;
 
 /// What a new folder holds.

@@ -6,8 +6,7 @@ use crate::fault::RescueFault;
 use bw_beside::{Ask, ask_images, ask_owned};
 use bw_care::Recovered;
 use bw_home::Found;
-use bw_look::Image;
-use bw_watch::{Watch, Work};
+use bw_look::{Image, Watch, Work};
 use std::alloc::Global;
 
 /// What recovery says of segments.

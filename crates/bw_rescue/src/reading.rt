@@ -5,8 +5,7 @@ use crate::judged::{bytes_of, judge};
 use bw_beside::{Ask, Asked, Opened, ask, ask_owned, open};
 use bw_file::{FolderFault, FolderReader};
 use bw_home::System;
-use bw_look::Image;
-use bw_watch::{Watch, Work, folder_bytes};
+use bw_look::{Image, Watch, Work, folder_bytes};
 
 /// The lease again, where it is below the number of leases.
 pub(crate) fn allowed(lease: u32, leases: u32) -> Result<u32, RescueFault> {

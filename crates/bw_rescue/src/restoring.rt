@@ -7,10 +7,8 @@ use crate::reading::{Seen, seen_images};
 use bw_care::RecoverCause;
 use bw_file::{Folder, FolderFault};
 use bw_home::{Found, System};
-use bw_look::{BlockRow, Image, Kind, Survey, kept_bytes, pages_at};
+use bw_look::{BlockRow, Image, Kind, Survey, Watch, carry, kept_bytes, pages_at};
 use bw_partial::{already_there, ends_of};
-use bw_times::carry;
-use bw_watch::Watch;
 use std::alloc::{AllocError, Global};
 use std::collections::BTreeMap;
 

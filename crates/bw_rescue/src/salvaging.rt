@@ -10,9 +10,8 @@ use bw_codec::Leaf;
 use bw_digest::told_end;
 use bw_file::{FolderFault, FolderReader};
 use bw_home::{Options, System};
-use bw_look::frame_in_folder;
+use bw_look::{Watch, Work, folder_bytes, frame_in_folder};
 use bw_remains::{Held, Loss, Pages, frame_at, pairs_of};
-use bw_watch::{Watch, Work, folder_bytes};
 use std::alloc::{AllocError, Global};
 use std::collections::BTreeMap;
 

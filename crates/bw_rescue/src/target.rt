@@ -10,10 +10,8 @@ use crate::walking::TallyOf;
 use bw_beside::ask_owned;
 use bw_file::{Folder, FolderFault};
 use bw_home::System;
-use bw_look::Image;
+use bw_look::{Image, Watch, Work, carry};
 use bw_partial::{begin, ends_of, is_left, partial_of, refuse_there};
-use bw_times::carry;
-use bw_watch::{Watch, Work};
 use std::alloc::Global;
 use std::io::{self, ErrorKind};
 

@@ -8,8 +8,7 @@ use bw_codec::limits::HEADER_LEN;
 use bw_codec::{HeaderRead, read_header};
 use bw_file::{FolderFault, FolderReader};
 use bw_home::System;
-use bw_look::{Frames, Image, Step};
-use bw_watch::{Watch, Work, folder_bytes};
+use bw_look::{Frames, Image, Step, Watch, Work, folder_bytes};
 use std::alloc::{AllocError, Global};
 use std::fmt::{self, Display, Formatter};
 

@@ -9,7 +9,7 @@ use crate::judged::Judged;
 use bw_beside::Ask;
 use bw_care::Recovered;
 use bw_codec::{Key, Leaf};
-use bw_watch::{Unseen, Watch, Work};
+use bw_look::{Unseen, Watch, Work};
 use std::alloc::Global;
 
 /// Whoever takes pages, one after the other.

@@ -4,8 +4,7 @@ use crate::fault::RescueFault;
 use bw_codec::Pair;
 use bw_core::StoreFault;
 use bw_home::{HomeFault, Options};
-use bw_look::Image;
-use bw_watch::{Watch, Work};
+use bw_look::{Image, Watch, Work};
 use bw_whole::{WholeFault, Writer};
 use std::alloc::Global;
 

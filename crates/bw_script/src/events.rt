@@ -5,7 +5,7 @@ ghost use Rattle.bw_home.specs.Ready.{IsReady};
 use crate::calls::{durable, live_bytes};
 use bw_core::Cleaned;
 use bw_home::Home;
-use bw_watch::{Event, Watch};
+use bw_look::{Event, Watch};
 use bw_words::Refusal;
 
 /// What is counted of the lines of a run over a store, since that was opened.

@@ -7,10 +7,9 @@ use bw_device::MAX_LEASES;
 use bw_file::FolderFault;
 use bw_home::HomeFault;
 use bw_keys::{Changed, Effect, KeysFault, Loaded, Plan, TableRefusal, Task, Told, perform};
-use bw_look::Printer;
+use bw_look::{Printer, Progress, Watch};
 use bw_pairs::LineFault;
 use bw_segments::{tell_far, tell_located};
-use bw_watch::{Progress, Watch};
 use bw_words::{Host, Miss, Refusal, Stop};
 use std::io::{IsTerminal, Read, Write};
 

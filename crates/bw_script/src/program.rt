@@ -4,13 +4,11 @@
 use crate::keyed::{keys, tables};
 use crate::replay::replay;
 use bw_file::FolderFault;
-use bw_look::Printer;
+use bw_look::{Moment, Note, Printer, Progress, Watch};
 use bw_segments::{
     compact, copy, follow, look, restore, salvage, scan, tell_far, tell_located, tell_unheeded,
     upgrade, upgrade_folder, verify,
 };
-use bw_times::{Moment, Note};
-use bw_watch::{Progress, Watch};
 use bw_words::{Host, Manner, Met, Mode, Refusal, Stop, is_memory, mode_of, print};
 use bw_writers::threads;
 use clap::Error;

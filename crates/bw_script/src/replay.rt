@@ -14,9 +14,8 @@ use bw_calls::Change;
 use bw_codec::Record;
 use bw_device::MAX_LEASES;
 use bw_home::{Added, Home, Legs, with_store_at};
-use bw_look::Printer;
+use bw_look::{Event, Printer, Watch, Work, folder_bytes};
 use bw_pairs::{Lines, READS};
-use bw_watch::{Event, Watch, Work, folder_bytes};
 use bw_words::{
     Command, Condition, Fault, LONGEST, LONGEST_OF_TABLES, MOST_BATCH, Manner, Met, Miss, NotTyped,
     Options, PROTOCOL, Reading, Refusal, Request, Stop, System, TableCall, TableLine, Typed,

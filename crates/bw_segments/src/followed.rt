@@ -2,8 +2,7 @@
 
 use bw_file::FolderFault;
 use bw_follow::{FollowFault, Followed, Follower};
-use bw_look::Printer;
-use bw_watch::Watch;
+use bw_look::{Printer, Watch};
 use bw_words::{Ends, Host, Met, Miss, Stop, missed};
 use std::io::Write;
 use std::thread;

@@ -7,9 +7,10 @@ use crate::judged::{Judged, judge};
 use crate::numbers::write_numbers;
 use bw_care::RecoverCause;
 use bw_file::FolderFault;
-use bw_look::{Counts, Image, Printer, Scene, Survey, write_counts, write_image, write_picture};
-use bw_times::notes_in;
-use bw_watch::{Watch, Work};
+use bw_look::{
+    Counts, Image, Printer, Scene, Survey, Watch, Work, notes_in, write_counts, write_image,
+    write_picture,
+};
 use bw_words::{Met, Miss, Refusal, Stop, System, View, missed, refuse};
 use std::alloc::{AllocError, Global};
 use std::fs;

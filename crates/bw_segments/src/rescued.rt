@@ -5,10 +5,8 @@ use bw_care::RecoverCause;
 use bw_device::MAX_LEASES;
 use bw_file::{FolderFault, FolderReader};
 use bw_home::Options;
-use bw_look::Printer;
+use bw_look::{Moment, Note, Printer, Watch, noted_at, notes_in};
 use bw_rescue::{Copied, Hurt, Loss, RescueFault, Salvaged, Verdict, Verified};
-use bw_times::{Moment, Note, noted_at, notes_in};
-use bw_watch::Watch;
 use bw_words::{AsOf, Ends, Met, Miss, Refusal, Report, Stop, System, missed};
 use std::io::Write;
 

@@ -6,8 +6,7 @@ use crate::images::{bytes_in, images};
 use bw_beside::{Ask, ask_owned};
 use bw_care::Recovered;
 use bw_home::Found;
-use bw_look::{Printer, write_page};
-use bw_watch::{Watch, Work};
+use bw_look::{Printer, Watch, Work, write_page};
 use bw_words::{Met, Miss, Stop, System, missed, write_found};
 use std::io::{Read, Write};
 

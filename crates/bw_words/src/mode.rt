@@ -3,7 +3,7 @@
 use crate::script::Reading;
 use bw_home::System;
 use bw_keys::{FEW, Task, leases_of};
-use bw_watch::Hearing;
+use bw_look::Hearing;
 
 /// How lines are read and answered.
 #[derive(Debug, Clone, Copy, PartialEq, Eq)]

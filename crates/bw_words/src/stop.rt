@@ -7,8 +7,7 @@ use crate::script::Fault;
 use bw_care::RecoverCause;
 use bw_core::StoreFault;
 use bw_file::FolderFault;
-use bw_look::{NotWritten, Printer};
-use bw_times::{Moment, Note};
+use bw_look::{Moment, NotWritten, Note, Printer};
 use std::alloc::{AllocError, AllocFailed};
 use std::io::{self, ErrorKind, Write};
 

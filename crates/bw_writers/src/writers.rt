@@ -9,10 +9,9 @@ use crate::room::Made;
 use crate::runs::pairs_of;
 use bw_codec::{Key, Value};
 use bw_home::{SharedHome, SharedLegs, with_readers};
-use bw_look::Printer;
+use bw_look::{Printer, Watch};
 use bw_pairs::{Lines, READS};
 use bw_ring::Group;
-use bw_watch::Watch;
 use bw_words::{
     Host, LONGEST, Met, Miss, Options, Pace, Stop, leases_in, missed, no_input, parse_group,
     print_found, write_pairs,

@@ -3,8 +3,9 @@
 
 use crate::amount::Amount;
 use crate::event::{Event, Hearing};
+use crate::moment::now;
+use crate::noting::Noting;
 use crate::watch::{Watch, Work};
-use bw_times::{Noting, now};
 use std::alloc::Global;
 use std::fmt::{self, Display, Formatter};
 use std::fs::{self, File};
