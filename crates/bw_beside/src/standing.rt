@@ -5,15 +5,13 @@ use crate::files::{bytes_in, is_there, leases_in, number_of, sums_in};
 use crate::found::{Found, found_in};
 use crate::host::Host;
 use crate::miss::Miss;
+use crate::partial::MARK;
 use crate::row::Row;
 use bw_device::MAX_LEASES;
 use bw_digest::check;
 use bw_look::{Image, Watch, Work, folder_bytes};
 use std::alloc::Global;
 use std::collections::BTreeMap;
-
-/// The file that says that a folder is not made whole yet.
-const MARK: &str = "unfinished";
 
 /// The segments of a folder at one of its frames, and what recovery finds in them.
 #[derive(Drop)]

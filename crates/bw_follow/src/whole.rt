@@ -1,6 +1,6 @@
 //! A whole copy of the followed folder, which takes the follower's place where it has one.
 //!
-//! It is made as `TO.partial` (`bw_partial`). Where `TO` is there, it becomes `TO.old`, with a file
+//! It is made as `TO.partial` (`bw_beside::begin`). Where `TO` is there, it becomes `TO.old`, with a file
 //! `superseded` in it, and then `TO.partial` becomes `TO`. A stop between the two leaves no `TO`: the
 //! next follower gives `TO.old` its name again (`mend`), and goes on. A `TO.old` stays until the next
 //! whole copy, or until somebody removes it.
@@ -8,13 +8,15 @@
 use crate::fault::FollowFault;
 use crate::held::sums_behind;
 use crate::judged::judge;
-use bw_beside::{Host, Miss, Opened, header_in, open, sums_in};
+use bw_beside::{
+    Host, Making, Miss, Opened, begin, ends_of, header_in, is_left, is_there, open, partial_of,
+    remove_left, rename, sums_in,
+};
 use bw_codec::{HeaderRead, read_header};
 use bw_device::MAX_LEASES;
 use bw_digest::Row;
 use bw_file::{Folder, FolderFault, FolderReader};
 use bw_look::{Image, Watch, Work, folder_bytes};
-use bw_partial::{Making, begin, ends_of, is_left, is_there, partial_of, remove_left, rename};
 use std::alloc::{AllocError, Global};
 use std::fs::{self, File, OpenFile, OpenOptions};
 

@@ -3,12 +3,12 @@
 use crate::fault::RescueFault;
 use crate::reading::allowed;
 use crate::verifying::{Hurt, Verdict, verify};
+use bw_beside::frames_in;
 use bw_care::RecoverCause;
 use bw_codec::{HeaderRead, read_header};
 use bw_file::FolderReader;
 use bw_home::System;
 use bw_look::Unseen;
-use bw_partial::frames_in;
 use std::alloc::Global;
 use std::collections::BTreeMap;
 use std::fmt::{self, Display, Formatter};

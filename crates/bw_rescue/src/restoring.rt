@@ -4,11 +4,11 @@ use crate::copying::Copied;
 use crate::fault::RescueFault;
 use crate::judged::{Judged, judge};
 use crate::reading::{Seen, seen_images};
+use bw_beside::{already_there, ends_of};
 use bw_care::RecoverCause;
 use bw_file::{Folder, FolderFault};
 use bw_home::{Found, System};
 use bw_look::{BlockRow, Image, Kind, Survey, Watch, carry, kept_bytes, pages_at};
-use bw_partial::{already_there, ends_of};
 use std::alloc::{AllocError, Global};
 use std::collections::BTreeMap;
 

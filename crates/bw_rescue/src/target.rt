@@ -7,11 +7,10 @@ use crate::fault::RescueFault;
 use crate::judged::{Judged, bytes_of, judge_owned};
 use crate::reading::sound_images;
 use crate::walking::TallyOf;
-use bw_beside::ask_owned;
+use bw_beside::{ask_owned, begin, ends_of, is_left, partial_of, refuse_there};
 use bw_file::{Folder, FolderFault};
 use bw_home::System;
 use bw_look::{Image, Watch, Work, carry};
-use bw_partial::{begin, ends_of, is_left, partial_of, refuse_there};
 use std::alloc::Global;
 use std::io::{self, ErrorKind};
 
@@ -27,7 +26,7 @@ pub(crate) struct Target {
 pub(crate) struct Making {
     /// Its name.
     to: String,
-    making: bw_partial::Making,
+    making: bw_beside::Making,
 }
 
 /// Writes the segments, with a digest for each of their pieces.

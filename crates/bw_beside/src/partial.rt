@@ -1,6 +1,6 @@
-// The folder in which a new one is made, what is left of it, and how it gets its name.
+//! The folder in which a new one is made, what is left of it, and how it gets its name.
 
-use bw_beside::Host;
+use crate::host::Host;
 use bw_device::MAX_LEASES;
 use bw_file::FolderFault;
 use std::alloc::AllocError;
@@ -8,7 +8,7 @@ use std::fs::{self, File, OpenOptions};
 use std::io::{self, ErrorKind};
 
 /// The file that says that a folder is not made whole yet.
-const MARK: &str = "unfinished";
+pub(crate) const MARK: &str = "unfinished";
 
 /// Its name once the folder is whole, and has not got its own name yet.
 const DONE: &str = "finished";
