@@ -2,10 +2,10 @@
 //!
 //! `bw_bench` runs the subjects of `subject` one after the other, each over a store of its own, and
 //! prints what each did and what it read back. With `--times` it also prints nanoseconds and bytes,
-//! and with `--dir` its segments stand in files.
-//! Keys are 8 bytes, behind those that all share, and come in a scattered order; `shape` says which
-//! key and value each put has. A `Bench` is what each subject is given: the system, the options and a
-//! clock. By it a subject tells counts and times, and why it goes no further.
+//! and with `--dir` its segments stand in files. Keys are 8 bytes, behind those that all share, and
+//! come in a scattered order; `shape` says which key and value each put has. A `Bench` is what each
+//! subject is given: the system, the options and a clock. By it a subject tells counts and times,
+//! and why it goes no further.
 #![tactic(auto)]
 
 mod alone;

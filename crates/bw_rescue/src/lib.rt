@@ -1,12 +1,17 @@
 //! Damage is found, what is whole is saved, and a store is copied.
 //!
 //! Each call but `backup`, which copies an open store, reads a folder that it does not change, and
-//! whose lock it takes beside other readers. `verify` tells the first fault of each of its segments.
-//! `copy` and `compact` write the store of that moment into a new folder, `restore` that of an
-//! earlier frame, and `salvage` all that a damaged one still has (`bw_remains`). `compact` and
-//! `salvage` write whole pages (`bw_whole`). A new folder is made under another name, and gets its own
-//! once it was read again and stands on the disk (`Target`): a part of a copy is never taken for a
+//! whose lock it takes beside other readers. `verify` tells the first fault of each of its
+//! segments. `copy` and `compact` write the store of that moment into a new folder, `restore` that
+//! of an earlier frame, and `salvage` all that a damaged one still has. `compact` and `salvage`
+//! write whole pages (`bw_whole`). A new folder is made under another name, and gets its own once
+//! it was read again and stands on the disk (`Target`): a part of a copy is never taken for a
 //! store.
+//!
+//! For `salvage` a file is taken apart by the sums beside it (`Pieces`), each piece by itself, and
+//! then searched for whole frames (`Held`). Their blocks are read forwards, page by page (`Pages`):
+//! a page comes as of the last frame up to which none of its blocks is missing, and what did not
+//! come back is told (`Loss`). `order` puts the pairs of such pages in the order of their keys.
 #![tactic(auto)]
 
 mod backing;
@@ -14,8 +19,13 @@ mod compacting;
 mod compared;
 mod copying;
 mod fault;
+mod held;
 mod judged;
 mod locating;
+mod lost;
+mod order;
+mod pages;
+mod pieces;
 mod reading;
 mod restoring;
 mod salvaging;
@@ -25,11 +35,11 @@ mod walking;
 mod whole;
 
 pub use backing::backup;
-pub use bw_remains::Loss;
 pub use compacting::compact;
 pub use copying::{Copied, copy};
 pub use fault::RescueFault;
 pub use locating::{Located, locate};
+pub use lost::Loss;
 pub use restoring::restore;
 pub use salvaging::{Salvaged, salvage};
 pub use verifying::{Hurt, Verdict, Verified, verify};

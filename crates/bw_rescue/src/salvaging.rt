@@ -3,6 +3,10 @@
 use crate::compared::{Tally, Wanted};
 use crate::copying::Copied;
 use crate::fault::RescueFault;
+use crate::held::{Held, frame_at};
+use crate::lost::Loss;
+use crate::order::pairs_of;
+use crate::pages::Pages;
 use crate::target::Target;
 use crate::whole::whole;
 use bw_care::RecoverCause;
@@ -11,7 +15,6 @@ use bw_digest::told_end;
 use bw_file::{FolderFault, FolderReader};
 use bw_home::{Options, System};
 use bw_look::{Watch, Work, folder_bytes, frame_in_folder};
-use bw_remains::{Held, Loss, Pages, frame_at, pairs_of};
 use std::alloc::{AllocError, Global};
 use std::collections::BTreeMap;
 

@@ -8,26 +8,26 @@ use std::alloc::{AllocError, Global};
 
 /// A whole frame of a segment.
 #[derive(Debug, Clone, Copy)]
-pub struct Spot {
+pub(crate) struct Spot {
     /// Its number.
-    pub number: u64,
+    pub(crate) number: u64,
     /// Where it begins, in bytes.
-    pub at: usize,
+    pub(crate) at: usize,
 }
 
 /// A segment as it was read, and its whole frames.
 #[derive(Drop)]
-pub struct Held {
+pub(crate) struct Held {
     /// The lease of its file.
-    pub lease: u32,
+    pub(crate) lease: u32,
     /// The bytes of its file.
-    pub bytes: Vec<u8>,
+    pub(crate) bytes: Vec<u8>,
     /// By which its frames are read: of its own header the format alone counts.
-    pub header: Header,
+    pub(crate) header: Header,
     /// Its whole frames, in the order of the file.
-    pub spots: Vec<Spot>,
+    pub(crate) spots: Vec<Spot>,
     /// The pieces that have not their digest, and of which frames were taken.
-    pub unchecked: Vec<Piece>,
+    pub(crate) unchecked: Vec<Piece>,
 }
 
 /// The text that a frame of format 1 begins with, and one of format 2.
@@ -72,7 +72,7 @@ fn next_text(bytes: &[u8], from: usize, version: u16) -> Option<usize> {
 }
 
 /// The frame at an offset, with its length, where one is there.
-pub fn frame_at(
+pub(crate) fn frame_at(
     alloc: Global,
     bytes: &[u8],
     header: Header,
@@ -215,7 +215,12 @@ fn unchecked_of(alloc: Global, pieces: &Pieces) -> Result<Vec<Piece>, AllocError
 
 impl Held {
     /// The segment of a lease, with these bytes and sums.
-    pub fn of(alloc: Global, lease: u32, bytes: Vec<u8>, sums: &[u8]) -> Result<Held, AllocError> {
+    pub(crate) fn of(
+        alloc: Global,
+        lease: u32,
+        bytes: Vec<u8>,
+        sums: &[u8],
+    ) -> Result<Held, AllocError> {
         let header = header_of(bytes.as_slice());
         let mut pieces = Pieces::of(alloc, bytes.as_slice(), sums)?;
         let spots = spots_of(alloc, bytes.as_slice(), header, &mut pieces)?;
@@ -230,7 +235,7 @@ impl Held {
     }
 
     /// The most pairs that a page has, as its own header tells, if it has one.
-    pub fn m(&self) -> Option<u16> {
+    pub(crate) fn m(&self) -> Option<u16> {
         match read_header(self.bytes.as_slice()) {
             HeaderRead::Whole(header) => Some(header.m),
             _ => None,

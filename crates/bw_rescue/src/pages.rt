@@ -29,7 +29,7 @@ struct Gap {
 
 /// All pages, as far as they were read.
 #[derive(Drop)]
-pub struct Pages {
+pub(crate) struct Pages {
     lines: BTreeMap<u32, Line>,
     gaps: Vec<Gap>,
     /// The number of the last frame that was read; 0 before.
@@ -57,7 +57,7 @@ fn changed(draft: Draft, change: &Change<'_>) -> Result<Draft, AllocError> {
 
 impl Pages {
     /// Nothing was read yet.
-    pub fn new(alloc: Global) -> Pages {
+    pub(crate) fn new(alloc: Global) -> Pages {
         Pages {
             lines: BTreeMap::new(alloc),
             gaps: Vec::new(alloc),
@@ -161,7 +161,7 @@ impl Pages {
     }
 
     /// Reads the next whole frame, whose number is above those of all that were read.
-    pub fn read(&mut self, frame: Frame) -> Result<(), AllocError> {
+    pub(crate) fn read(&mut self, frame: Frame) -> Result<(), AllocError> {
         let Frame { number, blocks } = frame;
         self.note_gap(number)?;
         let mut index = 0u32;
@@ -177,7 +177,7 @@ impl Pages {
     }
 
     /// Adds which frames are missing.
-    pub fn add_gaps(&self, losses: &mut Vec<Loss>) -> Result<(), AllocError> {
+    pub(crate) fn add_gaps(&self, losses: &mut Vec<Loss>) -> Result<(), AllocError> {
         for gap in self.gaps.as_slice() {
             losses.push(Loss::Frames {
                 first: gap.first,
@@ -188,7 +188,7 @@ impl Pages {
     }
 
     /// Ends the reading: the pages, by their numbers; and adds what is missing of each.
-    pub fn end(self, losses: &mut Vec<Loss>) -> Result<Vec<Leaf>, AllocError> {
+    pub(crate) fn end(self, losses: &mut Vec<Loss>) -> Result<Vec<Leaf>, AllocError> {
         let Pages {
             lines,
             gaps,

@@ -6,27 +6,27 @@ use std::alloc::{AllocError, Global};
 
 /// A piece of a file, of which a sum tells that counts.
 #[derive(Clone, Copy)]
-pub struct Piece {
+pub(crate) struct Piece {
     /// Where it begins, in bytes.
-    pub from: u64,
+    pub(crate) from: u64,
     /// Where it ends.
-    pub to: u64,
+    pub(crate) to: u64,
     /// Whether it has its digest.
-    pub fits: bool,
+    pub(crate) fits: bool,
     /// Whether a frame in it was taken.
-    pub is_taken: bool,
+    pub(crate) is_taken: bool,
 }
 
 /// The pieces of a file, in their order, and how many of them end before what is looked at.
 #[derive(Drop)]
-pub struct Pieces {
+pub(crate) struct Pieces {
     rows: Vec<Piece>,
     passed: usize,
 }
 
 impl Pieces {
     /// The pieces of these bytes, as far as the sums count.
-    pub fn of(alloc: Global, bytes: &[u8], sums: &[u8]) -> Result<Pieces, AllocError> {
+    pub(crate) fn of(alloc: Global, bytes: &[u8], sums: &[u8]) -> Result<Pieces, AllocError> {
         let mut rows = Vec::new(alloc);
         let mut row = Row::new();
         for index in 0..sums.len() / SUM_LEN {
@@ -59,7 +59,7 @@ impl Pieces {
     }
 
     /// The piece in which an offset is, if one is told. No earlier one is looked at again.
-    pub fn around(&mut self, at: u64) -> Option<Piece> {
+    pub(crate) fn around(&mut self, at: u64) -> Option<Piece> {
         self.go_to(at);
         match self.rows.as_slice().get(self.passed) {
             Some(row) if row.from <= at => Some(*row),
@@ -68,14 +68,14 @@ impl Pieces {
     }
 
     /// Notes that a frame in the piece that was looked at last was taken.
-    pub fn take(&mut self) {
+    pub(crate) fn take(&mut self) {
         if self.passed < self.rows.len() {
             self.rows[self.passed].is_taken = true;
         }
     }
 
     /// All of them.
-    pub fn rows(&self) -> &[Piece] {
+    pub(crate) fn rows(&self) -> &[Piece] {
         self.rows.as_slice()
     }
 }

@@ -49,7 +49,7 @@ fn add_pairs(pairs: &mut Vec<Pair>, leaf: &Leaf, next: Option<&Leaf>) -> Result<
 
 /// All pairs of these pages, in the order of their keys: of each page those from its low on, and
 /// below the next greater low of any.
-pub fn pairs_of(alloc: Global, leaves: &[Leaf]) -> Result<Vec<Pair>, AllocError> {
+pub(crate) fn pairs_of(alloc: Global, leaves: &[Leaf]) -> Result<Vec<Pair>, AllocError> {
     let order = by_low(alloc, leaves)?;
     let mut pairs = Vec::new(alloc);
     for (index, position) in order.as_slice().iter().enumerate() {
