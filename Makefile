@@ -83,7 +83,7 @@ wrong:
 
 memory:
 	python3 tools/surface.py
-	for crate in memory_page_tests memory_file_tests memory_store_tests without_tests log_tests drive_tests folder_tests; do (cd crates/$$crate && rt test) || exit 1; done
+	for crate in memory_tests without_tests log_tests drive_tests folder_tests; do (cd crates/$$crate && rt test) || exit 1; done
 	python3 tools/refuse.py
 
 bench:

@@ -1,6 +1,6 @@
 /* Refuses allocations of a program. REFUSE says which one, counted from 1; all others are granted.
 
-   A test says more by marks (crates/test_marks): allocations of lengths that no other call asks for. From the first mark on only what is
+   A test says more by marks (crates/test_kit/src/marks.rt): allocations of lengths that no other call asks for. From the first mark on only what is
    asked within a window counts. The counts stand in the file that REFUSE_COUNT names, so that they are there however the program ends. */
 #define _GNU_SOURCE
 #include <stdatomic.h>
@@ -12,7 +12,7 @@
 extern void *__libc_malloc(size_t size);
 extern void *__libc_realloc(void *old, size_t size);
 
-/* How the lengths of marks are read: as crates/test_marks says them. */
+/* How the lengths of marks are read: as crates/test_kit/src/marks.rt says them. */
 #define FAR ((size_t)1 << 60)
 #define BEGIN ((size_t)1 << 61)
 #define WITHOUT (BEGIN + 1)

@@ -1,6 +1,6 @@
 """Refuses allocations, one after the other, of the tests of refused memory and of the built program.
 
-The tests sweep by themselves: a test says by marks (crates/test_marks) which allocation of which call is to be refused, asks the
+The tests sweep by themselves: a test says by marks (crates/test_kit/src/marks.rt) which allocation of which call is to be refused, asks the
 call again and again until it needs no more, and compares what each refusal left. One run of each test, beside the shim (refuse.c), is
 all of it.
 
@@ -27,7 +27,7 @@ import tempfile
 HERE = os.path.dirname(os.path.abspath(__file__))
 CRATES = os.path.join(HERE, "..", "crates")
 # Crates whose tests are all of refused memory, and those with a module of them.
-ALL = ("memory_page_tests", "memory_file_tests", "memory_store_tests", "without_tests")
+ALL = ("memory_tests", "without_tests")
 SOME = ("log_tests", "drive_tests", "folder_tests")
 TESTS = [os.path.join(CRATES, it, "out", it + "_tests") for it in ALL + SOME]
 PROGRAM = os.path.join(CRATES, "bwlog", "out", "bwlog")

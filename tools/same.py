@@ -18,7 +18,7 @@ PAGES = ["README.md"] + ["docs/%s.md" % name for name in ("FIRST", "USING", "FOR
 PRINTED = {"docs/FIRST.md": "crates/users/stdout"}
 # What a run or a reader of a page makes.
 MADE = ("out/", "crates/bwlog/out/", "crates/mine")
-VECTORS = "crates/test_vectors/src/lib.rt"
+VECTORS = "crates/test_kit/src/vectors.rt"
 STORED = "crates/bwlog/data/store/segment-0000.bw"
 
 

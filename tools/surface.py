@@ -84,19 +84,20 @@ def rows():
     for line in text(PAGE).split("\n"):
         cells = [it.strip() for it in line.strip().strip("|").split("|")]
         if len(cells) == 4 and re.fullmatch(r"`\w+`", cells[0]):
-            yield cells[0].strip("`"), re.findall(r"`([\w:]+)`", cells[1]), cells[2], re.findall(r"`(\w+)(?:::(\w+))?`", cells[3])
+            yield cells[0].strip("`"), re.findall(r"`([\w:]+)`", cells[1]), cells[2], re.findall(r"`(\w+)((?:::\w+)*)`", cells[3])
 
 
 def tests_text(crate, module):
-    """The sources of a module of a crate of tests."""
-    root = os.path.join(CRATES, crate, "src", "tests")
+    """The sources of a module of a crate of tests, told as "::page::codec", and of those within it."""
     if not module:
         return "".join(sources(crate))
+    root = os.path.join(CRATES, crate, "src", "tests")
+    told = module.removeprefix("::").split("::")
     found = ""
     for folder, _, files in os.walk(root):
         for file in files:
             path = os.path.relpath(os.path.join(folder, file), root)
-            if file.endswith(".rt") and module in re.split(r"[/.]", path):
+            if file.endswith(".rt") and path.removesuffix(".rt").split(os.sep)[: len(told)] == told:
                 found += text(os.path.join(folder, file))
     return found
 
@@ -116,7 +117,7 @@ def main():
             wrong.append("surface.md has a row for %s %s, which is no public call" % (crate, call))
         for name, module in tests:
             if not os.path.isdir(os.path.join(CRATES, name)) or not re.search(r"\b%s\b" % call.rsplit("::", 1)[-1], tests_text(name, module)):
-                wrong.append("%s%s has no %s of %s" % (name, "::" + module if module else "", call, crate))
+                wrong.append("%s%s has no %s of %s" % (name, module, call, crate))
     for line in wrong:
         print(line)
     return 1 if wrong else 0

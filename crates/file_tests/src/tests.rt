@@ -10,12 +10,13 @@ mod steps;
 mod stored;
 mod summed;
 mod unsettled;
+mod watching;
 
 use std::fs;
 use std::test::*;
 
 /// The system, watched.
-type Watched = test_files::Watched<HostRuntime>;
+type Watched = watching::Watched<HostRuntime>;
 
 /// A folder and its files are gone, if they were there.
 fn clear(rt: HostRuntime, path: &str) {

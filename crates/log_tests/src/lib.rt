@@ -1,6 +1,5 @@
-//! What no clause of segments, desks and the log says, tried from outside: that calls succeed where
-//! memory is there, that a lease comes back when it is dropped, which box takes what, and the worked
-//! bytes.
+//! What no clause of segments, the log, the cleaner and recovery says, tried from outside: that calls
+//! succeed where memory is there, and the worked bytes.
 #![tactic(auto)]
 
 #[cfg(test)]

@@ -1,5 +1,5 @@
-//! Tests of `bw_page` and `bw_leaf` from outside: pages, chains, splits and batches, the forward
-//! reading, and each public call once with ample memory.
+//! Tests of records, pages and versions from outside: the worked bytes of `docs/FORMAT.md`, threads
+//! beside one another, and each public call once where memory is there.
 #![tactic(auto)]
 
 #[cfg(test)]

@@ -1,18 +1,8 @@
-//! Pages and chains as tables of steps, each walked to the first that goes otherwise than told.
+//! A module for each of `bw_codec`, `bw_buffer`, `bw_whole`, `bw_ring`, `bw_page` and `bw_versions`.
 
-mod chains;
-mod evicted;
-mod leaf;
-mod pages;
-mod reading;
-
-use bw_codec::Key;
-use bw_page::Leaves;
-
-/// Whether a record of this key is directed at this page.
-fn leads(leaves: &Leaves, key: &str, page: u32) -> bool {
-    match Key::new(key.as_bytes()) {
-        Ok(key) => leaves.find(&key) == page,
-        Err(_) => false,
-    }
-}
+mod buffer;
+mod codec;
+mod page;
+mod ring;
+mod version;
+mod whole;

@@ -9,7 +9,7 @@ use bw_device::Segment;
 use bw_log::Log;
 use bw_page::Leaves;
 use std::alloc::Global;
-use test_vectors::{behind, behind_leaf, is_at_end};
+use test_kit::vectors::{behind, behind_leaf, is_at_end};
 
 // What is left of a text behind one page: its number, its low key, and each pair after a space.
 fn behind_page<'a>(text: Option<&'a [u8]>, leaf: &Leaf) -> Option<&'a [u8]> {

@@ -7,7 +7,7 @@ use crate::subject::Subject;
 use bw_codec::{Key, Leaf, Pair, Record, Value};
 use bw_store::{PackedEntry, StoreFault};
 use std::alloc::Global;
-use test_vectors::{behind, behind_leaf, is_at_end, spells};
+use test_kit::vectors::{behind, behind_leaf, is_at_end, spells};
 
 /// Whether these are the bytes of a live segment.
 pub fn are_bytes(alloc: Global, store: &mut Subject, segment: u64, hex: &str) -> bool

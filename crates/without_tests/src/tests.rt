@@ -6,7 +6,7 @@ mod ends;
 mod held;
 
 use std::alloc::Global;
-use test_marks::end;
+use test_kit::marks::end;
 
 /// Whether what was asked since the last `begin_without` is so, and asked for no memory.
 fn asked(alloc: Global, is_so: bool) -> Option<bool> {

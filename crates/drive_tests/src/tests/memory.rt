@@ -1,11 +1,11 @@
 //! Lines of a script, of which one allocation is refused: the call tells it. The other calls that take
-//! memory stand in `memory_page_tests`, `memory_file_tests` and `memory_store_tests`.
+//! memory stand in `memory_tests`.
 
 use bw_pairs::Lines;
 use bw_words::LONGEST;
 use std::alloc::Global;
 use std::io::{self, ErrorKind};
-use test_marks::{begin, end, refuse};
+use test_kit::marks::{begin, end, refuse};
 
 /// No call takes so many allocations.
 const MOST: u32 = 1000;

@@ -6,13 +6,13 @@ use super::steps::Act::{Bytes, Cleans, Make, Tells};
 use super::steps::Told::Done;
 use super::steps::{Act, Row, Stand, at, is_told};
 use super::stored::is_given_up;
+use super::watching::WatchedFile;
 use super::{Watched, clear};
 use bw_care::{RecoverCause, Recovered, recover};
 use bw_device::{Desk, Segment};
 use bw_file::Folder;
 use bw_page::Leaves;
-use test_files::WatchedFile;
-use test_vectors::SECOND;
+use test_kit::vectors::SECOND;
 
 /// What recovery tells of a folder.
 #[derive(Clone, Copy)]

@@ -2,13 +2,13 @@
 
 use super::listed::are_listed;
 use super::recovered::{Said, goes_opened};
+use super::watching::{WatchedFile, numbers_of};
 use super::{Watched, clear};
 use bw_device::{Desk, Lease, MAX_CAPACITY, Segment};
 use bw_file::{FileSegment, Folder, FolderFault, FolderReader, NotOpened, Sound};
 use std::alloc::Global;
 use std::fs::{self, OpenOptions};
 use std::os::unix::fs::symlink;
-use test_files::{WatchedFile, numbers_of};
 
 /// One step. Segments have a place, 0 or 1, which is also their lease.
 #[derive(Drop)]

@@ -8,6 +8,7 @@ use super::recovered::Said::Found;
 use super::recovered::{Said, Worked, boxes_of, wrong_worked};
 use super::steps::Act::{First, Tells};
 use super::steps::goes_outside;
+use super::watching::WatchedFile;
 use super::{Watched, clear};
 use bw_care::{Cleaned, clean};
 use bw_codec::{Key, Record, Value};
@@ -17,8 +18,7 @@ use bw_log::Log;
 use bw_ring::Feed;
 use bw_store::{Config, Store, StoreFault};
 use std::sync::Wait;
-use test_files::WatchedFile;
-use test_vectors::{THIRD_LOST, THIRD_OLDER};
+use test_kit::vectors::{THIRD_LOST, THIRD_OLDER};
 
 const KV: &[(&str, &str)] = &[("k", "v")];
 

@@ -10,7 +10,7 @@ use bw_home::{Course, Found, Home, System, with_segments, with_store_in_memory};
 use bw_ring::Group;
 use std::alloc::Global;
 use std::test::Fail;
-use test_vectors::FIRST;
+use test_kit::vectors::FIRST;
 
 #[test]
 fn a_store_in_memory_reads_its_pair(rt: HostRuntime) -> Result<(), Fail> {

@@ -6,7 +6,7 @@ use bw_codec::{Key, Record, Value};
 use bw_core::StoreFault;
 use bw_home::{Course, Home, HomeFault, NotPut, Options, System, with_store};
 use std::fs;
-use test_marks::{begin, end, refuse};
+use test_kit::marks::{begin, end, refuse};
 
 const PATH: &str = "folder_tests_memory";
 

@@ -11,8 +11,8 @@ use bw_codec::{
     read_block, read_header, write_block,
 };
 use std::alloc::Global;
-use test_marks::begin_without;
-use test_vectors::{is, packed_put, put};
+use test_kit::marks::begin_without;
+use test_kit::vectors::{is, packed_put, put};
 
 /// A key and a value, copied.
 fn pair() -> Option<(Key, Value)> {

@@ -19,8 +19,8 @@ use bw_ring::{Feed, FullGroup, Group, Items, Lane, LanesError, lanes};
 use bw_versions::Board;
 use std::alloc::Global;
 use test_boxes::{LEAST, NEVER, found_in, segments_of};
-use test_marks::begin_without;
-use test_vectors::{THIRD_LOST, THIRD_OLDER, put};
+use test_kit::marks::begin_without;
+use test_kit::vectors::{THIRD_LOST, THIRD_OLDER, put};
 
 /// The two ends of one ring.
 fn one_ring(alloc: Global) -> Result<(Feed, Lane), LanesError>

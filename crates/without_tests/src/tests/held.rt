@@ -11,8 +11,8 @@ use bw_codec::limits::MIN_FRAME;
 use bw_codec::{Block, Blocks, Key, Leaf, Packed, Place, encode_block};
 use bw_page::{Chain, Draft, Leaves, change, count_after, empty_page, keep_below, value_in};
 use std::alloc::Global;
-use test_marks::begin_without;
-use test_vectors::{blocks_in, is, packed_put, put, shows};
+use test_kit::marks::begin_without;
+use test_kit::vectors::{blocks_in, is, packed_put, put, shows};
 
 const BACK: Place = Place { frame: 1, index: 0 };
 

@@ -1,5 +1,0 @@
-use Rattle.bw_log.specs.Views.{IsSound}
-use Rattle.care_tests.proofs.tests.steps.wrong_step.Given as goal
-
-abbrev pub invariant-loop-i : goal.invariant-loop-i
-invariant-loop-i g l = IsSound (λ b. (goal.Segment-dyn g (b.vtable, b.value)).holding b.value) l.log

@@ -1,6 +1,0 @@
-use Rattle.test_boxes.specs.Views.{seen}
-use Rattle.log_tests.specs.OnePage.{HoldsOne}
-use Rattle.log_tests.proofs.tests.walking.wrong_step.Given as goal
-
-abbrev pub invariant-loop-i : goal.invariant-loop-i
-invariant-loop-i g l = HoldsOne (seen l.log (λ z. (goal.Segment-dyn g z).holding z.1)) l.leaf

@@ -1,0 +1,10 @@
+//! The cleaner and recovery: worked boxes, whole, cut, changed and exchanged, as tables of rows, each
+//! walked to the first row that goes otherwise than told.
+
+mod boxes;
+mod changed;
+mod cleaned;
+mod many;
+mod recovered;
+mod steps;
+mod upgraded;

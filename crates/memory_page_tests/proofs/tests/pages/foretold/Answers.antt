@@ -1,5 +1,0 @@
-use Rattle.bw_page.proofs.Runs.{all_here}
-use Rattle.memory_page_tests.proofs.tests.pages.foretold.Goals as goal
-
-pub steps-requires : goal.steps-requires
-steps-requires c = all_here _ _ c.requires

@@ -1,7 +1,0 @@
-//! What one refused allocation leaves, for every public call of `bw_log`, `bw_care`, `bw_store` and
-//! `bw_drive` that takes memory. `make memory` runs these tests beside a shim that refuses;
-//! `tools/surface.md` says which call stands where.
-#![tactic(auto)]
-
-#[cfg(test)]
-mod tests;

@@ -1,7 +1,0 @@
-//! Rows and steps, each tried again and again with one allocation more before the one that is refused.
-
-mod boxes;
-mod care;
-mod drives;
-mod recovering;
-mod stores;

@@ -1,5 +1,0 @@
-use Rattle.bw_store.specs.Views.{IsSound}
-use Rattle.reader_tests.proofs.tests.readers.flush_all.Given as goal
-
-abbrev pub invariant-loop-value : goal.invariant-loop-value
-invariant-loop-value g l = IsSound l.served.store (λ z. (goal.Segment-dyn g z).holding z.1)
