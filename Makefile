@@ -24,9 +24,14 @@ PREFIX = /usr/local
 BENCH = --keys 1000000
 # One check a processor, each at one job: two jobs for one check cost a tenth more time of the processors.
 JOBS = $(shell n=$$(nproc); echo $$((n < 4 ? n : 4)))
+# The scripts that ask the built program, the longest first. They run side by side; growth.py compares times, and runs by itself.
+SCRIPTS = clients rescue sums failing tables_crash follow steady fuzz drawn cases tables people full beside pages moments events terminal waits
+fuzz_words = --cases 500
+people_words = crates/bwlog/out/bwlog 100000
+tables_crash_words = 100 5
 SUBJECTS = pages cleaning core alone beside late one one-beside many many-beside
 
-.PHONY: run try lib install uninstall test check wrong memory bench peers crash fuzz
+.PHONY: run try lib install uninstall test check wrong memory bench peers crash fuzz ask-refuse $(SCRIPTS:%=ask-%)
 
 run:
 	@python3 tools/prove.py bwlog
@@ -53,26 +58,13 @@ test:
 	python3 tools/pictures.py --check
 	RT_JOBS=$(JOBS) python3 tools/shown.py rt ci
 	python3 tools/manual.py --check
-	python3 tests/program/cases.py
-	python3 tests/program/drawn.py
-	python3 tests/program/fuzz.py --cases 500
-	python3 tests/program/waits.py
-	python3 tests/program/events.py
-	python3 tests/program/moments.py
-	python3 tests/program/clients.py
-	python3 tests/program/sums.py
-	python3 tests/program/rescue.py
-	python3 tests/program/failing.py
-	python3 tests/program/steady.py
-	python3 tests/program/full.py
-	python3 tests/program/people.py crates/bwlog/out/bwlog 100000
-	python3 tests/program/tables.py
-	python3 tests/program/terminal.py
-	python3 tests/program/pages.py
+	@$(MAKE) --no-print-directory --keep-going --output-sync=target --jobs $(JOBS) ask-refuse $(SCRIPTS:%=ask-%)
 	python3 tests/program/growth.py
-	python3 tests/program/beside.py
-	python3 tests/program/follow.py
-	python3 tests/program/tables_crash.py 100 5
+
+$(SCRIPTS:%=ask-%): ask-%:
+	python3 tests/program/$*.py $($*_words)
+
+ask-refuse:
 	python3 tools/refuse.py --every 5
 
 check:

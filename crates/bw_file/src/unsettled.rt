@@ -99,11 +99,13 @@ fn found_alone<R: AllocGlobal + Files<File = F>, F: SegmentFile>(
 ) -> Result<Option<F>, FolderFault>
     ensures cause { IfErr result (λ cause. cause ≢ BadConfig) }
 {
-    let file = found(rt, name)?;
-    if let Some(file) = &file {
-        file.lock_alone()?;
+    match found(rt, name)? {
+        Some(file) => {
+            file.lock_alone()?;
+            Ok(Some(file))
+        }
+        None => Ok(None),
     }
-    Ok(file)
 }
 
 // The file of this name, which is made: nothing has come there since it was looked for.
