@@ -13,7 +13,7 @@ EXAMPLES = {
     "docs/FIRST.md": ["crates/users/src/users.rt"],
     "docs/INSIDE.md": ["crates/bw_file/src/segment.rt", "crates/bw_versions/src/writer.rt", "crates/bw_codec/src/check.rt"],
 }
-PAGES = ["README.md"] + ["docs/%s.md" % name for name in ("FIRST", "USING", "FORMAT", "PROMISES", "INSIDE", "DECISIONS", "TESTING", "MEASURED")]
+PAGES = ["README.md"] + ["docs/%s.md" % name for name in ("FIRST", "USING", "EMBED", "FORMAT", "PROMISES", "INSIDE", "DECISIONS", "TESTING", "MEASURED")]
 # What a page says that a program of the gate prints, line for line.
 PRINTED = {"docs/FIRST.md": "crates/users/stdout"}
 # What a run or a reader of a page makes.

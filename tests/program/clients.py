@@ -30,7 +30,7 @@ CASES = [os.path.join(HERE, "clients", name) for name in ("table.toml", "tables.
 PROGRAM = os.path.abspath(BUILT)
 PYTHON, CRATE, MODULE = (os.path.join(TOP, "clients", name) for name in ("python", "rust", "go"))
 CLIENT_IN_C = [os.path.join(TOP, "clients", "c", name) for name in ("hechdoram.c", "hechdoram_scan.c", "hechdoram_tables.c")]
-PAGE = os.path.join(TOP, "docs", "USING.md")
+PAGE = os.path.join(TOP, "docs", "EMBED.md")
 OUT = os.path.join(TOP, "out")
 SEED = 84
 # Keys whose requests are more than a pipe takes at once.
@@ -364,11 +364,11 @@ def example_in(room, language, source):
 
 
 def try_examples(room):
-    """Each example of USING prints what it has to, and its store has what was kept."""
+    """Each example of EMBED prints what it has to, and its store has what was kept."""
     with open(PAGE, encoding="utf-8") as file:
         part = re.search(r"^## Clients: Python, C, Rust, Go\n(.*?)(?=^## |\Z)", file.read(), re.M | re.S)[1]
     shown = re.findall(r"^```(\w+)\n(.*?)^```$", part, re.M | re.S)
-    expect([language for language, _ in shown], ["python", "c", "rust", "go"], "the examples of USING")
+    expect([language for language, _ in shown], ["python", "c", "rust", "go"], "the examples of EMBED")
     ran = []
     for language, text in shown:
         own = os.path.join(room, language)
@@ -382,7 +382,7 @@ def try_examples(room):
             expect(do(*words, cwd=own, env=env), "lib/b=2\nlib/a=1\n", "the example of " + language)
             expect(do(PROGRAM, "list", "--dir", "store", cwd=own), "greeting\thello\nlib/a\t1\nlib/b\t2\n", "what it kept")
             ran.append(language)
-    return "the examples of USING run: " + ", ".join([*ran, try_tables(room)])
+    return "the examples of EMBED run: " + ", ".join([*ran, try_tables(room)])
 
 
 def try_tables(room):

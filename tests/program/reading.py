@@ -8,7 +8,7 @@ others, keys that begin one another, deletes and groups, cleanings, one pair, no
 absent keys, the first pair at or above each, and walks of prefixes; C is compiled as C11 and as C++14, with a sanitizer where there is
 one, and run under valgrind where it is there; Rust where cargo is there. Refused have to be: a folder that is not there, has no store,
 has other files, has one byte changed, or is open to be written; and each allocation of an opening is refused in turn. No file is changed by a reader. The two examples of
-USING run.
+EMBED run.
 It prints one line with counts; what is left out is said."""
 
 import bisect
@@ -29,7 +29,7 @@ PROGRAM = os.path.join(TOP, "crates", "bwlog", "out", "bwlog")
 OUT = os.path.join(TOP, "out")
 ARCHIVE, SHARED = (os.path.join(OUT, "libhechdoram_read." + end) for end in ("a", "so"))
 ASK = os.path.join(HERE, "reading", "ask")
-PAGE = os.path.join(TOP, "docs", "USING.md")
+PAGE = os.path.join(TOP, "docs", "EMBED.md")
 # Where a sync takes no time, if there is such a place.
 FAST = "/dev/shm" if os.path.isdir("/dev/shm") else None
 STRICT = ["-O1", "-Wall", "-Wextra", "-Wpedantic", "-Wconversion", "-Werror", "-I", os.path.join(TOP, "include")]
@@ -463,11 +463,11 @@ def refused_memory(program, room, folder, pairs):
 
 
 def examples(room):
-    """Those of USING, over a folder that they name."""
+    """Those of EMBED, over a folder that they name."""
     with open(PAGE, encoding="utf-8") as file:
         part = re.search(r"^## Reading a folder from C, Python or Rust\n(.*?)(?=^## |\Z)", file.read(), re.M | re.S)[1]
     shown = dict(re.findall(r"^```(c|python)\n(.*?)^```$", part, re.M | re.S))
-    expect(sorted(shown), ["c", "python"], "the examples of USING")
+    expect(sorted(shown), ["c", "python"], "the examples of EMBED")
     for text in shown.values():
         expect(text.count("\n") <= 20, True, "an example has at most twenty lines")
     imported(os.path.join(room, "store"), {b"greeting": b"hello", b"lib/a": b"1", b"lib/b": b"2", b"other": b"3"})
