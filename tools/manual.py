@@ -24,6 +24,7 @@ STATUS = [
     ("4", "something was refused, damaged or lost"),
     ("5", "out of memory"),
     ("6", "a read or a write failed, or a folder was not opened"),
+    ("7", "verify found no fault, and bytes without a digest"),
 ]
 
 
