@@ -1,4 +1,4 @@
-//! Writers in threads beside the store's, as docs/USING.md tells it.
+//! Writers in threads beside the store's, as docs/EMBED.md tells it.
 
 ghost use Rattle.std.specs.Prelude.{◌≡◌, map};
 ghost use Rattle.bw_ring.specs.Ends.{ring_of_feed};

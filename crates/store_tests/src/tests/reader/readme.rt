@@ -1,4 +1,4 @@
-//! The example of docs/USING.md: a store, a put from a thread, a settlement, the value.
+//! The example of docs/EMBED.md: a store, a put from a thread, a settlement, the value.
 
 ghost use Rattle.std.specs.Prelude.{◌≡◌, map};
 ghost use Rattle.bw_ring.specs.Ends.{ring_of_feed};
