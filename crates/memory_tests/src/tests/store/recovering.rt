@@ -50,6 +50,17 @@ pub(super) fn recovered(alloc: Global, boxes: Vec<Box<dyn Segment>>) -> Option<(
     }
 }
 
+/// What was recovered, with each page in memory.
+fn warm_in(found: Recovered) -> Option<Recovered>
+    requires { IsRecovered (λ b. holding (b.vtable, b.value)) found }
+    ensures { IfSome result (λ r. IsRecovered (λ b. holding (b.vtable, b.value)) r) }
+{
+    match found.warm() {
+        Ok(found) => Some(found),
+        Err(_) => None,
+    }
+}
+
 /// What was recovered, with each page in memory, brought there in a window, once more where memory was
 /// refused: what was recovered came back then. None where it is otherwise.
 pub(super) fn warmed(alloc: Global, found: Recovered) -> Option<(Try, Recovered)>
@@ -65,7 +76,7 @@ pub(super) fn warmed(alloc: Global, found: Recovered) -> Option<(Try, Recovered)
             if fault.cause != RecoverCause::NoMemory || !refused {
                 return None;
             }
-            Some((Try::Refused, fault.recovered.warm().ok()?))
+            Some((Try::Refused, warm_in(fault.recovered)?))
         }
     }
 }
