@@ -23,6 +23,7 @@ mod records;
 mod shortening;
 mod span;
 mod tables;
+mod tables_task;
 mod task;
 mod tending;
 
@@ -37,5 +38,6 @@ pub use pages::check_store;
 pub use plan::Plan;
 pub use span::{Span, above};
 pub use tables::has_tables;
+pub use tables_task::TablesTask;
 pub use task::{Listed, Range, Task, Told, perform};
 pub use tending::{Tending, forget};

@@ -9,42 +9,14 @@ use crate::run::{Calls, Run};
 use crate::words::{keys_by, name_by, put_key_by, span_of, value_by};
 use bw_home::{System, with_store_at};
 use bw_keys::{
-    Changed, Effect, KeysFault, Loaded, Range, Style, Tending, Told, check_store, leases_of,
-    options,
+    Changed, Effect, KeysFault, Loaded, Range, Style, TablesTask, Tending, Told, check_store,
+    leases_of, options,
 };
 use bw_look::{Watch, Work, folder_bytes, input_bytes};
 use bw_pairs::{LineFault, Rows, Skipped, Source, Spelling};
 use bw_rows::Name;
 use std::alloc::Global;
 use std::io::{Read, Write};
-
-/// What is done with the tables of a folder, by words of the command line.
-#[derive(Debug, Drop)]
-pub enum Task<'a> {
-    /// Their names are listed.
-    Names,
-    /// One of this name is made.
-    Create(&'a str),
-    /// One goes away.
-    Drop(&'a str),
-    /// This is done with the keys of one.
-    Table(&'a str, bw_keys::Task<'a>),
-    /// The databases of a dump go into tables of their names.
-    Import(bw_keys::Import),
-    /// All are exported as the databases of a dump.
-    Export(Style),
-}
-
-impl Task<'_> {
-    /// Whether it reads the input.
-    pub fn reads_input(&self) -> bool {
-        match self {
-            Task::Table(_, task) => task.reads_input(),
-            Task::Import(_) => true,
-            _ => false,
-        }
-    }
-}
 
 /// A folder, and by how many leases it is opened.
 #[derive(Drop)]
@@ -386,7 +358,7 @@ pub fn perform<R: System, I: Read, O: Write, W: Watch>(
     rt: &R,
     dir: &str,
     leases: u32,
-    task: &Task<'_>,
+    task: &TablesTask<'_>,
     input: &mut I,
     output: &mut O,
     watch: &mut W,
@@ -394,18 +366,18 @@ pub fn perform<R: System, I: Read, O: Write, W: Watch>(
     let place = Place { rt, dir, leases };
     let place = &place;
     match task {
-        Task::Names => names(place, output, watch),
-        Task::Create(word) => create(place, name_by(*word)?, watch),
-        Task::Drop(word) => drop_named(place, name_by(*word)?, watch),
-        Task::Table(word, task) => {
+        TablesTask::Names => names(place, output, watch),
+        TablesTask::Create(word) => create(place, name_by(*word)?, watch),
+        TablesTask::Drop(word) => drop_named(place, name_by(*word)?, watch),
+        TablesTask::Table(word, task) => {
             let name = name_by(*word)?;
             perform_in(place, name, task, input, output, watch)
         }
-        Task::Import(wanted) => {
+        TablesTask::Import(wanted) => {
             check_dump(wanted.source == Source::Dump)?;
             import(place, None, input, *wanted, watch)
         }
-        Task::Export(style) => {
+        TablesTask::Export(style) => {
             check_dump(matches!(style, Style::Dump(..)))?;
             list(place, None, None, (*style, u64::MAX), output, watch)
         }

@@ -6,7 +6,9 @@ use bw_core::StoreFault;
 use bw_device::MAX_LEASES;
 use bw_file::FolderFault;
 use bw_home::HomeFault;
-use bw_keys::{Changed, Effect, KeysFault, Loaded, Plan, TableRefusal, Task, Told, perform};
+use bw_keys::{
+    Changed, Effect, KeysFault, Loaded, Plan, TableRefusal, TablesTask, Task, Told, perform,
+};
 use bw_look::{Printer, Progress, Watch};
 use bw_pairs::LineFault;
 use bw_segments::{tell_far, tell_located};
@@ -282,7 +284,7 @@ fn performed<R: Host, I: Read, O: Write, E: Write + IsTerminal>(
 fn performed_named<R: Host, I: Read, O: Write, E: Write + IsTerminal>(
     rt: &R,
     dir: &str,
-    task: &bw_named::Task<'_>,
+    task: &TablesTask<'_>,
     input: &mut I,
     output: &mut O,
     errors: &mut E,
@@ -333,9 +335,9 @@ pub fn keys<R: Host, I: Read, O: Write, E: Write + IsTerminal>(
 }
 
 /// The task over the keys of one table, if it is one.
-fn inner<'b>(task: &'b bw_named::Task<'b>) -> Option<&'b Task<'b>> {
+fn inner<'b>(task: &'b TablesTask<'b>) -> Option<&'b Task<'b>> {
     match task {
-        bw_named::Task::Table(_, task) => Some(task),
+        TablesTask::Table(_, task) => Some(task),
         _ => None,
     }
 }
@@ -344,7 +346,7 @@ fn inner<'b>(task: &'b bw_named::Task<'b>) -> Option<&'b Task<'b>> {
 pub fn tables<R: Host, I: Read, O: Write, E: Write + IsTerminal>(
     rt: &R,
     dir: &str,
-    task: &bw_named::Task<'_>,
+    task: &TablesTask<'_>,
     input: &mut I,
     output: &mut O,
     errors: &mut E,

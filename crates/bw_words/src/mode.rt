@@ -2,7 +2,7 @@
 
 use crate::script::Reading;
 use bw_home::System;
-use bw_keys::{FEW, Task, leases_of};
+use bw_keys::{FEW, TablesTask, Task, leases_of};
 use bw_look::Hearing;
 
 /// How lines are read and answered.
@@ -63,7 +63,7 @@ pub enum Mode<'a> {
     /// This is done with the keys of a folder.
     Keys(&'a str, Task<'a>),
     /// This is done with its tables.
-    Named(&'a str, bw_named::Task<'a>),
+    Named(&'a str, TablesTask<'a>),
     /// The lines of the input are done over a store, in this manner.
     Lines(Options<'a>, Manner),
     /// Each writer's script is run by a thread of its own over a store.

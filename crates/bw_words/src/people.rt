@@ -3,7 +3,7 @@
 use crate::mode::Mode;
 use crate::options::{text_in, texts_in};
 use crate::table::{CAPACITY, Form, Kind, Row};
-use bw_keys::{Effect, Import, Listed, Parts, Range, Style, Task};
+use bw_keys::{Effect, Import, Listed, Parts, Range, Style, TablesTask, Task};
 use bw_pairs::{Letters, Source, Spelling};
 use clap::ArgMatches;
 use std::alloc::{AllocError, Global};
@@ -416,7 +416,7 @@ fn import_in(found: &ArgMatches<'_>) -> Import {
 fn keys<'a>(found: &ArgMatches<'a>, task: Task<'a>) -> Mode<'a> {
     let dir = word_in(found, "dir");
     match text_in(found, "table") {
-        Some(name) => Mode::Named(dir, bw_named::Task::Table(name, task)),
+        Some(name) => Mode::Named(dir, TablesTask::Table(name, task)),
         None => Mode::Keys(dir, task),
     }
 }
@@ -425,7 +425,7 @@ fn keys<'a>(found: &ArgMatches<'a>, task: Task<'a>) -> Mode<'a> {
 fn imported_in<'a>(found: &ArgMatches<'a>) -> Mode<'a> {
     let wanted = import_in(found);
     if found.get_flag("named") {
-        return Mode::Named(word_in(found, "dir"), bw_named::Task::Import(wanted));
+        return Mode::Named(word_in(found, "dir"), TablesTask::Import(wanted));
     }
     keys(found, Task::Import(wanted))
 }
@@ -434,7 +434,7 @@ fn imported_in<'a>(found: &ArgMatches<'a>) -> Mode<'a> {
 fn exported_in<'a>(found: &ArgMatches<'a>) -> Mode<'a> {
     let style = style_in(found);
     if found.get_flag("named") {
-        return Mode::Named(word_in(found, "dir"), bw_named::Task::Export(style));
+        return Mode::Named(word_in(found, "dir"), TablesTask::Export(style));
     }
     keys(found, Task::Export(range_in(found), style))
 }
@@ -442,9 +442,9 @@ fn exported_in<'a>(found: &ArgMatches<'a>) -> Mode<'a> {
 /// What the words after `tables` say.
 fn tables_in<'a>(found: &ArgMatches<'a>) -> Mode<'a> {
     let task = match (text_in(found, "create"), text_in(found, "drop")) {
-        (Some(name), _) => bw_named::Task::Create(name),
-        (None, Some(name)) => bw_named::Task::Drop(name),
-        (None, None) => bw_named::Task::Names,
+        (Some(name), _) => TablesTask::Create(name),
+        (None, Some(name)) => TablesTask::Drop(name),
+        (None, None) => TablesTask::Names,
     };
     Mode::Named(word_in(found, "dir"), task)
 }
