@@ -9,7 +9,7 @@ use Rattle.bw_walks.specs.Back.{IsNextBelow}
 use Rattle.bw_walks.proofs.Backwards.{filled, front_next, filled_next}
 use Rattle.bw.specs.Keys.{IsAfter}
 
--- where a key is the greatest below another, the other is the least above it
+-- if a key is the greatest below another, the other is the least above it
 after_last : (key next : Bytes) → IsNextBelow next key → IsAfter key (Some next)
 after_last key next n = (
   n.below,
@@ -23,7 +23,7 @@ after_last key next n = (
 pub after_short : (key : Bytes) → IsAfter key (Some (key ++ 0 ∷ []))
 after_short key = after_last key (key ++ 0 ∷ []) (front_next (key ++ 0 ∷ []) key refl)
 
--- a key behind whose end each byte is the greatest: with one more before the end
+-- a key after whose end each byte is the greatest: with one more before the end
 pub one_before : (key : Bytes) (end : ℕ) → length key ≡ 128 → 0 < end → end ≤ 128 → key ≡ take end key ++ filled (128 - end)
     → key ≡ take (end - 1) key ++ get_or key (end - 1) 0 ∷ filled (128 - end)
 one_before key end long some fits is =
@@ -31,7 +31,7 @@ one_before key end long some fits is =
     ap (λ (n : ℕ). take n key) (omega arith) ∙ take_more key (end - 1) 0 (omega arith) in
     is ∙ ap (λ (k : Bytes). k ++ filled (128 - end)) more ∙ append_assoc (take (end - 1) key) (get_or key (end - 1) 0 ∷ []) (filled (128 - end))
 
--- where that one is not the greatest
+-- if that one is not the greatest
 pub after_raised : (key : Bytes) (end : ℕ) → length key ≡ 128 → 0 < end → end ≤ 128 → key ≡ take end key ++ filled (128 - end)
     → IsAfter key (Some (take (end - 1) key ++ (get_or key (end - 1) 0 + 1) ∷ []))
 after_raised key end long some fits is =
@@ -41,14 +41,14 @@ after_raised key end long some fits is =
     let raised : front ++ (b + 1) ∷ [] ≡ front ++ suc b ∷ [] = ap (λ (n : ℕ). front ++ n ∷ []) (omega arith) in
     after_last key (front ++ (b + 1) ∷ []) (filled_next (front ++ (b + 1) ∷ []) front key b (128 - end) raised (one_before key end long some fits is) (omega arith))
 
--- where it is
+-- if it is
 pub one_more : (key : Bytes) (end : ℕ) → length key ≡ 128 → 0 < end → end ≤ 128 → key ≡ take end key ++ filled (128 - end)
     → get_or key (end - 1) 0 ≡ 255 → key ≡ take (end - 1) key ++ filled (128 - (end - 1))
 one_more key end long some fits is greatest =
     one_before key end long some fits is ∙ ap (λ b. take (end - 1) key ++ b ∷ filled (128 - end)) greatest
     ∙ ap (λ (n : ℕ). take (end - 1) key ++ filled n) (let more : suc (128 - end) ≡ 128 - (end - 1) = omega arith in more)
 
--- at first no byte is behind the end
+-- at first no byte is after the end
 pub none_behind : (key : Bytes) → length key ≡ 128 → key ≡ take (length key) key ++ filled (128 - length key)
 none_behind key long =
     sym (ap (λ (n : ℕ). take (length key) key ++ filled n) (let none : 128 - length key ≡ 0 = omega arith in none)

@@ -67,7 +67,7 @@ below_past (x ∷ xs) (z ∷ zs) (y ∷ ys) b u not =
 
 -- ---- a walk
 
--- where the first pair's key is not the walk's, none ahead has a value
+-- if the first pair's key is not the walk's, none ahead has a value
 pub none_ahead : (map : Map) (prefix place : Option Bytes) (first : Option (Bytes × Bytes)) (at key value : Bytes) → first ≡ Some (key, value)
     → is_early prefix place ≡ false → place ≡ Some at → IsFirst map at first → begins prefix key ≡ false
     → (q : Bytes) → IsAhead prefix place q → finite.get map q ≡ None
@@ -82,7 +82,7 @@ pub from_pair : (place : Option Bytes) (first : Option (Bytes × Bytes)) (pair :
     → IfSome first (λ p. IsFrom place p.0) → IsFrom place pair.0
 from_pair place first pair is from = subst (λ (o : Option (Bytes × Bytes)). IfSome o (λ p. IsFrom place p.0)) is from
 
--- the place behind a pair is not below the prefix
+-- the place after a pair is not below the prefix
 pub stays_within : (prefix place next : Option Bytes) (key : Bytes) → is_early prefix place ≡ false → IsFrom place key → IsAfter key next
     → is_early prefix next ≡ false
 stays_within None place next key within from after = refl
@@ -102,6 +102,6 @@ ahead_behind prefix (Some at) (Some next) key from after q bytes is = (
   λ was. (was.0.0, (after.1 q bytes is).0 was.1),
 )
 
--- behind the end nothing is read
+-- after the end nothing is read
 pub stays : (s : Kept) → Follows s s
 stays s = stays_on s s.log

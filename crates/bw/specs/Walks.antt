@@ -1,4 +1,4 @@
--- A walk over the pairs of a map whose keys begin with a prefix, where there is one.
+-- A walk over the pairs of a map whose keys begin with a prefix, if there is one.
 
 use Rattle.std.specs.Prelude.{◌≡◌, ◌↔◌, Bool, true, false, IsTrue, Option, Some, None, nat_eq}
 use Rattle.std.specs.List.{starts_with}
@@ -17,7 +17,7 @@ is_early None place = false
 is_early (Some prefix) None = false
 is_early (Some prefix) (Some at) = is_below at prefix
 
--- a key is not below the place; behind its end a walk has none
+-- a key is not below the place; after its end a walk has none
 abbrev pub IsFrom : Option Bytes → Bytes → Type 0
 IsFrom None key = ⊥
 IsFrom (Some at) key = is_below key at ≡ false
@@ -32,12 +32,13 @@ pub record IsNextPair (map : Map) (Ahead : Bytes → Type 0) (pair : Bytes × By
   pub ahead : Ahead pair.0
   pub none : (q : Bytes) → Ahead q → IsTrue (is_below q pair.0) → finite.get map q ≡ None
 
--- the first pair ahead, where there is one
+-- the first pair ahead, if there is one
 abbrev pub IsNext : Map → (Bytes → Type 0) → Option (Bytes × Bytes) → Type 0
 IsNext map Ahead None = (q : Bytes) → Ahead q → finite.get map q ≡ None
 IsNext map Ahead (Some pair) = IsNextPair map Ahead pair
 
--- the place behind an answer: ahead are the keys above the pair's that were; and none, where there was no pair
+-- the place after an answer: ahead are the keys above the pair's that were; and none, if there was
+-- no pair
 abbrev pub HasPassed : Option Bytes → Option Bytes → Option Bytes → Option (Bytes × Bytes) → Type 0
 HasPassed prefix was now None = now ≡ None
 HasPassed prefix was now (Some pair) = (q : Bytes) → IsBytes q → IsKey q → IsAhead prefix now q ↔ (IsAhead prefix was q × IsTrue (is_below pair.0 q))

@@ -1,4 +1,4 @@
-//! The key behind another, where a walk goes on.
+//! The key after another, from which a walk goes on.
 
 ghost use Rattle.std.specs.Prelude.{◌≡◌, ◌<◌, [], ◌∷◌, ◌++◌, Some, length};
 ghost use Rattle.bw.specs.Keys.{IsAfter};
@@ -18,10 +18,10 @@ pub(crate) fn ended(front: &[u8], last: u8) -> Option<Key>
     Key::new(&bytes[..=at]).ok()
 }
 
-/// The least key above this one; `None` where there is none, as of 128 bytes 255.
+/// The least key above this one; `None` if there is none, as of 128 bytes 255.
 ///
-/// A key goes on with a zero as long as it has room. A whole one ends behind its last byte that can
-/// be raised, and with that raised.
+/// A key goes on with a zero as long as it has room. A whole one ends with its last byte that can
+/// be raised, which is raised.
 pub fn after(key: &Key) -> Option<Key>
     ensures { IsAfter key.now result }
 {

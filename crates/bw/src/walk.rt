@@ -21,7 +21,7 @@ use bw_home::Home;
 pub struct Walk {
     /// What the keys begin with; `None` for all keys.
     pub prefix: Option<Key>,
-    /// The least key that the walk may come to; `None` behind its end.
+    /// The least key that the walk may come to; `None` after its end.
     pub place: Option<Key>,
     pub ghost within: { is_early prefix place ≡ false },
 }
@@ -61,7 +61,7 @@ impl Walk {
         }
     }
 
-    // Goes on behind the first pair from the walk's place, and answers it, if its key is the walk's.
+    // Goes on after the first pair from the walk's place, and answers it, if its key is the walk's.
     // No key of the walk is above one that is not.
     fn pass(&mut self, first: Option<(Key, Value)>) -> Option<(Key, Value)>
         requires { IfSome first (λ pair. IsFrom self.old.place pair.0) }
@@ -80,8 +80,8 @@ impl Walk {
         Some((key, value))
     }
 
-    /// The first pair ahead, as `Home::next_at` reads it; `None` where there is none. The walk is
-    /// then behind that pair, or at its end, from where it reads no more.
+    /// The first pair ahead, as `Home::next_at` reads it; `None` if there is none. The walk is then
+    /// after that pair, or at its end, and reads no more from there.
     ///
     /// Refused as `Home::next_at` is: the walk stays where it was.
     pub fn next(&mut self, home: &mut Home) -> Result<Option<(Key, Value)>, StoreFault>

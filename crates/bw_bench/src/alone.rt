@@ -76,7 +76,8 @@ impl<R: Threads + Wait> Subject<'_, R> {
         Some((cost?, seen))
     }
 
-    /// The same, told; then all keys are read back.
+    /// Puts, takes and flushes the records of a span, and says what that cost; then all keys are
+    /// read back.
     fn put_span(&self, store: &mut Store, feed: &mut Feed, span: Span) -> Option<()>
         requires { IsSound store.old holding }
         ensures store { Keeps store.old store.new holding }
@@ -92,8 +93,7 @@ impl<R: Threads + Wait> Subject<'_, R> {
         read_back(bench, store, span.name, keys, span.to)
     }
 
-    /// New keys, then old ones; and where there is nothing beside and readers see all, gets and
-    /// walks.
+    /// New keys, then old ones; and if there is nothing beside and readers see all, gets and walks.
     fn put_and_get(&self, store: &mut Store, feed: &mut Feed) -> Option<()>
         requires { IsSound store.old holding }
         ensures store { Keeps store.old store.new holding }
@@ -110,7 +110,7 @@ impl<R: Threads + Wait> Subject<'_, R> {
         gets_evicted(self.bench, store)
     }
 
-    // The same by the first of the feeds, of which there is one.
+    // What `put_and_get` does, by the first of the feeds, of which there is one.
     fn by_first(&self, store: &mut Store, feeds: &mut Vec<Feed>) -> Option<()>
         requires sound { IsSound store.old holding }
         requires some { 0 < length feeds.old.items }
@@ -120,7 +120,7 @@ impl<R: Threads + Wait> Subject<'_, R> {
         self.put_and_get(store, &mut feeds[0])
     }
 
-    /// The same by the first of the feeds.
+    /// What `put_and_get` does, by the first of the feeds; refused if there is none.
     pub fn alone(&self, store: &mut Store, feeds: &mut Vec<Feed>) -> Option<()>
         requires { IsSound store.old holding }
         ensures store { Keeps store.old store.new holding }

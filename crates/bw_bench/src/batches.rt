@@ -39,7 +39,7 @@ fn take_all(bench: &Bench, store: &mut Store, many: usize) -> Option<()>
     }
 }
 
-/// Flushes if told.
+/// Flushes if it is due.
 fn flush_if<R: Wait>(rt: &R, bench: &Bench, store: &mut Store, is_due: bool) -> Option<()>
     requires { IsSound store.old holding }
     ensures { Keeps store.old store.new holding }
@@ -53,7 +53,7 @@ fn flush_if<R: Wait>(rt: &R, bench: &Bench, store: &mut Store, is_due: bool) -> 
     }
 }
 
-/// Puts and takes a batch, and flushes it if told: with its cost.
+/// Puts and takes a batch, and flushes it if that is due: with its cost.
 fn one_batch<R: Wait>(
     rt: &R,
     bench: &Bench,

@@ -1,4 +1,4 @@
-//! What each subject is given: the system, what was asked for, and a clock; and where it tells why
+//! What each subject is given: the system, what was asked for, and a clock; and where it says why
 //! it goes no further.
 
 ghost use Rattle.std.specs.Prelude.{IsNone};
@@ -15,8 +15,8 @@ use std::io;
 use std::time::Instant;
 
 /// The system and what was asked of the program. A subject that goes no further answers nothing,
-/// and has told here why, but for want of memory, of which nobody tells. A line that is not written
-/// and a clock that is not read stop nothing at once: `end` tells of them.
+/// and has said here why, but for want of memory, of which nobody speaks. A line that is not
+/// written and a clock that is not read stop nothing at once: `end` reports them.
 #[derive(Drop)]
 pub struct Bench {
     pub system: HostRuntime,
@@ -28,7 +28,7 @@ pub struct Bench {
 }
 
 impl Bench {
-    /// The clock begins here. A stop of which nobody tells is for want of memory.
+    /// The clock begins here. A stop of which nobody speaks is for want of memory.
     pub fn new(system: HostRuntime, options: Options) -> io::Result<Bench> {
         Ok(Bench {
             system,
@@ -47,7 +47,7 @@ impl Bench {
         }
     }
 
-    /// The nanoseconds since the run began; 0 where the clock fails.
+    /// The nanoseconds since the run began; 0 if the clock fails.
     pub fn now(&self) -> u64 {
         match self.start.elapsed(&self.system) {
             Ok(time) => u64::try_from(time.as_nanos()).unwrap_or(u64::MAX),
@@ -63,7 +63,7 @@ impl Bench {
         self.now().saturating_sub(start)
     }
 
-    /// Tells what is in the way, and that nothing more is done.
+    /// Says what is in the way, and that nothing more is done.
     pub fn stop<T>(&self, stop: Stop, what: impl Display + Copy + Drop) -> Option<T>
         ensures { IsNone result }
     {
@@ -73,7 +73,7 @@ impl Bench {
         None
     }
 
-    /// Tells what a store refuses, and that nothing more is done.
+    /// Says what a store refuses, and that nothing more is done.
     pub fn refused<T>(&self, fault: StoreFault) -> Option<T>
         ensures { IsNone result }
     {
@@ -83,7 +83,7 @@ impl Bench {
         }
     }
 
-    /// The same of a folder or of a file in it.
+    /// Says what a folder refuses, or a file in it, and that nothing more is done.
     pub fn not_opened<T>(&self, fault: FolderFault) -> Option<T>
         ensures { IsNone result }
     {
@@ -93,7 +93,7 @@ impl Bench {
         }
     }
 
-    /// The same of a store in a folder.
+    /// Says what a store in a folder refuses, and that nothing more is done.
     pub fn not_begun<T>(&self, fault: HomeFault) -> Option<T>
         ensures { IsNone result }
     {
@@ -103,7 +103,7 @@ impl Bench {
         }
     }
 
-    /// What ends the run, where a subject answered this.
+    /// What ends the run, if a subject answered this.
     pub fn end(&self, went: Option<()>) -> Result<(), Stop> {
         if self.has_failed.get() {
             return Err(Stop::System);

@@ -78,7 +78,7 @@ pub fn start_if<R: Threads>(
     }
 }
 
-/// What the reader saw, if there is one. Where the puts were refused it is not waited for: it ends
+/// What the reader saw, if there is one. If the puts were refused, it is not waited for: it ends
 /// once its store is shut.
 pub fn end_if<R: Threads>(rt: &R, looker: Option<JoinHandle<Seen>>, are_put: bool) -> Option<Seen> {
     match looker {

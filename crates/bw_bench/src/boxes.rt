@@ -76,8 +76,8 @@ fn over_and_again<R: Threads + Wait>(
     reopened(rt, bench, bench.now(), live)
 }
 
-/// The same over boxes of so many leases. A function that takes or gives a box, or a store, makes
-/// none.
+/// Runs the course over boxes of so many leases, and then goes on from the live ones. A function
+/// that takes or gives a box, or a store, makes none.
 fn over_leases<R: Threads + Wait>(
     rt: &R,
     bench: &Bench,

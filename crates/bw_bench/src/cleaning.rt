@@ -21,7 +21,7 @@ const FRAMES: u64 = 64;
 /// Room for the segment, or for what is written again, and more.
 const CAPACITY: u64 = 2_097_152;
 
-/// The least of so many rounds is told.
+/// The least of so many rounds is printed.
 const ROUNDS: u32 = 50;
 
 /// A key of 8 bytes and a value of 16.
@@ -33,7 +33,7 @@ fn put_pair(out: &mut Vec<u8>, key: u64) -> Result<(), AllocError> {
     out.extend_from_slice(&pair)
 }
 
-/// What a Base of a page begins with: its number, and its low key, where it has one.
+/// What a Base of a page begins with: its number, and its low key, if it has one.
 fn put_low(out: &mut Vec<u8>, page: u32, low: u64) -> Result<(), AllocError> {
     let [a, b, c, d] = page.to_le_bytes();
     if page == 1 {
@@ -54,7 +54,7 @@ fn put_base(out: &mut Vec<u8>, page: u32) -> Result<(), AllocError> {
     Ok(())
 }
 
-/// The pages of a frame, behind those of the frames before it.
+/// The pages of a frame, after those of the frames before it.
 fn put_bases(out: &mut Vec<u8>, number: u64) -> Result<(), AllocError> {
     let behind = number.saturating_sub(1).saturating_mul(IN_FRAME);
     for i in 1..=IN_FRAME {
@@ -105,7 +105,7 @@ fn clean_all(bench: &Bench, log: &mut Log) -> Option<u64>
     bench.stop(Stop::Refused, "a page that is not cleaned")
 }
 
-/// The same of a log in these boxes.
+/// The nanoseconds of a cleaning of the log in these boxes, which writes all pages again.
 fn clean_boxes(bench: &Bench, boxes: Vec<Box<dyn Segment>>) -> Option<u64> {
     match recover(bench.alloc, boxes) {
         Ok(mut found) => clean_all(bench, &mut found.log),
@@ -113,7 +113,7 @@ fn clean_boxes(bench: &Bench, boxes: Vec<Box<dyn Segment>>) -> Option<u64> {
     }
 }
 
-/// The same of a log of these segments.
+/// The nanoseconds of a cleaning of a log of these segments, which writes all pages again.
 fn clean_pieces(bench: &Bench, desk: &mut Desk, pieces: &[&[u8]]) -> Option<u64> {
     let alloc = bench.alloc;
     let mut boxes: Vec<Box<dyn Segment>> = Vec::new(alloc);
@@ -123,7 +123,8 @@ fn clean_pieces(bench: &Bench, desk: &mut Desk, pieces: &[&[u8]]) -> Option<u64>
     clean_boxes(bench, boxes)
 }
 
-/// The same of this oldest segment, a newest one without a frame, and a spare.
+/// The nanoseconds of a cleaning of this oldest segment, beside a newest one without a frame, and a
+/// spare.
 fn clean_once(bench: &Bench, bytes: &[u8]) -> Option<u64> {
     let mut newest = Vec::new(bench.alloc);
     put_header(&mut newest, 2).ok()?;

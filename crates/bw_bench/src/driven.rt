@@ -86,7 +86,8 @@ impl<R: Threads + Wait> Subject<'_, R> {
         Some((first, second))
     }
 
-    /// The same, a reader beside or not: the nanoseconds of each, and what the reader saw.
+    /// Drives the puts of new keys and those of old ones, a reader beside or not: the nanoseconds
+    /// of each, and what the reader saw.
     fn beside(&self, store: &mut Store, feeds: &mut Vec<Feed>) -> Option<(u64, u64, Option<Seen>)>
         requires { AreReady store.old feeds.old holding }
         ensures { AreReady store.new feeds.new holding }

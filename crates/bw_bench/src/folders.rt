@@ -12,7 +12,7 @@ use bw_file::{FileSegment, Folder};
 use bw_home::{Options, SharedHome, SharedLegs, System, with_readers};
 use std::thread::Threads;
 
-/// What is appended: as it is told, and its bytes.
+/// What is appended: as it is printed, and its bytes.
 const SIZES: &[(&str, usize)] = &[
     ("append of 4 KiB", 4_096),
     ("append of 16 KiB", 16_384),
@@ -39,7 +39,8 @@ fn must_be_empty(bench: &Bench, folder: &Folder) -> Option<()> {
     }
 }
 
-/// The same, without segments, so that a run empties nobody's files.
+/// The folder of this name in another, which has to be without segments, so that a run empties
+/// nobody's files.
 fn new_folder(bench: &Bench, dir: &str, name: &'static str) -> Option<Folder> {
     let folder = open_folder(bench, dir, name)?;
     must_be_empty(bench, &folder)?;
@@ -61,7 +62,7 @@ fn file(bench: &Bench, folder: &Folder, desk: &mut Desk) -> Option<FileSegment> 
     }
 }
 
-/// Appends a piece, where the segment has room for it.
+/// Appends a piece, if the segment has room for it.
 fn append(segment: &mut FileSegment, piece: &[u8]) -> bool {
     let (held, capacity) = (segment.len(), segment.capacity());
     if held > capacity || piece.len() as u64 > capacity - held || segment.failures() > 0 {
@@ -104,7 +105,7 @@ fn append_sizes(bench: &Bench, folder: &Folder, desk: &mut Desk) -> Option<()> {
     Some(())
 }
 
-/// The same in a new folder.
+/// Appends of each size in a new folder, to a file of its own each.
 pub fn appends(bench: &Bench, dir: &str) -> Option<()> {
     let mut desk = Desk::new(bench.alloc, 3).ok()?;
     let folder = new_folder(bench, dir, "appends")?;

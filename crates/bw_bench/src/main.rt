@@ -2,9 +2,9 @@
 //!
 //! `bw_bench` runs the subjects of `subject` one after the other, each over a store of its own, and
 //! prints what each did and what it read back. With `--times` it also prints nanoseconds and bytes,
-//! and with `--dir` its segments stand in files. Keys are 8 bytes, behind those that all share, and
+//! and with `--dir` its segments stand in files. Keys are 8 bytes, after those that all share, and
 //! come in a scattered order; `shape` says which key and value each put has. A `Bench` is what each
-//! subject is given: the system, the options and a clock. By it a subject tells counts and times,
+//! subject is given: the system, the options and a clock. By it a subject prints counts and times,
 //! and why it goes no further.
 #![tactic(auto)]
 
@@ -61,8 +61,8 @@ fn usage(system: HostRuntime, error: &Error) -> Stop {
     }
 }
 
-/// Does what the words after the program's name ask for. The handle by which it may wait is told
-/// apart: only `main` knows that the system is one.
+/// Does what the words after the program's name ask for. The handle by which it may wait is given
+/// by itself: only `main` knows that the system is one.
 fn start<R: Threads + System>(rt: &R, system: HostRuntime, words: &[String]) -> Result<(), Stop> {
     let (options, scope) = match options_of(system.alloc(), words) {
         Ok(asked) => asked,
@@ -74,9 +74,9 @@ fn start<R: Threads + System>(rt: &R, system: HostRuntime, words: &[String]) -> 
     }
 }
 
-/// Exit status 0; 1 where a key read back otherwise than it was put; 2 where the words are no
-/// command line; 4 where something was refused; 5 where memory was; 6 where a thread failed, or, at
-/// the end of the subject, where the clock or a write had.
+/// Exit status 0; 1 if a key read back otherwise than it was put; 2 if the words are no command
+/// line; 4 if something was refused; 5 if memory was; 6 if a thread failed, or, at the end of the
+/// subject, if the clock or a write had.
 fn main(rt: HostRuntime) -> ExitCode {
     let Ok(words) = words_of(rt) else {
         return ExitCode::from(2);

@@ -11,7 +11,7 @@ use std::alloc::{AllocError, Global};
 pub struct Options {
     /// How many keys there are, 1 to 10,000,000.
     pub keys: u32,
-    /// How many bytes all keys share before those that tell them apart, 0 to 120.
+    /// How many bytes all keys share before those that set them apart, 0 to 120.
     pub shared: u16,
     /// How many bytes a value has, 8 to 512.
     pub value_length: u16,
@@ -84,7 +84,7 @@ const SUBJECTS: &[&str] = &[
 
 /// What an option takes.
 enum Kind {
-    /// A number from one to another, and what it is where none is given.
+    /// A number from one to another, and what it is if none is given.
     Number(i64, i64, &'static str),
     Flag,
     Subject,

@@ -1,4 +1,4 @@
-//! Pages alone, with no ring, log or reader: what a record costs at least.
+//! Pages only, with no ring, log or reader: what a record costs at least.
 
 ghost use Rattle.std.specs.Prelude.{◌≡◌, []};
 

@@ -12,7 +12,7 @@ use bw_device::Segment;
 use bw_store::Store;
 use std::sync::Wait;
 
-/// Tells what it took to open the store from the start on, and reads all keys back.
+/// Prints what it took to open the store from the start on, and reads all keys back.
 pub fn tell_opened(bench: &Bench, store: &mut Store, opened: u64) -> Option<()>
     requires { IsSound store.old holding }
     ensures { Keeps store.old store.new holding }
@@ -23,7 +23,7 @@ pub fn tell_opened(bench: &Bench, store: &mut Store, opened: u64) -> Option<()>
     read_back(bench, store, "open", keys, puts)
 }
 
-/// Recovers what the boxes hold, opens a store over it, tells what it took, and reads all keys
+/// Recovers what the boxes hold, opens a store over it, prints what it took, and reads all keys
 /// back. The time runs from before the boxes were made.
 pub fn reopened<R: Wait>(
     rt: &R,

@@ -21,7 +21,7 @@ impl Bench {
         Some(())
     }
 
-    /// Prints a text, and a number behind it.
+    /// Prints a text, and a number after it.
     fn print(&self, text: &str, number: u64) {
         let written = print!(self.system; "{text}{number}");
         self.keep(written);

@@ -15,7 +15,7 @@ const SEGMENTS: u32 = 4;
 
 const CAPACITY: u64 = 1_048_576;
 
-/// Behind so many puts memory is looked at first: at the next cleaning, as from then on at each.
+/// After so many puts memory is looked at first: at the next cleaning, as from then on at each.
 const EARLY: u64 = 1_000_000;
 
 /// How far the puts are, and what was seen of memory.
@@ -24,7 +24,7 @@ struct Updating<'b> {
     meter: Meter,
     puts: u64,
     cleanings: u64,
-    /// How many bytes the process had in memory behind the first look, and behind the last.
+    /// How many bytes the process had in memory after the first look, and after the last.
     early: u64,
     late: u64,
 }
@@ -117,7 +117,7 @@ impl Updating<'_> {
         Some(false)
     }
 
-    // Tells what came of it, and reads all keys back.
+    // Prints what came of it, and reads all keys back.
     fn end(&self, home: &mut Home) -> Option<()>
         requires { IsReady home.old holding }
         ensures { IsReady home.new holding }

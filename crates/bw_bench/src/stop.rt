@@ -1,6 +1,6 @@
 //! What ends a run before its end.
 
-/// Why nothing more is done. What was in the way was told on standard error.
+/// Why nothing more is done. What was in the way was written to standard error.
 #[derive(Clone, Copy)]
 pub enum Stop {
     /// A key read back otherwise than it was put.

@@ -94,7 +94,7 @@ const SUBJECTS: &[(&str, Work)] = &[
     ("steady", Work::Steady),
 ];
 
-/// Whether the subject is run: appends and a steady folder are none where segments stand in memory.
+/// Whether the subject is run: appends and a steady folder are none if segments stand in memory.
 fn is_asked(scope: Scope<'_>, name: &'static str, work: Work) -> bool {
     let is_there = scope.dir.is_some() || !matches!(work, Work::Appends | Work::Steady);
     is_there && scope.only.unwrap_or(name) == name

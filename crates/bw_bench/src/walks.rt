@@ -119,7 +119,7 @@ fn taken(store: &mut Store, walk: Walk, from: &Key, found: &mut Found) -> Result
     }
 }
 
-/// The same, and where that is refused, it is told.
+/// How many bytes the values of a stretch have, which begins at a key. A refusal is printed.
 fn stretch(
     bench: &Bench,
     store: &mut Store,
@@ -153,7 +153,7 @@ fn stretches(bench: &Bench, store: &mut Store, walk: Walk, found: &mut Found) ->
     Some(Walked { pairs, bytes })
 }
 
-/// Makes a walk and tells of it. It may leave nothing out.
+/// Makes a walk and prints what it took. It may leave nothing out.
 fn make(bench: &Bench, store: &mut Store, walk: Walk, found: &mut Found) -> Option<()>
     requires { IsSound store.old holding }
     ensures { Keeps store.old store.new holding }

@@ -6,7 +6,7 @@ use std::fs;
 /// How often a loop over single calls looks at the clock: every so many.
 const LOOKS: u64 = 4096;
 
-/// Tells on standard error how far a subject is, once for each second that it takes.
+/// Says on standard error how far a subject is, once for each second that it takes.
 #[derive(Clone, Copy)]
 pub struct Meter {
     name: &'static str,
@@ -31,7 +31,7 @@ impl Meter {
         bench.since(self.start)
     }
 
-    /// Tells that so much is done, where another second has gone.
+    /// Says that so much is done, if another second has gone.
     pub fn tell(&mut self, bench: &Bench, done: u64) {
         let Meter { name, all, .. } = *self;
         let seconds = self.nanos(bench) / 1_000_000_000;
@@ -42,7 +42,7 @@ impl Meter {
         }
     }
 
-    /// The same, at some of the calls alone.
+    /// Says that so much is done, if another second has gone, at only some of the calls.
     pub fn tell_some(&mut self, bench: &Bench, done: u64) {
         if done % LOOKS == 0 {
             self.tell(bench, done);
@@ -73,7 +73,7 @@ fn resident_in(status: &str) -> u64 {
     0
 }
 
-/// How many bytes of the process are in memory, as Linux tells; 0 where it does not.
+/// How many bytes of the process are in memory, as Linux says; 0 if it does not.
 pub fn resident(bench: &Bench) -> u64 {
     match fs::read_to_string(&bench.system, "/proc/self/status") {
         Ok(status) => resident_in(status.as_str()),

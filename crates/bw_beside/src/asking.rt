@@ -12,7 +12,7 @@ use std::alloc::Global;
 /// The least capacity of a segment in memory, in bytes: a header and the longest frame.
 const LEAST: u64 = HEADER_LEN as u64 + MAX_FRAME as u64;
 
-/// What is asked of the pages of a store that is only looked at, and told to a watch `W`.
+/// What is asked of the pages of a store that is only looked at; a watch `W` hears of it.
 pub trait Ask<W>: Drop {
     /// What it answers.
     type Answer;

@@ -100,7 +100,7 @@ pub fn bytes_in<R: Host>(rt: &R, folder: &str, lease: u32) -> Result<Vec<u8>, Mi
     front_in(rt, folder, lease, MAX_CAPACITY)
 }
 
-/// The bytes of the sums beside it; none where there are no sums.
+/// The bytes of the sums beside it; none if there are no sums.
 pub fn sums_in<R: Host>(rt: &R, folder: &str, lease: u32) -> Result<Vec<u8>, Miss> {
     let name = format!(in rt.alloc(); "segment-{lease:04}.sum")?;
     if !is_there(rt, folder, name.as_str())? {
@@ -110,7 +110,7 @@ pub fn sums_in<R: Host>(rt: &R, folder: &str, lease: u32) -> Result<Vec<u8>, Mis
     front_of(rt.alloc(), &plain(rt, path.as_str())?, MAX_CAPACITY)
 }
 
-/// The bytes of the file of a lease from one offset on up to another. Refused where it has fewer.
+/// The bytes of the file of a lease from one offset on up to another. Refused if it has fewer.
 pub fn stretch_in<R: Host>(
     rt: &R,
     folder: &str,
@@ -128,7 +128,7 @@ pub fn stretch_in<R: Host>(
     Ok(bytes)
 }
 
-/// The bytes of the sums beside the file of a lease from an offset on; none where they end before, or
+/// The bytes of the sums beside the file of a lease from an offset on; none if they end before, or
 /// there are no sums.
 pub fn sums_from<R: Host>(rt: &R, folder: &str, lease: u32, from: u64) -> Result<Vec<u8>, Miss> {
     let name = format!(in rt.alloc(); "segment-{lease:04}.sum")?;
@@ -146,7 +146,7 @@ pub fn sums_from<R: Host>(rt: &R, folder: &str, lease: u32, from: u64) -> Result
     Ok(bytes)
 }
 
-/// How many bytes the sums beside the file of a lease have; 0 where there are none.
+/// How many bytes the sums beside the file of a lease have; 0 if there are none.
 pub fn sums_length<R: Host>(rt: &R, folder: &str, lease: u32) -> Result<u64, Miss> {
     let name = format!(in rt.alloc(); "{folder}/segment-{lease:04}.sum")?;
     match fs::symlink_metadata(rt, name.as_str()) {

@@ -1,12 +1,11 @@
 //! A folder is read, also beside somebody who writes it: what is read stood there at one of its
 //! frames; and a new one is made.
 //!
-//! `open` takes the lock beside other readers where nobody writes. Where somebody does, the files
-//! are read as they stand (`standing`), in an order by which no segment is missing unseen (`Row`),
-//! and recovery says whether they are those of one moment. If it refuses them, or a file became
-//! another one meanwhile, they are read once more. Why that is enough stands in `docs/FORMAT.md`,
-//! "A folder that is read while it is written". Nothing in a folder that is read is made or
-//! written.
+//! `open` takes the lock beside other readers if nobody writes. If somebody does, the files are
+//! read as they stand (`standing`), in an order by which no segment is missing unseen (`Row`), and
+//! recovery says whether they are those of one moment. If it refuses them, or a file became another
+//! one meanwhile, they are read once more. Why that is enough stands in `docs/FORMAT.md`, "A folder
+//! that is read while it is written". Nothing in a folder that is read is made or written.
 //!
 //! What recovery says of segments that were read is asked by `ask_images` and `ask_owned`; `ask`
 //! asks a folder that somebody writes, as `open` reads it.
@@ -15,8 +14,8 @@
 //! reads single files.
 //!
 //! A new folder is made under another name, beside its own, until it is whole (`Making`): its own
-//! with `.partial` behind. What a stop or a refusal left under that name is known by a file in it
-//! (`begin`), and whoever makes that folder next takes it over; what anybody else has under that
+//! with `.partial` at the end. What a stop or a refusal left under that name is known by a file in
+//! it (`begin`), and whoever makes that folder next takes it over; what anybody else has under that
 //! name is refused, and stays. `ends_of` says in which pieces a segment is written there.
 #![tactic(auto)]
 

@@ -19,14 +19,14 @@ pub enum Opened {
     Beside(Stood),
 }
 
-/// Opens the folder of this path, which has to be there, beside other readers; where somebody writes
-/// it, reads it as it stands, up to ten times. Nothing in it is changed, and no writer is kept out in
-/// that case.
+/// Opens the folder of this path, which has to be there, beside other readers; if somebody writes
+/// it, reads it as it stands, up to ten times. Nothing in it is changed, and no writer is kept out
+/// in that case.
 ///
 /// Of a folder that somebody writes, what is answered stood there at a frame that was the last when
 /// this began, or a later one. It may be one that is not durable yet.
 ///
-/// `InUse` where somebody writes it, and none of ten readings gave that: as where nothing was ever
+/// `InUse` if somebody writes it, and none of ten readings gave that: as when nothing was ever
 /// durable there, it is damaged, or it is written faster than it is read. Else it is refused as
 /// `FolderReader::open` is.
 pub fn open<R: Host, W: Watch>(rt: &R, path: &str, watch: &mut W) -> Result<Opened, FolderFault> {

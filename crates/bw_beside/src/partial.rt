@@ -22,7 +22,7 @@ pub struct Making {
     mark: File,
 }
 
-/// What is told of a name that something has already.
+/// What is said of a name that something has already.
 pub fn already_there() -> FolderFault {
     FolderFault::System(io::Error::from(ErrorKind::AlreadyExists))
 }
@@ -147,7 +147,7 @@ fn refuse_open<R: Host>(rt: &R, path: &str) -> Result<(), FolderFault> {
     Ok(())
 }
 
-/// The mark of a folder, made where it is missing, and locked.
+/// The mark of a folder, made if it is missing, and locked.
 fn marked<R: Host>(rt: &R, path: &str) -> Result<File, FolderFault> {
     let name = path_in(rt, path, MARK)?;
     let mark = OpenOptions::new()

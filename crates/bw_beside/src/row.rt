@@ -47,8 +47,9 @@ fn look<R: Host>(rt: &R, folder: &str) -> Result<Vec<Live>, Miss> {
 }
 
 impl Row {
-    /// Looks twice. What both looks see was begun before the second one, so all that is older and was
-    /// not seen had been given up when it ended. Refused where they do not agree, or see no segment.
+    /// Looks twice. What both looks see was begun before the second one, so all that is older and
+    /// was not seen had been given up when it ended. Refused if they do not agree, or see no
+    /// segment.
     pub fn of<R: Host>(rt: &R, folder: &str) -> Result<Row, Miss> {
         let before = look(rt, folder)?;
         let live = look(rt, folder)?;
@@ -93,7 +94,7 @@ impl Row {
         Ok(order)
     }
 
-    /// Whether the segment that the file of a lease has now is the one that was seen; or, where none
+    /// Whether the segment that the file of a lease has now is the one that was seen; or, if none
     /// was, is newer than all that were.
     pub(crate) fn allows(&self, lease: u32, number: Option<u64>) -> bool {
         let live = self.live.as_slice();

@@ -64,7 +64,7 @@ fn take_all<R: Host, W: Watch>(
     Ok(taken)
 }
 
-/// How many bytes of a file have no digest, where all others fit theirs.
+/// How many bytes of a file have no digest, if all others fit theirs.
 fn unsummed_in(taken: &Taken) -> Result<u64, Miss> {
     match check(taken.bytes.as_slice(), taken.sums.as_slice()) {
         Ok(row) => Ok((taken.bytes.len() as u64).saturating_sub(row.end())),

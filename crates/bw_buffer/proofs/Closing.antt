@@ -43,7 +43,8 @@ one_more p i [] d lt not u = absurd (omega arith)
 one_more p zero (r ∷ rs) d lt not u = (not, u)
 one_more p (suc i) (r ∷ rs) d lt not u = one_more p i rs d (omega arith) not u
 
--- a page that the row closes has no index then, and one that it does not close has none if the rows behind do not touch it
+-- a page that the row closes has no index then, and one that it does not close has none if the rows
+-- after do not touch it
 pub closed_so_far : (p i : ℕ) (rows : List Row) (d : Row) (was now : Option ℕ) → i < length rows
     → now ≡ (if is_closed_by p (get_or rows i d).mark then None else was)
     → (IsUntouched p (drop i rows) → was ≡ None) → IsUntouched p (drop (i + 1) rows) → now ≡ None
@@ -56,7 +57,7 @@ closed_so_far p i rows d was now lt e before u = by_test (is_closed_by p (get_or
     by_test true is = e ∙ ap (λ (t : Bool). if t then None else was) is
     by_test false is = e ∙ ap (λ (t : Bool). if t then None else was) is ∙ before (one_more p i rows d lt is behind)
 
--- behind all rows nothing is left
+-- after all rows nothing is left
 pub none_left : (p i : ℕ) (rows : List Row) → length rows ≤ i → IsUntouched p (drop i rows)
 none_left p i [] le = subst (IsUntouched p) (sym (drop_all i [] le)) tt
 none_left p zero (r ∷ rs) le = absurd (omega arith)

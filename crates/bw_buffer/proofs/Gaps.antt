@@ -1,4 +1,4 @@
--- A frame laid out: fronts and gaps, and each piece behind those of its block that are written.
+-- A frame laid out: fronts and gaps, and each piece after those of its block that are written.
 
 use Rattle.std.proofs.Common.{◌≡◌, ℕ, zero, suc, ◌+◌, ◌-◌, ◌<◌, ◌≤◌, ◌≢◌, true, false, List, [], ◌∷◌, ◌++◌, length, set, take, drop, get_or, refl}
 use Rattle.std.proofs.Common.{sym, ap, ◌∙◌, subst, arith}
@@ -14,7 +14,7 @@ use Rattle.bw_buffer.proofs.Pieces.{bytes_more, bytes_apart}
 pub length-zeros : (n : ℕ) → length (zeros n) ≡ n
 length-zeros n = length-replicate {A = ℕ} n 0
 
--- ---- gaps alone
+-- ---- gaps only
 
 pub filled_push : (i : ℕ) (rs : List Row) (r : Row) → filled i (rs ++ r ∷ []) [] ≡ filled i rs [] ++ (front_of r ++ padded r.len [])
 filled_push i [] r = append-nil (front_of r ++ padded r.len [])
@@ -64,7 +64,7 @@ drop_more : (a b : List ℕ) (k : ℕ) → drop (length a + k) (a ++ b) ≡ drop
 drop_more [] b k = ap (λ (n : ℕ). drop n b) (omega arith)
 drop_more (x ∷ xs) b k = (let e : suc (length xs) + k ≡ suc (length xs + k) = omega arith in ap (λ (n : ℕ). drop n (x ∷ (xs ++ b))) e ∙ drop_more xs b k)
 
--- behind a beginning, over zeros
+-- after a beginning, over zeros
 written_there : (a xs rest : List ℕ) (n at : ℕ) → at ≡ length a → length xs ≤ n
     → written at xs (a ++ (zeros n ++ rest)) ≡ a ++ (xs ++ (zeros (n - length xs) ++ rest))
 written_there a xs rest n at is le =
@@ -123,7 +123,7 @@ apart_above i k ne le = elim (nat_le (suc i) k) as (λ b. nat_le (suc i) k ≡ b
   | false ↦ λ e. (let h = leb-false (suc i) k e in absurd (ne (omega arith)))
 ] refl
 
--- a piece goes where its block's end is told
+-- a piece goes where its block's end is said to be
 pub put_piece : (pre : List ℕ) (base i k : ℕ) (rs : List Row) (ps whole : Parts) (xs : List ℕ) (at : ℕ) → base ≡ length pre → i ≤ k → AreMeasured i rs whole
     → ((j : ℕ) → length (bytes_at j ps) ≤ length (bytes_at j whole))
     → length (bytes_at k ps) + length xs ≤ length (bytes_at k whole) → k < i + length rs → at ≡ get_or (ends base i rs ps) (k - i) 0

@@ -63,7 +63,8 @@ open_ops p i was (suc k) ops (b ∷ bs) = open_ops p (suc i) (open_after p i b w
 pub last_ops : (p k : ℕ) (ops : List Record) (bs : List Block) → last_delta p (ops_added k ops bs) ≡ last_delta p bs
 last_ops p k ops bs = open_ops p 0 None k ops bs
 
--- a Delta that joins or stands behind all blocks is the last of its page, and leaves other pages as they were
+-- a Delta that joins or stands after all blocks is the last of its page, and leaves other pages as
+-- they were
 pub last_joined : (p page : ℕ) (back : Place) (ops : List Record) (bs : List Block)
     → last_delta p (joined bs (Delta page back ops)) ≡ (if page == p then Some (unwrap_or (joins_of (length ops) page bs) (length bs)) else last_delta p bs)
 last_joined p page back ops bs =

@@ -1,4 +1,5 @@
--- One more block, joined or behind the others: what it does to every question that is asked of blocks.
+-- One more block, joined or after the others: what it does to every question that is asked of
+-- blocks.
 
 use Rattle.std.proofs.Common.{◌≡◌, ℕ, zero, suc, ◌+◌, ◌≤◌, Bool, true, false, Option, Some, None, List, [], ◌∷◌, ◌++◌, length, refl, sym, ap, ◌∙◌}
 use Rattle.std.proofs.Common.{subst, arith, ◌⊎◌, inl, inr}
@@ -147,7 +148,8 @@ joins_parts n p i blocks e =
       | false ↦ λ t e. absurd cc
     ] refl e)
 
--- a Delta of a page and the blocks with it: it stands behind them all, or its records stand in the last block of its page
+-- a Delta of a page and the blocks with it: it stands after them all, or its records stand in the
+-- last block of its page
 pub record JoinsOne (p : ℕ) (back : Place) (ops : List Record) (i : ℕ) (blocks : List Block) : Type 0 where
   pub stands : StandsOpen p i blocks
   pub is : joined blocks (Delta p back ops) ≡ stands.before ++ Delta p stands.back (stands.was ++ ops) ∷ stands.behind
@@ -203,7 +205,7 @@ delta_fold {A} step law was blocks p back ops (Some i) e =
     ∙ ap (λ (y : A). step y block) (sym (fold-append step was o.before (delta ∷ o.behind)) ∙ ap (fold step was) (sym o.split))
     ∙ sym (fold-append step was blocks (block ∷ []))
 
--- joined or not, such a fold answers as if the block stood behind the others
+-- joined or not, such a fold answers as if the block stood after the others
 pub joined_fold : {A : Type 0} (step : A → Block → A) → Joinable step → (was : A) (blocks : List Block) (block : Block)
     → fold step was (joined blocks block) ≡ fold step was (blocks ++ block ∷ [])
 joined_fold step law was blocks (Base leaf) = refl
@@ -221,7 +223,7 @@ added_fold {A} step law was blocks (b ∷ bs) =
     ∙ sym (fold-append step was (blocks ++ b ∷ []) bs)
     ∙ ap (fold step was) (append_assoc blocks (b ∷ []) bs)
 
--- ---- lists told block by block
+-- ---- lists gone through block by block
 
 flat_as_fold : {X : Type 0} (f : Block → List X) (was : List X) (bs : List Block) → fold (λ a b. a ++ f b) was bs ≡ was ++ flat_map f bs
 flat_as_fold f was [] = sym (append-nil was)

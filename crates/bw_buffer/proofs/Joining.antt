@@ -86,7 +86,7 @@ joins_room a f page at back ops h view js fits lawful =
     middle [] y ys h = h.0
     middle (x ∷ xs) y ys h = middle xs y ys h.1
 
--- ---- what the map tells
+-- ---- what the map says
 
 pub record Told (a : Inside) (page at : ℕ) : Type 0 where
   pub inside : at < vec_len a.rows

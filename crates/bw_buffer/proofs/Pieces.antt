@@ -49,7 +49,7 @@ bytes_apart i j ps xs ne =
     ∙ ap (λ (b : Bool). bytes_at i ps ++ ((if b then xs else []) ++ [])) (ne_eqb j i ne)
     ∙ append-nil (bytes_at i ps)
 
--- a block behind all pieces has none
+-- a block after all pieces has none
 pub none_at : (i n : ℕ) (qs : List Piece) (bytes : List ℕ) → n ≤ i → All (λ q. q.block < n) qs → bytes_at i (parts qs bytes) ≡ []
 none_at i n [] bytes le h = refl
 none_at i n (q ∷ qs) bytes le h =
@@ -127,7 +127,7 @@ rows_longer i (suc k) (r ∷ rs) ps (b ∷ bs) behind page back was ops xs row a
           (rows_longer (suc i) k rs ps bs behind page back was ops xs row (omega arith) is there h.1),
     ))
 
--- ---- what rows tell
+-- ---- what rows say
 
 pub rows_count : (i : ℕ) (rows : List Row) (ps : Parts) (bs : List Block) → AreRows i rows ps bs → length rows ≡ length bs
 rows_count i [] ps [] h = refl

@@ -69,7 +69,7 @@ pieces_all front i qs arena bytes j end is =
 
 -- ---- the block of an index
 
--- what a row and its pieces tell of the block at the same index
+-- what a row and its pieces say of the block at the same index
 pub record Told (row : Row) (bytes : List ℕ) (bs : List Block) (k : ℕ) : Type 0 where
   pub block : Block
   pub there : slice_get bs k ≡ Some block

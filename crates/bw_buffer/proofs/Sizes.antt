@@ -1,4 +1,4 @@
--- How long the body gets, and which block is joined behind others.
+-- How long the body gets, and which block is joined after others.
 
 use Rattle.std.proofs.Common.{◌≡◌, ℕ, suc, ◌+◌, ◌<◌, ◌≤◌, Bool, true, false, Option, Some, None, List, [], ◌∷◌, ◌++◌, length, take, get_or, refl, sym}
 use Rattle.std.proofs.Common.{ap, ◌∙◌, subst, arith}
@@ -96,7 +96,7 @@ last_some p i was records (b ∷ bs) h =
       | false ↦ h
     ])
 
--- a block is joined exactly where it has room
+-- a block is joined exactly if it has room
 pub joins_some : (n p : ℕ) (bs : List Block) → is_some (joins_of n p bs) ≡ takes n (open_records p bs)
 joins_some n p bs =
     elim (open_records p bs) as (λ o. is_some (last_delta p bs) ≡ is_some o → is_some (if takes n o then last_delta p bs else None) ≡ takes n o) [

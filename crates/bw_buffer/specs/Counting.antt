@@ -15,11 +15,11 @@ records_by was (Delta page back ops) = Some (grown was (length ops))
 records_by was (Base leaf) = None
 records_by was (Split page back upper) = None
 
--- how many records the last block of a page has then, where that is a Delta
+-- how many records the last block of a page has then, if that is a Delta
 abbrev pub records_with : ℕ → Option ℕ → Block → Option ℕ
 records_with p was b = if touches p b then records_by was b else was
 
--- how many bytes stand before the records of a Delta: none more where they join this block
+-- how many bytes stand before the records of a Delta: none more if they join this block
 abbrev pub front_length : Option ℕ → ℕ
 front_length None = 19
 front_length (Some i) = 0

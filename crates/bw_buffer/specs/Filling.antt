@@ -15,7 +15,7 @@ pub record Filling : Type 0 where
   pub frame : ℕ
   -- the most bytes that the frame may have
   pub limit : ℕ
-  -- all blocks added, in order, each Delta joined to the last block of its page where that is a Delta
+  -- all blocks added, in order, each Delta joined to the last block of its page if that is a Delta
   pub blocks : List Block
   pub is_sealed : Bool
 
@@ -27,7 +27,7 @@ frame_of b = record { number = b.frame; blocks = b.blocks }
 abbrev pub size_of : Filling → ℕ
 size_of b = 20 + length (body_bytes b.blocks)
 
--- the same with more blocks
+-- a filling with more blocks
 abbrev pub with_all : Filling → List Block → Filling
 with_all b more = record b { blocks = added b.blocks more }
 
@@ -35,7 +35,7 @@ with_all b more = record b { blocks = added b.blocks more }
 abbrev pub place_at : Filling → ℕ → Place
 place_at b i = record { frame = b.frame; index = i }
 
--- one or more blocks that are lawful where pages have at most m pairs are a frame that is lawful there
+-- one or more blocks that are lawful if pages have at most m pairs are a frame that is lawful there
 abbrev pub IsLawfulFrame : Filling → Type 0
 IsLawfulFrame b = (m : ℕ) → 1 ≤ length b.blocks → AllByRecursion (IsBlock m) b.blocks → IsFrame m b.limit (frame_of b)
 

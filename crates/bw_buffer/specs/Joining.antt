@@ -1,4 +1,4 @@
--- A Delta joins the last block of its page, where that is a Delta too and has room for its records.
+-- A Delta joins the last block of its page, if that is a Delta too and has room for its records.
 
 use Rattle.std.specs.Prelude.{ℕ, zero, suc, ◌+◌, nat_le, Bool, true, false, if◌then◌else◌, Option, Some, None, unwrap_or, List, [], ◌∷◌, ◌++◌, length}
 use Rattle.std.specs.List.{fold}
@@ -13,16 +13,17 @@ is_delta (Delta page back ops) = true
 is_delta (Base leaf) = false
 is_delta (Split page back upper) = false
 
--- what one more block does to the index of the last block of a page, where that is a Delta; the block has this index
+-- what one more block does to the index of the last block of a page, if that is a Delta; the block
+-- has this index
 abbrev pub open_after : ℕ → ℕ → Block → Option ℕ → Option ℕ
 open_after p i b was = if touches p b then (if is_delta b then Some i else None) else was
 
--- the same of blocks from an index on
+-- what blocks from an index on do to the index of the last block of a page, if that is a Delta
 abbrev pub open_from : ℕ → ℕ → Option ℕ → List Block → Option ℕ
 open_from p i was [] = was
 open_from p i was (b ∷ bs) = open_from p (suc i) (open_after p i b was) bs
 
--- the index of the last block of a page, where that is a Delta
+-- the index of the last block of a page, if that is a Delta
 abbrev pub last_delta : ℕ → List Block → Option ℕ
 last_delta p blocks = open_from p 0 None blocks
 
@@ -32,11 +33,11 @@ records_in (Delta page back ops) = Some (length ops)
 records_in (Base leaf) = None
 records_in (Split page back upper) = None
 
--- what one more block does to the number of records of the last block of a page, where that is a Delta
+-- what one more block does to the number of records of the last block of a page, if that is a Delta
 abbrev pub records_after : ℕ → Option ℕ → Block → Option ℕ
 records_after p was b = if touches p b then records_in b else was
 
--- how many records the last block of a page has, where that is a Delta
+-- how many records the last block of a page has, if that is a Delta
 abbrev pub open_records : ℕ → List Block → Option ℕ
 open_records p blocks = fold (records_after p) None blocks
 
@@ -45,11 +46,12 @@ abbrev pub takes : ℕ → Option ℕ → Bool
 takes n None = false
 takes n (Some was) = nat_le (was + n) 65535
 
--- the index of the block that a Delta of so many records of a page joins: the last block of the page, where that is a Delta with room for them
+-- the index of the block that a Delta of so many records of a page joins: the last block of the
+-- page, if that is a Delta with room for them
 abbrev pub joins_of : ℕ → ℕ → List Block → Option ℕ
 joins_of n p blocks = if takes n (open_records p blocks) then last_delta p blocks else None
 
--- the same of a Delta of one record
+-- the index of the block that a Delta of one record of a page joins
 abbrev pub joins : ℕ → List Block → Option ℕ
 joins p blocks = joins_of 1 p blocks
 

@@ -41,7 +41,7 @@ pub record Holds (a : Inside) (blocks : List Block) : Type 0 where
   pub parted : pieces_length a.pieces.items ≡ length a.arena.items
   pub size : a.size ≡ 20 + length (body_bytes blocks)
   pub lawful : AllByRecursion (IsBlock 32) blocks
-  -- the map tells the last block of each page, where that is a Delta
+  -- the map gives the last block of each page, if that is a Delta
   pub told : (p : ℕ) → index_at a.deltas p ≡ last_delta p blocks
   pub numbered : 1 ≤ a.frame
   pub fits : a.size ≤ a.limit

@@ -69,7 +69,7 @@ IsFewBy (Changes page) ops = ops < 65536
 IsFewBy (Sets page) ops = Unit {0}
 IsFewBy (Splits page upper) ops = Unit {0}
 
--- each row tells how long its pieces are, and few records
+-- each row says how long its pieces are, and few records
 abbrev pub AreMeasured : ℕ → List Row → Parts → Type 0
 AreMeasured i [] ps = Unit {0}
 AreMeasured i (r ∷ rs) ps = (r.len ≡ length (bytes_at i ps)) × IsFewBy r.mark r.ops × AreMeasured (suc i) rs ps

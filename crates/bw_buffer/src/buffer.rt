@@ -2,7 +2,7 @@
 //!
 //! A group of records may not be parted between two frames, so whoever adds has to know before
 //! whether all of it fits. The length that the frame would have is known at any time, without
-//! laying it out. And room for the most that a frame can need is reserved once: behind that no
+//! laying it out. And room for the most that a frame can need is reserved once: after that no
 //! addition is refused memory. Were one refused, a record could stand in the history and in its
 //! page, and in no frame.
 //!
@@ -109,10 +109,10 @@ impl Buffer {
         })
     }
 
-    /// The same buffer for another frame, from 1: empty, and not sealed. No memory is taken, so that a
-    /// buffer whose frame was appended serves the next one. Time is linear in the blocks of the frame
-    /// that ends, whatever the limit; spread over the frames, so are the rare times when the map that
-    /// finds the Deltas is cleared.
+    /// This buffer for another frame, from 1: empty, and not sealed. No memory is taken, so that a
+    /// buffer whose frame was appended serves the next one. Time is linear in the blocks of the
+    /// frame that ends, whatever the limit; spread over the frames, so are the rare times when the
+    /// map that finds the Deltas is cleared.
     pub fn restart(&mut self, frame: u64)
         requires numbered { 1 ≤ frame }
         requires done { (self.old.is_sealed ≡ true) ⊎ (self.old.blocks ≡ []) }
@@ -132,12 +132,12 @@ impl Buffer {
         self.arena.clear();
     }
 
-    /// Adds all the blocks, one or more that are lawful for 32 pairs a page, or none, and answers the
-    /// place of the first. A Delta joins the last block of its page where that is a Delta and the
+    /// Adds all the blocks, one or more that are lawful for 32 pairs a page, or none, and answers
+    /// the place of the first. A Delta joins the last block of its page if that is a Delta and the
     /// records of both are at most 65,535: its back place is not used, and its place is that of the
-    /// block. `Sealed` after the seal, else `NoRoom`
-    /// where the frame would be longer than the limit. No memory is taken. Time is linear in the
-    /// bytes of these blocks, and in the square of their number, whatever stands in the buffer.
+    /// block. `Sealed` after the seal, else `NoRoom` if the frame would be longer than the limit.
+    /// No memory is taken. Time is linear in the bytes of these blocks, and in the square of their
+    /// number, whatever stands in the buffer.
     pub fn put_all(&mut self, blocks: &[Block]) -> Result<Place, PutError>
         requires some { 1 ≤ length blocks.now }
         requires lawful { AllByRecursion (IsBlock 32) blocks.now }
@@ -169,9 +169,9 @@ impl Buffer {
     }
 
     /// Adds a Delta of this one record, lawful for 32 pairs a page, or nothing, and answers its
-    /// place: what `put_all` does with this block alone, but no block is made of the record. It
-    /// joins, and is refused, as there. No memory is taken. Time is that of a look-up and of copying
-    /// the record's bytes, whatever stands in the buffer.
+    /// place. It does what `put_all` does with only this block, but no block is made of the record.
+    /// It joins, and is refused, as there. No memory is taken. Time is that of a look-up and of
+    /// copying the record's bytes, whatever stands in the buffer.
     pub fn put_record(&mut self, page: u32, back: &Place, item: &Packed) -> Result<Place, PutError>
         requires lawful { IsBlock 32 (Delta page back.now (item.now ∷ [])) }
         ensures added { OnOk result
@@ -198,7 +198,7 @@ impl Buffer {
         Ok(self.put_at(joins, page, back, item))
     }
 
-    // Adds a record that fits to the Delta that it joins, or a Delta of it behind all blocks.
+    // Adds a record that fits to the Delta that it joins, or a Delta of it after all blocks.
     // Answers where that Delta stands.
     fn put_at(&mut self, joins: Option<u32>, page: u32, back: &Place, item: &Packed) -> Place
         requires joins { joins ≡ joins_of 1 page self.old.blocks }
@@ -290,7 +290,7 @@ impl Buffer {
     }
 
     /// Whether the frame with a Delta of this one record would not be longer than the limit: what
-    /// `has_room` tells of this block alone. No memory is taken. Time is that of a look-up.
+    /// `has_room` says of only this block. No memory is taken. Time is that of a look-up.
     pub fn has_room_for(&self, page: u32, item: &Record) -> bool
         ensures { (back : PlaceValue) → IsTrue result
             ↔ (size_of (with_all self.now (Delta page back (item.now ∷ []) ∷ []))
@@ -299,7 +299,7 @@ impl Buffer {
         length_of(self.joining(page, 1), record_length(item)) <= self.room() as usize
     }
 
-    // How many bytes a block adds behind these others.
+    // How many bytes a block adds after these others.
     fn length_behind(&self, others: &[Block], block: &Block) -> usize
         requires { IsBlock 32 block.now }
         ensures { result + size_of (with_all self.now others.now)
@@ -319,7 +319,7 @@ impl Buffer {
         }
     }
 
-    // Whether a Delta of so many records of a page joins a block, behind these others.
+    // Whether a Delta of so many records of a page joins a block, after these others.
     fn joins_behind(&self, others: &[Block], page: u32, records: usize) -> bool
         ensures { result ≡ takes records (open_records page (added self.now.blocks others.now)) }
     {
@@ -329,7 +329,7 @@ impl Buffer {
         }
     }
 
-    // How many records the last block of a page has behind these others, where that is a Delta.
+    // How many records the last block of a page has after these others, if that is a Delta.
     fn records_behind(&self, others: &[Block], page: u32) -> Option<usize>
         ensures { result ≡ open_records page (added self.now.blocks others.now) }
     {
@@ -340,8 +340,8 @@ impl Buffer {
         records
     }
 
-    /// How many records the last block of a page has, where that is a Delta: at most 65,535, and
-    /// with so many none joins it. No memory is taken. Time is that of a look-up, however many blocks
+    /// How many records the last block of a page has, if that is a Delta: at most 65,535, and with
+    /// so many none joins it. No memory is taken. Time is that of a look-up, however many blocks
     /// there are.
     pub fn records(&self, page: u32) -> Option<usize>
         ensures { result ≡ open_records page self.now.blocks }
@@ -453,7 +453,7 @@ impl Buffer {
         self.size += more;
     }
 
-    // Adds a Delta behind all blocks.
+    // Adds a Delta after all blocks.
     fn put_new(&mut self, page: u32, back: &Place, ops: &[Packed])
         requires lawful { IsBlock 32 (Delta page back.now ops.now) }
         requires unsealed { self.old.is_sealed ≡ false }
@@ -534,7 +534,7 @@ impl Buffer {
         ensures lawful { AllByRecursion (IsBlock 32) self.now.blocks }
         ensures frame { IsLawfulFrame self.now }
     {
-        // The call tells the proof that the number has a range.
+        // The call shows the proof that the number has a range.
         let _ = self.frame();
         self.size
     }
@@ -551,7 +551,7 @@ impl Buffer {
         ensures value { result ≡ self.now.frame }
         ensures numbered { 1 ≤ result }
     {
-        // The read tells the proof what holds of the fields, here that the number is not zero.
+        // The read shows the proof what holds of the fields, here that the number is not zero.
         let _ = &self.bytes;
         self.frame
     }
@@ -596,7 +596,7 @@ impl Buffer {
         ensures lawful { AllByRecursion (IsBlock 32) self.now.blocks }
         ensures frame { IsLawfulFrame self.now }
     {
-        // The call tells the proof that the number has a range.
+        // The call shows the proof that the number has a range.
         let _ = self.frame();
         self.bytes.as_slice()
     }
@@ -613,8 +613,8 @@ fn length_of(joins: Option<u32>, length: usize) -> usize
     }
 }
 
-// How many records the last block of a page has behind this one, where that is a Delta, by how many
-// it had before.
+// How many records the last block of a page has after this one, if that is a Delta, by how many it
+// had before.
 fn records_with(page: u32, block: &Block, before: Option<usize>) -> Option<usize>
     ensures { result ≡ records_with page before block.now }
 {
@@ -682,8 +682,8 @@ fn close(index: &mut Index, mark: Mark)
 
 // How many pages of earlier frames the map may keep when a frame begins.
 //
-// There is room for them beside all pages that the frame can have. One for each 64 bytes of the limit
-// costs no larger table than none does, where the limit is a power of two.
+// There is room for them beside all pages that the frame can have. One for each 64 bytes of the
+// limit costs no larger table than none does, if the limit is a power of two.
 fn most_kept(limit: u32) -> usize
     ensures { result ≡ limit / 64 }
 {
@@ -693,8 +693,8 @@ fn most_kept(limit: u32) -> usize
 // No page has an open Delta from now on; these are the rows of the frame that ends.
 //
 // Their pages are looked up, since a clear costs what the whole map costs, however little the frame
-// has. It is cleared where it keeps too many pages for the next frame, so once for as many new pages
-// as it may keep; and where the rows are so many that their look-ups cost more.
+// has. It is cleared if it keeps too many pages for the next frame, so once for as many new pages
+// as it may keep; and if the rows are so many that their look-ups cost more.
 fn close_all(index: &mut Index, rows: &[Row], most: usize)
     requires told { (q : ℕ) → IsUntouched q rows.now → index_at index.old q ≡ None }
     ensures none { (q : ℕ) → index_at index.new q ≡ None }

@@ -1,8 +1,9 @@
 //! Of each page whose last block is a Delta, the index of that block.
 //!
-//! A page that is closed keeps its place in the map without an index: so an entry once made is never
-//! given back before the map is cleared, and the room for all that may come is known. The end of a
-//! frame closes its pages too: the map is cleared only where it keeps too many for the next frame.
+//! A page that is closed keeps its place in the map without an index: so an entry once made is
+//! never given back before the map is cleared, and the room for all that may come is known. The end
+//! of a frame closes its pages too: the map is cleared only if it keeps too many for the next
+//! frame.
 
 ghost use Rattle.std.specs.Prelude.{ℕ, ◌≡◌, ◌≤◌, ◌<◌, ◌+◌, ◌==◌, nat_eq, is_some, true, false, Some, None, [], if◌then◌else◌};
 ghost use Rattle.std.specs.HashMap.{get, spare, hash_map_len};

@@ -78,7 +78,7 @@ fn write_at(bytes: &mut [u8], at: usize, piece: &[u8])
     bytes[at..at + piece.len()].copy_from_slice(piece);
 }
 
-// Writes a piece where its block's spot is, which moves on behind it.
+// Writes a piece where its block's spot is, which moves on after it.
 fn put_piece(block: u32, piece: &[u8], spots: &mut Vec<u32>, bytes: &mut Vec<u8>)
     requires spot { block < length spots.old.items }
     requires within { slice_index spots.old.items block + length piece.now

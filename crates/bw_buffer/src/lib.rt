@@ -1,7 +1,7 @@
 //! Flush buffers: all blocks of a call or none, and none after the seal.
 //!
 //! A buffer is a frame in the making. Callers see its blocks. A Delta joins the last block of its
-//! page where that is a Delta too, so a page that is changed often has one Delta a frame. The bytes
+//! page if that is a Delta too, so a page that is changed often has one Delta a frame. The bytes
 //! are laid out at the seal; until then each block is a row, and its bytes are pieces of an arena.
 //! A sealed buffer gives out no more space: it is what the log appends as one unit.
 //!
@@ -10,7 +10,7 @@
 //! none, since whether they fit is worked out before the first of them enters, with what joins.
 //!
 //! A piece never moves once it is in the arena. So a record that joins an earlier Delta costs what
-//! its own bytes cost, however many blocks came between, and the place that was told of a block
+//! its own bytes cost, however many blocks came between, and the place that was given of a block
 //! stays true to the end.
 #![tactic(auto)]
 

@@ -1,7 +1,7 @@
 //! The blocks of a frame in the making, before their bytes stand in order.
 //!
-//! Bytes go into an arena in the order in which they come, and each piece of them tells its block. So
-//! a record that joins a Delta moves nothing, and no piece ever changes.
+//! Bytes go into an arena in the order in which they come, and each piece of them names its block.
+//! So a record that joins a Delta moves nothing, and no piece ever changes.
 
 use crate::mark::Mark;
 use bw_codec::Place;

@@ -1,4 +1,4 @@
--- What a stop may leave behind each way to a home, and behind a life.
+-- What a stop may leave after each way to a home, and after a life.
 
 use Rattle.std.proofs.Common.{◌≡◌, inl, inr, ℕ, true, Option, Some, zero, suc, List, [], ◌∷◌, ◌++◌, length, map, drop, take, refl, sym, ap, subst, ◌∙◌, arith}
 use Rattle.std.specs.Prelude.{Result, Ok, Err, slice_index_or}

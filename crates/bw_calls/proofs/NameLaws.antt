@@ -109,7 +109,7 @@ none_at_last m0 m at t looked same is has =
 pub taken_told : (m0 m : Map) (at t : Bytes) (looked : Looked) → m ≡ m0 → looked ≡ Taken → HasLooked (plain_of m) at t looked → IsOfTable (plain_of m0) t
 taken_told m0 m at t looked same is has = subst (λ (x : Map). IsOfTable (plain_of x) t) same (subst (HasLooked (plain_of m) at t) is has)
 
--- no name is at or above the key behind them all
+-- no name is at or above the key after them all
 pub none_behind : (p : Plain) (t : Bytes) → IsNoneFrom p (2 ∷ []) t
 none_behind p t name row upto its number = absurd (not_both true refl upto)
 
@@ -237,7 +237,7 @@ dropped_row m m1 t key old group drops lawful none same was =
 pub no_table_moved : (m m1 : Map) (t : Bytes) → m1 ≡ m → IsNoTable (plain_of m) t → IsNoTable (plain_of m1) t
 no_table_moved m m1 t same none = subst (λ (x : Map). IsNoTable (plain_of x) t) (sym same) none
 
--- a table that came, as the map before a reading tells it
+-- a table that came, as the map before a reading says it
 pub created_moved : {A E : Type 0} (m m1 : Map) (name : Bytes) (r : Result A E) (new : Plain) → m1 ≡ m
     → OnOk r (IsTables (with_table (tables_of (plain_of m1)) name (Some empty_table)) new) → OnOk r (IsTables (with_table (tables_of (plain_of m)) name (Some empty_table)) new)
 created_moved m m1 name r new same h = subst (λ (x : Map). OnOk r (IsTables (with_table (tables_of (plain_of x)) name (Some empty_table)) new)) same h

@@ -246,7 +246,7 @@ pub gone_on_same : {A E : Type 0} (p new : Plain) (n value : Bytes) (i k : ℕ) 
 gone_on_same p new n value i k group (Ok x) is ok = chunks_same p new n value i k group is ok
 gone_on_same p new n value i k group (Err e) is ok = tt
 
--- the tables of a map that is lawful are told by it
+-- the tables of a map that is lawful are given by it
 pub writing_as : (tables : Tables) (p new : Plain) (n value : Bytes) (to : ℕ) → IsTables tables p → IsWriting (tables_of p) new n value to → IsWriting tables new n value to
 writing_as tables p new n value to h w = subst (λ (t : Tables). IsWriting t new n value to) h.its w
 
@@ -312,7 +312,7 @@ pub err_map : {A E : Type 0} {P Q : E → Type 0} (r : Result A E) → ((e : E) 
 err_map (Ok x) f h = tt
 err_map (Err e) f h = f e h
 
--- ---- a step behind a reading
+-- ---- a step after a reading
 
 pub set_at : (m m1 : Map) (new : Plain) (t key : Bytes) (value : Option Bytes) (old : Option (Bytes × ℕ)) (group : List Record) → m1 ≡ m → IsLawful (plain_of m)
     → MakesShort t key value old group → old ≡ head_at (plain_of m) (row_place t key) → new ≡ after (plain_of m1) group → IsSet (plain_of m) t key value new
@@ -391,7 +391,7 @@ pub number_told : (answer : Option TableNumber) (table : TableNumber) (m : Map) 
     → option_map (λ (t : TableNumber). t.bytes) answer ≡ option_map table_in (plain_of m (name_key name)) → Some table.bytes ≡ option_map table_in (plain_of m (name_key name))
 number_told answer table m name is e = ap (option_map (λ (t : TableNumber). t.bytes)) (sym is) ∙ e
 
--- ---- what is said of lawful maps alone
+-- ---- what is said of lawful maps only
 
 pub collecting_moved : (tables : Tables) (m new : Map) (n : Bytes) → IsCollecting tables (plain_of m) n → new ≡ m → IsCollecting tables (plain_of new) n
 collecting_moved tables m new n h same = subst (λ (x : Map). IsCollecting tables (plain_of x) n) (sym same) h

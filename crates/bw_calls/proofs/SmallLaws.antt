@@ -147,7 +147,7 @@ pub group_refused : {A : Type 0} (was now : Tables) (p q new : Plain) (r : Resul
 group_refused was now p q new (Ok x) h g e = tt
 group_refused was now p q new (Err fault) h g e = batch_refused was now p q new (waits fault) h (inl g) e
 
--- ---- a batch behind two readings
+-- ---- a batch after two readings
 
 pub made_moved : {A E : Type 0} (m m1 m2 : Map) (changes : List Change) (r : Result A E) (new : Plain) → m1 ≡ m → m2 ≡ m1
     → OnOk r (IsLeft (with_changes (tables_of (plain_of m2)) changes) new) → OnOk r (IsLeft (with_changes (tables_of (plain_of m)) changes) new)

@@ -55,7 +55,7 @@ abbrev pub kind_in : Bytes → ℕ
 kind_in [] = 0
 kind_in (kind ∷ rest) = kind
 
--- the first pair whose key begins so, where there is one
+-- the first pair whose key begins so, if there is one
 abbrev pub IsFirstOf : Plain → Bytes → Option (Bytes × Bytes) → Type 0
 IsFirstOf p prefix None = (q : Bytes) → IsTrue (starts_with nat_eq q prefix) → p q ≡ None
 IsFirstOf p prefix (Some pair) = (p pair.0 ≡ Some pair.1) × IsTrue (starts_with nat_eq pair.0 prefix)

@@ -34,11 +34,11 @@ abbrev pub waits : TableFault → Bool
 waits (Waits cause) = true
 waits other = false
 
--- what a call leaves that was refused: the tables as they were, or changed, where the change waits
+-- what a call leaves that was refused: the tables as they were, or changed, if the change waits
 abbrev pub IsLeftBy : TableFault → Tables → Tables → Plain → Type 0
 IsLeftBy fault was changed p = IsTables (cond (waits fault) changed was) p
 
--- where a change of one key was refused
+-- if a change of one key was refused
 abbrev pub IsNotSet : TableFault → Plain → Bytes → Bytes → Option Bytes → Plain → Type 0
 IsNotSet fault p t key value new =
     (name : Bytes) → HasNumber p name t → IsLeftBy fault (tables_of p) (with_value (tables_of p) name key value) new

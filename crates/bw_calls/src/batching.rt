@@ -358,7 +358,7 @@ pub(crate) fn settle(home: &mut Home) -> Result<(), TableFault>
     }
 }
 
-// What follows the step of a batch. Where that is refused, an opening does it.
+// What follows the step of a batch. If that is refused, an opening does it.
 fn finish(home: &mut Home) -> Result<(), TableFault>
     requires ready { IsReady home.old holding }
     ensures ready { IsReady home.new holding }

@@ -55,7 +55,7 @@ fn index_in(key: &[u8]) -> Option<u32> {
     Some(u32::from_be_bytes(bytes))
 }
 
-// The index of a chunk of a number, by a hint; `None` where it has none.
+// The index of a chunk of a number, by a hint; `None` if it has none.
 fn first_left(home: &mut Home, number: Number, hint: &Key) -> Result<Option<u32>, TableFault>
     requires { IsReady home.old holding }
     ensures ready { IsReady home.new holding }

@@ -1,4 +1,4 @@
-//! Calls on tables in a home: what each answers, and which tables stand behind it.
+//! Calls on tables in a home: what each answers, and which tables stand after it.
 //!
 //! A home stands for tables by what was put into it. All calls go to it by the same ways (`ways`): a
 //! value is read, the pair next to a key is found, and a group is written.

@@ -191,7 +191,7 @@ fn is_free(home: &mut Home, table: TableNumber) -> Result<bool, TableFault>
     }
 }
 
-// The first number from this one on that no name and no row has; behind the last comes 0.
+// The first number from this one on that no name and no row has; after the last comes 0.
 fn free_from(home: &mut Home, first: u16) -> Result<TableNumber, TableFault>
     requires { IsReady home.old holding }
     ensures ready { IsReady home.new holding }

@@ -67,7 +67,7 @@ pub(crate) fn number_of(home: &mut Home, name: &Name) -> Result<Option<TableNumb
     Ok(Some(number_in(row.as_slice())?))
 }
 
-/// What the row of a key names, where it names a long value.
+/// What the row of a key names, if it names a long value.
 pub(crate) fn head_of(
     home: &mut Home,
     table: TableNumber,
@@ -98,7 +98,7 @@ fn add(value: &mut Vec<u8>, bytes: &[u8]) -> Result<(), TableFault>
     }
 }
 
-// Adds a chunk, where it is there.
+// Adds a chunk, if it is there.
 fn add_chunk(home: &mut Home, number: Number, i: u32, value: &mut Vec<u8>) -> Result<(), TableFault>
     requires { IsReady home.old holding }
     ensures ready { IsReady home.new holding }
@@ -163,7 +163,7 @@ pub(crate) fn value_of(home: &mut Home, row: &[u8]) -> Result<Vec<u8>, TableFaul
     }
 }
 
-/// The value of a key of a table; `None` where the key has none, or no table has this name.
+/// The value of a key of a table; `None` if the key has none, or no table has this name.
 ///
 /// Refused `NotRead` as the store is, `NoMemory`, `NotTables` if the store has other pairs than those
 /// of tables, and `Unfinished` if a batch stands that is not carried out.

@@ -24,7 +24,7 @@ use bw_tables::{chunk_group, delete_step, first_group, long_step, short_step};
 // The kind of keys of numbers that are free.
 const FREE: u8 = 4;
 
-// The number behind the kind of a key.
+// The number after the kind of a key.
 fn number_in(key: &[u8]) -> Option<Number> {
     if key.len() < 9 {
         return None;
@@ -48,7 +48,7 @@ fn first_of(home: &mut Home, kind: u8) -> Result<Option<Number>, TableFault>
     }
 }
 
-// One above the last number of a kind; 0 where there is none.
+// One above the last number of a kind; 0 if there is none.
 fn behind(home: &mut Home, kind: u8) -> Result<u64, TableFault>
     requires ready { IsReady home.old holding }
     requires least { kind < 255 }
@@ -241,8 +241,8 @@ pub(crate) fn write(home: &mut Home, value: &[u8]) -> Result<Number, TableFault>
     Ok(number)
 }
 
-// What the old row named is collected, if it named anything. Where that is refused, an opening
-// does it.
+// What the old row named is collected, if it named anything. If that is refused, an opening does
+// it.
 fn collect_old(home: &mut Home, old: Option<Head>)
     requires ready { IsReady home.old holding }
     ensures ready { IsReady home.new holding }

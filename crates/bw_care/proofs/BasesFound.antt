@@ -21,7 +21,7 @@ use Rattle.bw_log.proofs.Walk.{same_fold}
 use Rattle.bw_log.proofs.Walks.{blocks_more}
 use Rattle.bw_care.proofs.OldPages.{all_after, any_placed, any_all_placed, set_where}
 
--- ---- the places behind a block
+-- ---- the places after a block
 
 pub above : (k n : ℕ) (ys : List Frame) → AreFrom n ys → k < n → AllByRecursion (λ f. k < f.number) ys
 above k n [] from less = tt
@@ -62,7 +62,7 @@ none_behind p place xs ys others is = elim (cases_Bool (list_any (λ y. touches 
   | inr none ↦ none
 ]
 
--- a frame's blocks up to one of them, and those behind
+-- a frame's blocks up to one of them, and those after
 parted : (fs : List Frame) (x : Frame) (xs : List Frame) (bs cs : List Block) → x.blocks ≡ bs ++ cs
     → all_placed (fs ++ x ∷ xs) ≡ (all_placed fs ++ placed x.number 0 bs) ++ (placed x.number (0 + length bs) cs ++ all_placed xs)
 parted fs x xs bs cs split =

@@ -128,7 +128,7 @@ appended_older old x new a =
     record { many = omega (arith, with_last_long change live); same = λ i inside. with_last_at change live i inside } in
     older_all old.live live new.live (older_roomy old (wants_segment old len)) (subst (KeepsOlder live) (sym a.live) last)
 
--- ---- the newest live segment, where it takes no frames
+-- ---- the newest live segment, if it takes no frames
 
 answered : (o : Option LogFault) (x : Unit {0}) → Answers o (Ok x) → o ≡ None
 answered None x a = refl

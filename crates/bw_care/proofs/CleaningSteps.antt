@@ -116,7 +116,7 @@ fill_refused reads old new Failed stops other = stops
 fill_refused reads old new Spent stops other = stops.0
 fill_refused reads old new NoPage stops other = absurd (other refl)
 
--- a read is refused only where a page is left
+-- a read is refused only if a page is left
 pub fill_reason : (old new : Contents) (fault : LogFault) (pages : List ℕ) → StopsAt (HoldsSome old pages) old fault new → (fault ≡ NoPage → ⊥)
     → 0 < length pages → IsReason fault old pages
 fill_reason old new NoMemory pages stops other some = tt

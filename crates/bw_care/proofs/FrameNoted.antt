@@ -32,7 +32,7 @@ use Rattle.bw_care.proofs.CleaningSteps.{rest_is}
 
 -- ---- the frame
 
--- the version that is told of the oldest segment is that of its number
+-- the version that is said of the oldest segment is that of its number
 version_by : (c : Contents) (live : List Holding) (o : Option ℕ) → IsSound c → c.live ≡ live → 0 < length live
     → MatchOption (slice_get live 0) (o ≡ None) (λ h. o ≡ Some (version_in h.bytes)) → o ≡ Some latest → version_at c.old_to c.number ≡ latest
 version_by c [] o sound is some told new = absurd (omega arith)
@@ -137,12 +137,12 @@ drop_parts : {c : Contents} {bytes : List ℕ} {line : FrameAt} {end at count : 
     → drop at bytes ≡ block_bytes b.0 ++ (body_bytes b.1 ++ n.back)
 drop_parts n b = n.parts ∙ ap (λ (l : List Block). body_bytes l ++ n.back) b.2 ∙ append_assoc (block_bytes b.0) (body_bytes b.1) n.back
 
--- .. and what is told of it
+-- .. and what is said of it
 pub record Step {c : Contents} {bytes : List ℕ} {line : FrameAt} {end at count : ℕ} (n : Noting c bytes line end at count) (o : Outline) : Type 0 where
   pub next : NextOf n.left
   pub told : o ≡ outline_of latest next.0
 
--- what is told of the blocks at the front of the bytes from here on
+-- what is said of the blocks at the front of the bytes from here on
 abbrev Outlines : List ℕ → Outline → Type 0
 Outlines front o = (m : ℕ) (block : Block) (rest : List ℕ) → m < 2 ^ 16 → IsBlock m block → front ≡ block_bytes block ++ rest
     → Some o ≡ Some (outline_of latest block)

@@ -1,4 +1,4 @@
--- Frames read one after the other behind a header.
+-- Frames read one after the other after a header.
 
 use Rattle.std.proofs.Common.{◌≡◌, ◌≢◌, ℕ, zero, suc, ◌+◌, ◌-◌, ◌^◌, ◌<◌, ◌≤◌, Option, Some, None, Result, Ok, Err, IfOk, IfErr, List, [], ◌∷◌, ◌++◌, length}
 use Rattle.std.proofs.Common.{take, drop, map, refl, sym, ap, subst, ◌∙◌, append_assoc, append-nil, arith, length-append, length-drop}
@@ -61,7 +61,7 @@ pub unseen : (v m f : ℕ) (bytes : List ℕ) (result : Result FrameSeen CodecFa
 unseen v m f bytes (Ok told) small fits only = tt
 unseen v m f bytes (Err fault) small fits only = unseen_by v m f bytes fault (front_at v m f bytes) refl small fits only
 
--- what is told of bytes that are known to be a frame or a tail
+-- what is said of bytes that are known to be a frame or a tail
 pub known_front : (v m f : ℕ) (bytes : List ℕ) (told : FrameSeen) → m < 2 ^ 16 → IsBytes bytes → front_at v m f bytes ≢ None
     → ((read : FrameRead) → IsFront v m f bytes read → told ≡ seen_of read) → IsSeen v m f bytes told
 known_front v m f bytes told small fits some only = known_as (front_at v m f bytes) refl where
@@ -79,7 +79,7 @@ abbrev used_in : FrameSeen → ℕ
 used_in (seen.Whole number used) = used
 used_in seen.Tail = 0
 
--- the frame that was told
+-- the frame that was answered
 pub record IsWhole (v m f : ℕ) (bytes : List ℕ) (number used : ℕ) : Type 0 where
   pub frame : Frame
   pub number_is : frame.number ≡ number
@@ -269,7 +269,7 @@ there_from k bytes at read again there same =
     subst (λ (b : List ℕ). IsFront k.version k.m k.f b again) (from_here bytes at)
     (subst (IsFront k.version k.m k.f (take (length bytes - at) (drop at bytes))) same there)
 
--- the same, of what was told in short
+-- what was answered in short stands at the front of the bytes, too
 pub whole_from : (k : Header) (bytes : List ℕ) (at : ℕ) (told : FrameSeen) (number used : ℕ)
     → IsSeen k.version k.m k.f (take (length bytes - at) (drop at bytes)) told → told ≡ seen.Whole number used
     → IsWhole k.version k.m k.f (drop at bytes) number used
@@ -288,7 +288,7 @@ pub unseen_from : (k : Header) (bytes : List ℕ) (at : ℕ) → front_at k.vers
     → front_at k.version k.m k.f (drop at bytes) ≡ None
 unseen_from k bytes at none = ap (front_at k.version k.m k.f) (sym (from_here bytes at)) ∙ none
 
--- the bytes of the frame that was told
+-- the bytes of the frame that was answered
 pub spelled_from : (k : Header) (bytes : List ℕ) (at number used : ℕ) (w : IsWhole k.version k.m k.f (drop at bytes) number used) → k.m < 2 ^ 16
     → IsSpelling k.version k.m k.f w.frame (take (at + used - at) (drop at bytes))
 spelled_from k bytes at number used w small =

@@ -69,7 +69,7 @@ same_limit a b v e one two =
     let part = (or_parts _ _ (or_parts _ _ e).0).1 in
     eqb-true a.f b.f (not_off (a.f == b.f) (and_off (a.version == b.version) (not (a.f == b.f)) part (eq-eqb a.version b.version (one ∙ sym two))))
 
--- a segment of version 1 is not numbered behind one of version 2
+-- a segment of version 1 is not numbered after one of version 2
 never_older : (a b : Header) → clash a b ≡ false → a.version ≡ 2 → b.version ≡ 1 → a.number < b.number → ⊥
 never_older a b e new old less =
     let part = (or_parts _ _ e).1 in
@@ -184,7 +184,7 @@ new_like l h new pairs limit beyond =
     let same : ◌≡◌ {A = Header} h (header_with h.number l.m l.f) = (λ i. record { version = new i; number = h.number; m = pairs i; f = limit i }) in
     same ∙ sym (header_new l h.number beyond)
 
--- behind a segment of version 2 stand none of version 1
+-- after a segment of version 2 stand none of version 1
 stay_new : (r : Found) (n : ℕ) (rs : List Found) → AreNumbers n rs → r.header.version ≡ 2 → r.header.number < n → AllByRecursion (NoClash r) rs
     → AllByRecursion IsLawful rs → AllByRecursion (λ q. q.header.version ≡ 2) rs
 stay_new r n [] numbers new below apart laws = tt
@@ -245,7 +245,7 @@ sorted_by l (r ∷ rs) numbers pairs news olds laws all to =
     let law = laws.0.number.0 in
     row_like l r.header.number (r ∷ rs) numbers pairs news olds laws all (omega (arith, to, law))
 
--- where no headers clash, and the numbers have no gap
+-- if no headers clash, and the numbers have no gap
 pub sorted_like : (boxes hs : List Holding) (ss : List Scan) → are_mixed (headers_of ss) ≡ false → AreFound boxes hs (sorted ss)
     → follow_from None (map number_found (sorted ss)) ≡ true → AllByRecursion (IsLike (row_limits ss)) (sorted ss)
 sorted_like boxes hs ss e found follow =

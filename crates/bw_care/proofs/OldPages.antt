@@ -25,7 +25,7 @@ use Rattle.bw_care.specs.Cleaning.{is_old, old_from, pages_upto, oldest_last, Is
 
 -- ---- which pages are old
 
--- one more page, where it was looked at
+-- one more page, if it was looked at
 pub old_step : (last : ℕ) (frames : List Frame) (i n : ℕ) (t : Bool) → i < n → is_old last (base_of (i + 1) frames) ≡ t
     → old_from last frames (i + 1) (n - i)
     ≡ (if t then (i + 1) ∷ old_from last frames (i + 1 + 1) (n - (i + 1)) else old_from last frames (i + 1 + 1) (n - (i + 1)))
@@ -120,7 +120,7 @@ stays_where : (Q : Place → Type 0) (test : Block → Bool) (acc : Option Place
 stays_where Q test acc [] are was = was
 stays_where Q test acc (x ∷ xs) are was = stays_where Q test (later test acc x) xs are.1 (one_where Q acc x.0 (test x.1) was are.0)
 
--- it holds of the last place, where one of these blocks passes
+-- it holds of the last place, if one of these blocks passes
 set_where_by : (Q : Place → Type 0) (test : Block → Bool) (acc : Option Place) (x : Place × Block) (xs : List (Place × Block)) (t : Bool) → Q x.0
     → AllByRecursion (λ x. Q x.0) xs
     → ((v : Option Place) → list_any (λ y. test y.1) xs ≡ true → IfSome (fold (later test) v xs) Q)

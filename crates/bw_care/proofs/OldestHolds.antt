@@ -98,7 +98,7 @@ last_below : (n w : ℕ) (xs ys : List Frame) → AreFrom n (xs ++ ys) → w < n
 last_below n w [] ys are less = omega arith
 last_below n w (x ∷ xs) ys are less = (let number = are.0 in let rest = last_below (n + 1) x.number xs ys are.1 (omega arith) in omega arith)
 
--- it stands in the first frames, where its number is not above the last of them
+-- it stands in the first frames, if its number is not above the last of them
 first_by : (p n : ℕ) (xs ys : List Frame) (o : Option Place) → AreFrom n (xs ++ ys) → 1 ≤ n → base_of p ys ≡ o
     → is_old (fold (λ was f. f.number) 0 xs) (or_else o (base_of p xs)) ≡ true → list_any (sets p) (blocks_of xs) ≡ true
 first_by p n xs ys (Some place) are one is old =
@@ -207,7 +207,7 @@ some_holds_by : (c : Contents) (pages : List ℕ) → IsSound c → c.is_failed 
 some_holds_by c [] sound works live are some = absurd (omega arith)
 some_holds_by c (p ∷ ps) sound works live are some = inl (old_holds_by c p c.live sound works refl live are.0)
 
--- the oldest segment is read only where one of the pages stands there
+-- the oldest segment is read only if one of the pages stands there
 pub oldest_holds : (c : Contents) (pages : List ℕ) → IsSound c → c.is_failed ≡ false → 0 < length c.live → pages ≡ old_pages c → 0 < length pages
     → (at : ℕ) → at ≡ 0 → HoldsSome c pages at
 oldest_holds c pages sound works live are some at first =

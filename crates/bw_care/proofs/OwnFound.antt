@@ -117,7 +117,7 @@ module _ (z : Limits) (n : ℕ) (live loose : List Holding) (x : AreSorted z n l
       ap (λ (fs : List Frame). follow_on (map (λ f. f.number) fs)) frames ∙ frames_follow (first_number (frames_held live)) (frames_held live) numbered in
       ap (λ (t : Bool). not (t && follow_on (map (λ f. f.number) (frames_in both)))) numbers ∙ ap not follow
 
-  -- what stands behind the first steps
+  -- what stands after the first steps
   abbrev behind : Option RecoverCause
   behind = or_else (when (is_small both) BadConfig) (fault_of_frames (pairs_in both) (frames_in both))
 

@@ -79,7 +79,7 @@ told_of : (P : Holding → Type 0) (o : Option Holding) (h : Holding) → o ≡ 
 told_of P (Some k) h is told = (let same : k ≡ h = cc in subst P same told)
 told_of P None h is told = absurd cc
 
--- what a look at it told
+-- what a look at it said
 told_there : (P : Holding → Type 0) (old now : List Holding) (i : ℕ) (h : Holding) → now ≡ old → slice_get old i ≡ Some h → IfSome (slice_get now i) P
     → P h
 told_there P old now i h same is told = told_of P (slice_get now i) h (ap (λ (hs : List Holding). slice_get hs i) same ∙ is) told

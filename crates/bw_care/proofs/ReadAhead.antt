@@ -1,4 +1,4 @@
--- What was read ahead tells of pages, then and after other pages were written again.
+-- What was read ahead says of pages, then and after other pages were written again.
 
 use Rattle.std.proofs.Common.{◌≡◌, ℕ, zero, suc, ◌+◌, ◌-◌, ◌<◌, nat_le, Bool, true, false, if◌then◌else◌, Option, Some, None, List, [], ◌∷◌, ◌++◌, length}
 use Rattle.std.proofs.Common.{Result, Ok, Err, is_ok, OnOk, OnErr, IsErrOf, IsTrue, ◌↔◌, take, drop, set, replicate, get_or, slice_get, IfSome, MatchOption}
@@ -40,7 +40,7 @@ found_by c (Some k) h was out found is none told =
     let same : k ≡ h = cc in
     told.1 ∙ ap (λ (l : List ℕ). l ++ k.bytes) none ∙ ap (λ (x : Holding). x.bytes) same
 
--- what is told of the first live segment: its number, its lease and its length
+-- what is said of the first live segment: its number, its lease and its length
 abbrev pub IsFirst : Contents → Option Holding → Option (ℕ × ℕ × ℕ) → Type 0
 IsFirst c o told = MatchOption o (told ≡ None) (λ h. told ≡ Some (c.number + 0, h.lease, length h.bytes))
 

@@ -35,14 +35,14 @@ frames_around head bytes at seen told frame r =
     let more = (frames_at (length bytes - length (seen ++ frame ∷ [])) head.version head.m head.f (drop at bytes)).0 in
     (more, sym (append_assoc seen (frame ∷ []) more) ∙ sym (ap (λ (x : List Frame × List ℕ). x.0) r.read))
 
--- bytes that end in a tail have nothing else behind their frames
+-- bytes that end in a tail have nothing else after their frames
 pub never_bad : (head : Header) (bytes : List ℕ) (at : ℕ) (seen : List Frame) (told : List FrameAt) → EndsInTail head bytes → IsReadTo head bytes at seen told
     → front_at head.version head.m head.f (drop at bytes) ≡ None → ⊥
 never_bad head bytes at seen told ends r none =
     let bad = bad_there head bytes at seen (ends_bad head bytes at seen told r none) none in
     (let e : Some at ≡ None = sym bad ∙ ends in absurd cc)
 
--- a segment's frames stand behind the header that is read
+-- a segment's frames stand after the header that is read
 pub framed_header : (bytes : List ℕ) (h : Header) (x : IsFramed bytes) → heading_of bytes ≡ heading.Whole h → x.header ≡ h
 framed_header bytes h x is = (let e : heading.Whole x.header ≡ heading.Whole h = sym x.read ∙ is in cc)
 

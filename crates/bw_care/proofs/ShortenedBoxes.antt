@@ -1,4 +1,4 @@
--- The boxes of a log behind a newest segment that is shortened, and behind an append that failed.
+-- The boxes of a log after a newest segment that is shortened, and after an append that failed.
 
 use Rattle.std.proofs.Common.{inl, inr, ◌≡◌, ◌⊎◌, ℕ, zero, suc, ◌+◌, ◌<◌, ◌≤◌, ◌==◌, nat_lt, Bool, true, false, if◌then◌else◌, Err, List, [], ◌∷◌, ◌++◌}
 use Rattle.std.proofs.Common.{length, map, take, drop, refl, sym, ap, ◌∙◌, subst, arith, append_assoc, append-nil, length-append, take_all, take-append-drop}
@@ -161,7 +161,7 @@ short_frames z number (suc n) h live short =
     (flat_map (frame_bytes_in (version_at z.old_to number)) (segment_frames h.bytes) ++ live.torn) (suc n) live.whole.lawful.version live.whole.parts
     (omega arith) short)
 
--- the frames of one segment are those of the row of it alone
+-- the frames of one segment are those of the row of only it
 one_segment : (h : Holding) → frames_held (h ∷ []) ≡ segment_frames h.bytes
 one_segment h = append-nil (segment_frames h.bytes)
 

@@ -1,4 +1,5 @@
--- A page whose last block stands in the oldest segment is what that segment's frames leave, and may be spelled behind its bytes.
+-- A page whose last block stands in the oldest segment is what that segment's frames leave, and may
+-- be spelled after its bytes.
 
 use Rattle.std.proofs.Common.{inl, inr, ◌≡◌, ℕ, ◌+◌, ◌<◌, ◌≤◌, true, false, Option, Some, None, IfSome, List, [], ◌∷◌, ◌++◌, length}
 use Rattle.std.proofs.Common.{map, take, drop, set, get_or, slice_get, refl, sym, ap, subst, ◌∙◌, length-append, length-drop, arith}
@@ -98,7 +99,7 @@ pub read_says : (frames : List Frame) (lines : tree.BTreeMap ℕ Line) → ((p :
     → Says (blocks_of frames) lines
 read_says frames lines read p leaf is = sym (leaf_is p frames) ∙ ap leaf_in (sym (read p)) ∙ is
 
--- a leaf that the map has of a page is read, where the page's last block is old
+-- a leaf that the map has of a page is read, if the page's last block is old
 pub says_read : (c : Contents) (lines : tree.BTreeMap ℕ Line) (last p : ℕ) → IsSound c → c.is_failed ≡ false → last ≡ oldest_last c c.live
     → Says (blocks_of (oldest_frames c.live)) lines → IsPage c p → is_old last (place_of p (counted c)) ≡ true → (leaf : Leaf)
     → leaf_in (tree.get nat_cmp lines p) ≡ Some leaf → PageRead c p leaf
@@ -138,7 +139,7 @@ oldest_by c (h ∷ hs) bytes sound is some same =
 pub holds_oldest : (c : Contents) (bytes read : List ℕ) → IsSound c → 0 < length c.live → IsOldest c bytes → read ≡ bytes → HoldsOldest c read
 holds_oldest c bytes read sound some oldest same = rw same (oldest_by c c.live bytes sound refl some oldest)
 
--- ---- a page spelled behind them
+-- ---- a page spelled after them
 
 piece_grown : (old more : List ℕ) (s : Spot) → s.at + s.len ≤ length old → piece_at (old ++ more) s ≡ piece_at old s
 piece_grown old more s inside =

@@ -254,7 +254,7 @@ pub limit_lawful : (hs : List Header) → AllByRecursion IsHeader hs → (65536 
 limit_lawful [] laws = (omega arith, omega arith)
 limit_lawful (h ∷ hs) laws = limit_by h (h.version == 2) (limit_of hs) refl laws.0 (limit_lawful hs laws.1)
 
--- and so is the page limit, where there is a segment
+-- and so is the page limit, if there is a segment
 pairs_lawful : (l : Limits) (boxes hs : List Holding) (rs : List Found) → AreFound boxes hs rs → AllByRecursion (IsLike l) rs
     → 1 ≤ length (frames_of (map (λ h. h.bytes) hs)) → (4 ≤ l.m) × (l.m ≤ 32)
 pairs_lawful l boxes [] [] all like some = absurd (omega arith)
@@ -399,7 +399,7 @@ page_refuses hs new s x cause linked same told = by cause told where
   by Mixed is = absurd is
   by (BadLink page) is = absurd is
 
--- where nothing is at fault
+-- if nothing is at fault
 pub all_answer : (hs : List Holding) (s : Survey) (x : IsSurvey hs s) → link_fault (frames_in hs) ≡ None
     → fault_among s.order.m (frames_in hs) ≡ None → recovery hs ≡ Ok (found_in hs)
 all_answer hs s x linked none =

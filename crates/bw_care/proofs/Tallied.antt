@@ -25,7 +25,7 @@ bytes_all (h ∷ hs) (suc i) le = (let rest = bytes_all hs i (omega arith) in om
 pub up_more : (a b total more : ℕ) → total ≡ up 0 a → b ≡ a + more → up total more ≡ up 0 b
 up_more a b total more e f = omega arith
 
--- what is told of a segment is its length
+-- what is said of a segment is its length
 pub length_told : (number i : ℕ) (hs : List Holding) (r : Option (ℕ × ℕ × ℕ)) (x : ℕ × ℕ × ℕ)
     → MatchOption (slice_get hs i) (r ≡ None) (λ h. r ≡ Some (number, h.lease, length h.bytes)) → r ≡ Some x → x.2 ≡ length_at hs i
 length_told number i [] r x h is = absurd cc

@@ -1,4 +1,4 @@
--- What stands behind the segments of version 1 once their pages were written again.
+-- What stands after the segments of version 1 once their pages were written again.
 
 use Rattle.std.proofs.Common.{inl, inr, ◌≡◌, ℕ, zero, suc, ◌+◌, ◌-◌, ◌<◌, ◌≤◌, ◌==◌, ◌||◌, max, Bool, true, false, if◌then◌else◌, Option, Some, None, IfSome}
 use Rattle.std.proofs.Common.{List, [], ◌∷◌, ◌++◌, length, map, take, drop, slice_get, refl, sym, ap, subst, ◌∙◌, arith}
@@ -151,7 +151,7 @@ some_last Q test acc (x ∷ xs) are e = elim (cases_Bool (list_any (λ (y : Plac
   )
 ]
 
--- ---- the newest segment, where all have version 1
+-- ---- the newest segment, if all have version 1
 
 step_less : (v n len : ℕ) (t : Bool) → n < len → (if t then suc n else 0) < suc len
 step_less v n len true less = omega arith
@@ -214,7 +214,7 @@ kept_row old now ps rs last n sound works x =
     let many = x.older.many in
     take_same (old_segments old) old.live now.live few (omega arith) (kept_at old now ps rs last n sound works x)
 
--- ---- their pages stand behind them
+-- ---- their pages stand after them
 
 weak_after : (a b : ℕ) (o : Option Place) → a ≤ b → IsAfter b o → IsAfter a o
 weak_after a b None le is = tt
@@ -243,7 +243,7 @@ are_behind old now n a b works x i page less there =
     subst (λ (o : Option Holding). IfSome o (λ y. IsAfter (last_number now y) (base_of page (counted now)))) (sym is)
     (weak_after (last_number now h) last (base_of page (counted now)) (omega arith) base)
 
--- ---- and a segment stands behind them
+-- ---- and a segment stands after them
 
 none_stands : (p : ℕ) (bs : List Block) (leaf : Leaf) → content p bs ≡ Some leaf → list_any (sets p) bs ≡ true
 none_stands p bs leaf is = elim (cases_Bool (list_any (sets p) bs)) [
@@ -271,7 +271,7 @@ take_whole (suc k) [] long = refl
 take_whole zero (h ∷ hs) long = absurd (omega arith)
 take_whole (suc k) (h ∷ hs) long = ap (λ (l : List Holding). h ∷ l) (take_whole k hs (omega arith))
 
--- where all segments have version 1, each counted frame stands in one of them
+-- if all segments have version 1, each counted frame stands in one of them
 counted_upto : (c : Contents) → IsSound c → c.is_failed ≡ false → length c.live ≤ old_segments c → AllByRecursion (λ f. f.number ≤ last_of_old c) (counted c)
 counted_upto c sound works all =
     let every = sound.holds.every works in
@@ -306,7 +306,7 @@ leaves_some : (m : ℕ) (frames : List Frame) (leaves : List Leaf) → Stand m f
 leaves_some m frames [] stand = absurd stand.lawful.first
 leaves_some m frames (l ∷ ls) stand = omega arith
 
--- after the pages were written a segment stands behind those of version 1
+-- after the pages were written a segment stands after those of version 1
 pub more_left : (old now : Contents) (n : ℕ) → IsSound old → old.is_failed ≡ false → 1 ≤ length (counted old)
     → MovedBehind (last_of_old old) old now (pages_of_old old) [] n → old_segments old < length now.live
 more_left old now n sound works some x = elim (cases_lt (old_segments old) (length old.live)) [
@@ -351,7 +351,7 @@ pub pages_are : (c : Contents) (slice items : List ℕ) (last count : ℕ) → s
 pages_are c slice items last count a b d e =
     a ∙ b ∙ ap (λ (n : ℕ). pages_upto n c) (d ∙ ap (λ (k : ℕ). last_among c (take k c.live)) e)
 
--- what was moved, or where it stopped, told of them
+-- what was moved, or where it stopped, said of them
 pub moved_old : {slice items : List ℕ} {last count frames : ℕ} (c now : Contents) → IsSound c → slice ≡ items → items ≡ pages_upto last c
     → last ≡ last_among c (take count c.live) → count ≡ old_segments c
     → ((k : ℕ) → IsNextBehind k c → MovedBehind k c now slice [] frames) → MovedBehind (last_of_old c) c now (pages_of_old c) [] frames
@@ -404,7 +404,7 @@ old_by l n (h ∷ hs) are news =
       | false ↦ λ e v. rw v (let gt = leb-false n l.old_to e in omega arith)
     ] refl (live_version l n h.bytes are.0))
 
--- the last number of version 1 tells how many there are
+-- the last number of version 1 says how many there are
 pub old_are : (c : Contents) → IsSound c → old_segments c ≡ c.old_to + 1 - c.number
 old_are c sound =
     let many = length-map c.live (λ (h : Holding). h.bytes) in

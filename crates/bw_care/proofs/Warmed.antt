@@ -90,7 +90,7 @@ unread_in reads old new Mixed stops = stops
 unread_in reads old new (BadLink page) stops = stops
 unread_in reads old new (Unlawful page) stops = stops
 
--- a refusal that is handed on, where the log had not changed before
+-- a refusal that is handed on, if the log had not changed before
 pub unread_since : (reads others : ℕ → Type 0) (old now new : Contents) (cause : RecoverCause) → now ≡ old → ((i : ℕ) → reads i → others i)
     → Unread reads now cause new → Unread others old cause new
 unread_since reads others old now new cause same more stops =

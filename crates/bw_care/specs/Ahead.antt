@@ -52,7 +52,7 @@ pub record Tells (c : Contents) (bytes : List ℕ) (p : ℕ) (s : Spot) : Type 0
   pub within : IsWithin bytes s
   pub holds : 0 < s.len → IsBaseOf c p (piece_at bytes s)
 
--- so does each of these spots for its page; a page behind the last spot has none
+-- so does each of these spots for its page; a page after the last spot has none
 abbrev pub AreSpots : Contents → List ℕ → List Spot → List ℕ → Type 0
 AreSpots c bytes [] pages = Unit {0}
 AreSpots c bytes (s ∷ ss) [] = Unit {0}
@@ -76,7 +76,7 @@ IsNoted pages page spot old new =
 abbrev pub IsOldest : Contents → List ℕ → Type 0
 IsOldest c bytes = IfSome (slice_get c.live 0) (λ h. bytes ≡ h.bytes)
 
--- a counted frame, where these bytes spell it
+-- a counted frame, if these bytes spell it
 pub record IsLineOf (c : Contents) (bytes : List ℕ) (line : FrameAt) : Type 0 where
   pub index : ℕ
   pub frame : Frame
@@ -102,7 +102,7 @@ Says blocks lines = (p : ℕ) (leaf : Leaf) → leaf_in (tree.get nat_cmp lines 
 abbrev pub IsPart : tree.BTreeMap ℕ Line → tree.BTreeMap ℕ Line → Type 0
 IsPart old new = (p : ℕ) (leaf : Leaf) → leaf_in (tree.get nat_cmp new p) ≡ Some leaf → leaf_in (tree.get nat_cmp old p) ≡ Some leaf
 
--- this leaf was spelled as a Base behind bytes, in the spot
+-- this leaf was spelled as a Base after bytes, in the spot
 pub record IsSpelled (o : Option Leaf) (old new : List ℕ) (s : Spot) : Type 0 where
   pub leaf : Leaf
   pub there : o ≡ Some leaf

@@ -1,4 +1,4 @@
--- What stands behind a segment's header, and what was read of it.
+-- What stands after a segment's header, and what was read of it.
 
 use Rattle.std.specs.Prelude.{◌++◌, ℕ, ◌≡◌, None, List, length, drop, map}
 use Rattle.std.specs.List.{flat_map, AllByRecursion}
@@ -9,11 +9,11 @@ use Rattle.bw_log.specs.Segments.{frames_at, entries_from}
 use Rattle.bw_care.specs.Scanning.{rest_of, fault_behind}
 use Rattle.bw_care.specs.declared.scan.Behind.{Behind}
 
--- the whole frames behind a header
+-- the whole frames after a header
 abbrev pub frames_behind : Header → List ℕ → List Frame
 frames_behind head bytes = (frames_at (length bytes) head.version head.m head.f (drop 24 bytes)).0
 
--- behind the last of them stands a tail
+-- after the last of them stands a tail
 abbrev pub EndsInTail : Header → List ℕ → Type 0
 EndsInTail head bytes = fault_behind head bytes ≡ None
 

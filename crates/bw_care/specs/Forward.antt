@@ -18,7 +18,7 @@ use Rattle.bw_lines.specs.declared.links.ReadFault.{ReadFault}
 use Rattle.bw_lines.specs.declared.cause.RecoverCause.{RecoverCause}
 use Rattle.bw_lines.specs.declared.cause.RecoverCause.TheVariants.{NoMemory, BadConfig, Device, Spent, Empty, BadBytes, Gap, Mixed, BadLink, Unlawful}
 
--- a segment's frames stand behind its header, and a tail behind them
+-- a segment's frames stand after its header, and a tail after them
 pub record IsFramed (bytes : List ℕ) : Type 0 where
   pub header : Header
   pub read : heading_of bytes ≡ heading.Whole header

@@ -1,4 +1,5 @@
--- What the pages of frames are to the leaves for which frames stand: laws over the definitions alone.
+-- What the pages of frames are to the leaves for which frames stand: laws over the definitions
+-- only.
 
 use Rattle.std.specs.Prelude.{ℕ, ◌+◌, ◌≡◌, ◌≤◌, ◌⊎◌, true, false, None, Ok, Err, IfSome, List, [], ◌++◌, length, map, take}
 use Rattle.std.specs.List.{AllByRecursion}
@@ -19,14 +20,14 @@ use Rattle.bw_care.specs.Recovery.{Finding, frames_in, last_number, live_in, pai
 use Rattle.bw_care.specs.Scanning.{rest_in}
 use Rattle.bw_lines.specs.declared.cause.RecoverCause.TheVariants.{Empty}
 
--- where no page is at fault, the frames stand for the leaves found
+-- if no page is at fault, the frames stand for the leaves found
 abbrev pub FoundStand : Type 0
 FoundStand =
     (m : ℕ) (frames : List Frame) → AllByRecursion (HasLawful m) frames → 1 ≤ length frames
     → first_such (is_at_fault m (blocks_of frames)) 1 (top_page (blocks_of frames)) ≡ None
     → Stand m frames (contents (blocks_of frames) 1 (top_page (blocks_of frames)))
 
--- where frames stand for leaves, none of their pages is at fault
+-- if frames stand for leaves, none of their pages is at fault
 abbrev pub StandingUnfaulted : Type 0
 StandingUnfaulted =
     (m : ℕ) (frames : List Frame) (leaves : List Leaf) → AllByRecursion (HasLawful m) frames → Stand m frames leaves
@@ -59,14 +60,14 @@ sorted_finding live loose leaves = record {
   dropped = length (parts_in loose);
 }
 
--- where frames stand they are found, with their tails, and the boxes with a part of a header
+-- if frames stand they are found, with their tails, and the boxes with a part of a header
 abbrev pub SortedBoxesFound : Type 0
 SortedBoxesFound =
     (l : Limits) (number : ℕ) (live loose : List Holding) (leaves : List Leaf) → AreSorted l number live loose
     → AreFrom (first_number (frames_held live)) (frames_held live) → AreLinked (frames_held live) → Stand l.m (frames_held live) leaves
     → recovery (live ++ loose) ≡ Ok (sorted_finding live loose leaves)
 
--- where there is no whole frame, this is the fault
+-- if there is no whole frame, this is the fault
 abbrev pub SortedBoxesEmpty : Type 0
 SortedBoxesEmpty =
     (l : Limits) (number : ℕ) (live loose : List Holding) → AreSorted l number live loose → frames_held live ≡ []
@@ -97,13 +98,15 @@ pub record IsFound (hs : List Holding) (frames : List Frame) (leaves : List Leaf
   pub leaves_are : finding.leaves ≡ leaves
   pub last : finding.last ≡ last_number frames
 
--- these boxes hold these whole frames: where they stand they are found, and where there is none, that is the fault
+-- these boxes hold these whole frames: if they stand they are found, and if there is none, that is
+-- the fault
 abbrev pub FoundAs : ℕ → List Holding → List Frame → Type 0
 FoundAs m hs frames =
     ((leaves : List Leaf) → Stand m frames leaves → IsFound hs frames leaves)
     × (frames ≡ [] → (recovery hs ≡ Err Empty) × (frames_in hs ≡ []))
 
--- the boxes of a sound log that has not failed, with its newest segment shortened to any length, at 0 only where a spare may have its room
+-- the boxes of a sound log that has not failed, with its newest segment shortened to any length, at
+-- 0 only if a spare may have its room
 abbrev pub OwnShortenedFound : Type 0
 OwnShortenedFound =
     (c : Contents) (n : ℕ) → IsSound c → c.is_failed ≡ false → (n ≡ 0 → IfSome (last_of c.live) (IsRoomy c.f))
@@ -128,7 +131,7 @@ OwnLimitsRead = (c : Contents) → IsSound c → 1 ≤ length (live_in (boxes c)
 abbrev pub EndWhole : List Holding → Type 0
 EndWhole live = AllByRecursion (λ h. rest_in h.bytes ≡ []) live
 
--- .. and where each segment of the log ends with its last whole frame, no tail is found
+-- .. and if each segment of the log ends with its last whole frame, no tail is found
 abbrev pub WholeBoxesFound : Type 0
 WholeBoxesFound =
     (c : Contents) (leaves : List Leaf) → IsSound c → c.is_failed ≡ false → Stand c.m (counted c) leaves → EndWhole c.live

@@ -39,7 +39,7 @@ pub record KeepsOlder (old new : List Holding) : Type 0 where
   pub many : length old ≤ length new
   pub same : (i : ℕ) → i + 1 < length old → slice_get new i ≡ slice_get old i
 
--- and the newest too, where it takes no frames: so the first frame begins a segment
+-- and the newest too, if it takes no frames: so the first frame begins a segment
 pub record KeepsNewest (old now : Contents) (frames : ℕ) : Type 0 where
   pub closed : old.is_open ≡ false → frames ≡ 0 → now.is_open ≡ false
   pub begun : old.is_open ≡ false → 1 ≤ frames → length old.live < length now.live
@@ -53,7 +53,7 @@ pub record AreBases (c : Contents) (blocks : List Block) (pages : List ℕ) : Ty
   pub lawful : AllByRecursion (IsBlock c.m) blocks
   pub told : map page_of blocks ≡ pages
 
--- a Base of the first of these pages would not fit behind the frame
+-- a Base of the first of these pages would not fit after the frame
 abbrev pub IsFull : Contents → Frame → List ℕ → Type 0
 IsFull c x [] = Unit {0}
 IsFull c x (p ∷ ps) =
@@ -64,17 +64,18 @@ abbrev pub AreFull : Contents → List Frame → List ℕ → Type 0
 AreFull c [] ps = Unit {0}
 AreFull c (x ∷ xs) ps = IsFull c x (drop (length x.blocks) ps) × AreFull c xs (drop (length x.blocks) ps)
 
--- the next frame, if it has a number, stands behind this one
+-- the next frame, if it has a number, stands after this one
 abbrev pub IsNextBehind : ℕ → Contents → Type 0
 IsNextBehind last c = (n : ℕ) → c.next ≡ Some n → last < n
 
--- these frames were appended one after the other, each to the log as those before it left it: so a segment is begun
--- only where the current one has no room for the frame that comes next
+-- these frames were appended one after the other, each to the log as those before it left it: so a
+-- segment is begun only if the current one has no room for the frame that comes next
 abbrev pub AreAppended : Contents → List Frame → Contents → Type 0
 AreAppended old [] new = new ≡ old
 AreAppended old (x ∷ xs) new = (between : Contents) × AfterAppend old x true (Ok tt) between × AreAppended between xs new
 
--- so many frames were appended, all behind this one, which hold these pages and nothing else; the rest is still to come
+-- so many frames were appended, all after this one, which hold these pages and nothing else; the
+-- rest is still to come
 pub record MovedBehind (last : ℕ) (old now : Contents) (pages rest : List ℕ) (frames : ℕ) : Type 0 where
   pub written : List Frame
   pub appends : AreAppended old written now
@@ -122,7 +123,8 @@ HoldsSome c [] at = ⊥
 HoldsSome c (p ∷ ps) at = HoldsPage c p at ⊎ HoldsSome c ps at
 
 -- why a step is refused, memory and the device aside: the frame that comes next has no room or no
--- number, or one of the pages stands in a segment whose count is at its greatest; and only where a page is left
+-- number, or one of the pages stands in a segment whose count is at its greatest; and only if a
+-- page is left
 abbrev pub IsReason : LogFault → Contents → List ℕ → Type 0
 IsReason NoMemory c pages = Unit {0}
 IsReason BadConfig c pages = ⊥

@@ -60,7 +60,7 @@ abbrev pub may_follow : Option ℕ → ℕ → Bool
 may_follow None n = true
 may_follow (Some k) n = k + 1 == n
 
--- these were read of these segments, which stand among the boxes at the positions told
+-- these were read of these segments, which stand among the boxes at the positions given
 abbrev pub AreFound : List Holding → List Holding → List Found → Type 0
 AreFound boxes [] [] = Unit {0}
 AreFound boxes [] (r ∷ rs) = ⊥

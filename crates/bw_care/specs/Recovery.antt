@@ -36,7 +36,7 @@ number_in bytes = (header_in bytes).number
 abbrev pub segments_in : List Holding → List Holding
 segments_in boxes = filter (λ h. has_header h.bytes) boxes
 
--- the same in the order of their numbers
+-- boxes with a header, in the order of their numbers
 abbrev pub live_in : List Holding → List Holding
 live_in boxes = in_order (λ h. number_in h.bytes) (segments_in boxes)
 
@@ -53,7 +53,7 @@ frames_in boxes = frames_of (map (λ h. h.bytes) (live_in boxes))
 abbrev pub headers_in : List Holding → List Header
 headers_in boxes = map (λ h. header_in h.bytes) (segments_in boxes)
 
--- the page limit of the first of them, which is that of all where none clashes
+-- the page limit of the first of them, which is that of all if none clashes
 abbrev pub pairs_of : List Header → ℕ
 pairs_of [] = 0
 pairs_of (h ∷ hs) = h.m
@@ -190,6 +190,6 @@ abbrev pub answer : Option RecoverCause → Finding → Result Finding RecoverCa
 answer None finding = Ok finding
 answer (Some cause) finding = Err cause
 
--- what recovery says of boxes: from their bytes and their room alone
+-- what recovery says of boxes: only from their bytes and their room
 abbrev pub recovery : List Holding → Result Finding RecoverCause
 recovery boxes = answer (first_fault boxes) (found_in boxes)

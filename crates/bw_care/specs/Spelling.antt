@@ -19,6 +19,6 @@ frame_by (Some (Whole frame used)) = frame
 frame_by (Some Tail) = record { number = 0; blocks = [] }
 frame_by None = record { number = 0; blocks = [] }
 
--- the frame that stands at the front of bytes behind a header
+-- the frame that stands at the front of bytes after a header
 abbrev pub frame_first : Header → List ℕ → Frame
 frame_first k bytes = frame_by (front_at k.version k.m k.f bytes)

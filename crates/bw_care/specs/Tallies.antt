@@ -47,8 +47,8 @@ counted_up t frames bytes given_up cleanings = record t {
 
 -- ---- what a cleaning counts
 
--- so many frames, and as many bytes as there are more after it than before; where it is done, the segments that were given up, and
--- their bytes, which are among these
+-- so many frames, and as many bytes as there are more after it than before; if it is done, the
+-- segments that were given up, and their bytes, which are among these
 abbrev pub counted_by : Tally → Bool → ℕ → ℕ → ℕ → ℕ → ℕ → Tally
 counted_by t done frames before after gone count =
     if done then counted_up t frames (up after gone - before) gone count else counted_up t frames (up after 0 - before) 0 0

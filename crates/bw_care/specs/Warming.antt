@@ -34,7 +34,7 @@ unread_of log.NoSegment = NoMemory
 unread_of log.Failed = NoMemory
 unread_of log.NoPage = NoMemory
 
--- what a refused read leaves, where it may have had to read the live segments of these indices
+-- what a refused read leaves, if it may have had to read the live segments of these indices
 abbrev pub Unread : (ℕ → Type 0) → Contents → RecoverCause → Contents → Type 0
 Unread reads old NoMemory new = new ≡ old
 Unread reads old (Device lease) new = FailedRead reads lease old new

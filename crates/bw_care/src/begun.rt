@@ -1,6 +1,6 @@
-//! The beginning of a first frame, where that is all there is in segments.
+//! The beginning of a first frame, if that is all there is in segments.
 //!
-//! Nothing was ever durable there, and nothing is lost where it is cleared. A log that has lost its
+//! Nothing was ever durable there, and nothing is lost if it is cleared. A log that has lost its
 //! first segment looks otherwise: what it has was not begun as segment 1.
 
 use bw_codec::{HeaderRead, read_header};
@@ -11,7 +11,7 @@ use bw_device::Segment;
 pub enum Begun {
     /// None of them has a byte.
     Nothing,
-    /// One alone has bytes, and may be the first that was ever begun: its lease, and how many bytes
+    /// Only one has bytes, and may be the first that was ever begun: its lease, and how many bytes
     /// it holds.
     First { lease: u32, bytes: u64 },
     /// Anything else.

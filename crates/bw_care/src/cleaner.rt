@@ -25,33 +25,32 @@ pub struct Cleaned {
     pub lease: u32,
     /// How many pages were written again.
     pub pages: usize,
-    /// In how many frames, those of the cleaning alone.
+    /// In how many frames, only those of the cleaning.
     pub frames: u64,
 }
 
 /// Gives up the oldest live segment, once each page that was last set there is written again.
 ///
-/// A page is *old* where its last setting block (its Base, or the Split that made it) stands in the
+/// A page is *old* if its last setting block (its Base, or the Split that made it) stands in the
 /// oldest segment. Each old page is read back and written as one Base, by ascending page, as many
 /// to a frame as fit; such a frame may take the last spare. Then the oldest box is dropped, so its
 /// lease comes back.
 ///
-/// E11 comes first, exactly where fewer than two segments are live, then E7, exactly where the log
-/// is Failed. Then E8 where a frame is wanted and has no number, E1, E5 where no spare is left, and
-/// E6. A refusal part-way keeps the frames already written, drops no box and changes no page. After
-/// E1, E5 and a failed read it may be called again; where an append failed, the log is Failed.
+/// E11 comes first, exactly if fewer than two segments are live, then E7, exactly if the log is
+/// Failed. Then E8 if a frame is wanted and has no number, E1, E5 if no spare is left, and E6. A
+/// refusal part-way keeps the frames already written, drops no box and changes no page. After E1,
+/// E5 and a failed read it may be called again; if an append failed, the log is Failed.
 ///
-/// It costs a look at each page's line in memory, and four bytes for each old page. Where a page is
+/// It costs a look at each page's line in memory, and four bytes for each old page. If a page is
 /// old, the oldest segment is read once. An old page whose last block of all is its Base there is
 /// copied as the bytes of this Base. If there are others whose last block stands there, the segment
-/// is decoded once, and these are spelled again behind its bytes. The segment's bytes stand in
+/// is decoded once, and these are spelled again after its bytes. The segment's bytes stand in
 /// memory until all pages are written, with sixteen more for each old page and the bytes of those
 /// spelled; while it is decoded, so do all the pages that it touches.
 ///
-/// An old page that a later frame touches costs what `read_page` does (each frame with a block of
-/// that page since its last setting one is read whole), and so does each old page of a segment of
-/// more than 16 MiB, or where memory for reading ahead is refused. Then come the bytes of the new
-/// frames.
+/// An old page that a later frame touches costs what `read_page` does: each frame with a block of
+/// that page since its last setting one is read whole. So does each old page of a segment of more
+/// than 16 MiB, or if memory for reading ahead is refused. Then come the bytes of the new frames.
 pub fn clean(alloc: Global, log: &mut Log) -> Result<Cleaned, CleanFault>
     requires { IsSound log.old holding }
     ensures sound { IsSound log.new holding }

@@ -4,7 +4,7 @@
 //! frame would be read once for each of them. So the segment is read once, forwards, and it is
 //! noted where the last block of a page is its Base. Such a Base is written again as the bytes that
 //! it is, with no decoding. If there are pages whose last block stands there and is no Base, the
-//! segment is decoded once, and each of them is spelled as a Base behind its bytes. A page that a
+//! segment is decoded once, and each of them is spelled as a Base after its bytes. A page that a
 //! later frame touches is read by its links.
 
 ghost use Rattle.std.specs.Prelude.{◌≡◌, ◌≢◌, ◌<◌, ◌≤◌, ◌↔◌, ◌++◌, [], Some, None, Err, true, false, length, slice_get, slice_index, replicate, IfOk, OnErr, IfSome, IsTrue};
@@ -42,7 +42,7 @@ const MOST_AHEAD: u64 = 16_777_216;
 /// The first byte of a Base.
 const BASE: u8 = 2;
 
-/// A stretch of the bytes that were read ahead, or of those spelled behind them; of no bytes where
+/// A stretch of the bytes that were read ahead, or of those spelled after them; of no bytes if
 /// there is none.
 #[derive(Clone, Copy)]
 pub(crate) struct Spot {
@@ -53,14 +53,14 @@ pub(crate) struct Spot {
 /// What was read ahead for a list of pages.
 #[derive(Drop)]
 pub(crate) struct Ahead {
-    /// The bytes of the oldest segment, and behind them the Bases that were spelled; or none.
+    /// The bytes of the oldest segment, and after them the Bases that were spelled; or none.
     pub(crate) bytes: Vec<u8>,
-    /// For each page the spot where its Base stands in them; no spots where nothing was read.
+    /// For each page the spot where its Base stands in them; no spots if nothing was read.
     pub(crate) spots: Vec<Spot>,
 }
 
 impl Ahead {
-    /// The bytes of the Base of the page at an index; none where it has to be read by its links.
+    /// The bytes of the Base of the page at an index; none if it has to be read by its links.
     pub(crate) fn base(&self, i: usize) -> Option<&[u8]>
         requires { IfSome (slice_get self.now.spots.items i) (IsWithin self.now.bytes.items) }
         ensures { IfSome result (λ piece.
@@ -74,7 +74,7 @@ impl Ahead {
     }
 }
 
-// The bytes of the oldest segment; none where it is too long, or memory for them is refused.
+// The bytes of the oldest segment; none if it is too long, or memory for them is refused.
 fn oldest_bytes(alloc: Global, log: &mut Log) -> Result<Option<Vec<u8>>, LogFault>
     requires sound { IsSound log.old holding }
     requires some { 0 < length (seen log.old holding).live }
@@ -203,7 +203,7 @@ fn find_spots(
     Ok(spots)
 }
 
-// Each page as the frames of a segment leave it; none where memory for them is refused.
+// Each page as the frames of a segment leave it; none if memory for them is refused.
 fn pages_in(alloc: Global, bytes: &[u8]) -> BTreeMap<u32, DraftLine>
     requires { IsFramed bytes.now }
     ensures { Says (blocks_of (segment_frames bytes.now)) result }
@@ -237,7 +237,7 @@ fn is_some_wanted(log: &Log, last: u64, spots: &[Spot], pages: &[u32]) -> bool
     false
 }
 
-// Spells a page as a Base behind the bytes, unless memory is refused.
+// Spells a page as a Base after the bytes, unless memory is refused.
 fn encode_base(leaf: Leaf, bytes: &mut Vec<u8>) -> bool
     requires { IsBlock 32 (Base leaf) }
     ensures added { IsTrue result → bytes.new.items ≡ bytes.old.items ++ block_bytes (Base leaf) }
@@ -246,7 +246,7 @@ fn encode_base(leaf: Leaf, bytes: &mut Vec<u8>) -> bool
     encode_block(&Block::Base(leaf), bytes).is_ok()
 }
 
-// Takes a page out of the map and spells it as a Base behind the bytes; none where the map does not
+// Takes a page out of the map and spells it as a Base after the bytes; none if the map does not
 // have it or memory is refused.
 fn spell(lines: &mut BTreeMap<u32, DraftLine>, page: u32, bytes: &mut Vec<u8>) -> Option<Spot>
     requires { (leaf : LeafValue) → leaf_in (tree.get nat_cmp lines.old page) ≡ Some leaf
@@ -268,7 +268,7 @@ fn spell(lines: &mut BTreeMap<u32, DraftLine>, page: u32, bytes: &mut Vec<u8>) -
     Some(Spot { at, len })
 }
 
-// Spells the wanted pages behind the bytes, until memory is refused.
+// Spells the wanted pages after the bytes, until memory is refused.
 fn spell_wanted(
     log: &Log,
     last: u64,
@@ -296,7 +296,7 @@ fn spell_wanted(
     }
 }
 
-// Spells behind the bytes of the oldest segment each page whose last block stands there and is no
+// Spells after the bytes of the oldest segment each page whose last block stands there and is no
 // Base. If there is one, the segment is decoded once.
 fn spell_rest(alloc: Global, log: &Log, bytes: &mut Vec<u8>, spots: &mut [Spot], pages: &[u32])
     requires sound { IsSound log.now holding }
@@ -325,9 +325,9 @@ pub(crate) fn nothing(alloc: Global) -> Ahead
     }
 }
 
-/// Where the pages' Bases stand: in the oldest segment, which is read once, or spelled behind its
-/// bytes. A page has no spot where a later frame touches it, and none has one where the segment is
-/// longer than 16 MiB or memory is refused.
+/// Where the pages' Bases stand: in the oldest segment, which is read once, or spelled after its
+/// bytes. A page has no spot if a later frame touches it, and none has one if the segment is longer
+/// than 16 MiB or memory is refused.
 pub(crate) fn read_ahead(alloc: Global, log: &mut Log, pages: &[u32]) -> Result<Ahead, LogFault>
     requires sound { IsSound log.old holding }
     requires works { (seen log.old holding).is_failed ≡ false }

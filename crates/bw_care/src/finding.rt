@@ -45,7 +45,7 @@ fn known(version: u16, m: u16, f: u32, bytes: &[u8]) -> FrameSeen
     find_frame(bytes, &header)
 }
 
-// The blocks of the frames behind this header of a segment, which a scan has found lawful.
+// The blocks of the frames after this header of a segment, which a scan has found lawful.
 fn find_frames(
     alloc: Global,
     lines: &mut BTreeMap<u32, Touched>,

@@ -16,7 +16,7 @@ use bw_lines::{DraftLine, ReadFault, read_blocks_linked};
 use std::alloc::Global;
 use std::collections::BTreeMap;
 
-// The blocks of the frames behind this header of a segment, which a scan has found lawful.
+// The blocks of the frames after this header of a segment, which a scan has found lawful.
 fn read_frames(
     alloc: Global,
     lines: &mut BTreeMap<u32, DraftLine>,

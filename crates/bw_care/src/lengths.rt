@@ -7,7 +7,7 @@ ghost use Rattle.bw_care.specs.Views.{seen, IsSound};
 use bw_device::Segment;
 use bw_log::Log;
 
-/// How many bytes the i-th live segment has, from 0; none where there is no such segment.
+/// How many bytes the i-th live segment has, from 0; 0 if there is no such segment.
 pub fn length_of(log: &Log, i: u32) -> u64
     requires { IsSound log.now holding }
     ensures { result ≡ length_at (seen log.now holding).live i }

@@ -1,7 +1,7 @@
 //! The bytes of a box where they lie, if its segment lends them: then nothing is copied to be
 //! looked at, and nothing is read that could fail.
 //!
-//! A segment that lends none is read. What is told of a box is the same either way: one with bytes
+//! A segment that lends none is read. What is said of a box is the same either way: one with bytes
 //! of which no further failure could be counted is refused before they are looked at, as a read of
 //! it would be.
 

@@ -1,5 +1,5 @@
-//! What a log needs to live long: the cleaner gives up its oldest segment, and no page changes; and
-//! recovery by one scan, from any bytes to the leaves, or to the first fault.
+//! What a log needs to live long. The cleaner gives up its oldest segment, and no page changes.
+//! Recovery goes by one scan from any bytes to the leaves, or to the first fault.
 //!
 //! The oldest segment is the one that goes, and before it goes each page whose last setting block
 //! stands there is written again, whole. A page is read from its last setting block on, so nothing

@@ -1,9 +1,9 @@
 //! The steps of a cleaning.
 //!
 //! A refusal may come between any two frames, and a stop inside of one. So each frame by itself
-//! changes no page: it says whole what older blocks say, and whoever stops behind it has pages
-//! that are read from two places and are the same from both. Only once all of them are out does
-//! the segment go.
+//! changes no page: it says whole what older blocks say, and whoever stops after it has pages that
+//! are read from two places and are the same from both. Only once all of them are out does the
+//! segment go.
 
 ghost use Rattle.std.specs.Prelude.{◌≡◌, ◌≢◌, ◌+◌, ◌^◌, ◌<◌, ◌≤◌, ℕ, [], take, drop, length, false, Err, IfOk, IfErr, IfSome};
 ghost use Rattle.std.specs.List.{AllByRecursion};
@@ -31,7 +31,7 @@ pub(crate) fn is_old(last: u64, place: Option<Place>) -> bool
     }
 }
 
-/// The number of the last frame in the oldest segment, or 0 where it has none.
+/// The number of the last frame in the oldest segment, or 0 if it has none.
 pub(crate) fn last_old(log: &Log) -> u64
     requires sound { IsSound log.now holding }
     requires some { 0 < length (seen log.now holding).live }
@@ -78,7 +78,7 @@ fn put_page(
         (seen log.old holding) result (seen log.new holding) }
     ensures paged { result ≢ Err LogFault.NoPage }
 {
-    // A buffer that is not sealed refuses for want of room alone.
+    // A buffer that is not sealed refuses only for want of room.
     match found {
         Some(bytes) => Ok(buffer.put_base(bytes, page).is_ok()),
         None => {
@@ -156,7 +156,7 @@ fn move_some(
     let mut buffer = Buffer::new(alloc, number, log.limit())?;
     let count = fill(log, ahead, from, &mut buffer, pages)?;
     buffer.seal();
-    // The bytes tell the proof that the frame is no longer than the limit.
+    // The bytes show the proof that the frame is no longer than the limit.
     let _ = buffer.bytes();
     log.append_care(&buffer)?;
     Ok(count)

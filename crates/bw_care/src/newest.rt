@@ -41,7 +41,7 @@ pub fn renew(newest: &mut Vec<Place>, log: &Log)
     }
 }
 
-// The same of one page.
+// Notes the last block of one page as the log has it.
 fn renew_at(newest: &mut Vec<Place>, log: &Log, at: usize)
     requires sound { IsSound log.now holding }
     requires few { at + 1 < 2 ^ 32 }

@@ -1,8 +1,8 @@
 //! Segments in the order of their numbers, and whether they follow one another.
 //!
 //! Boxes come in any order: a file is named by its lease, and leases are used again. Headers that
-//! do not fit each other are told first, since numbers of two logs say nothing of one another. A
-//! segment that is missing would take pages with it and leave no trace, so a gap is a fault. The
+//! do not fit each other are reported first, since numbers of two logs say nothing of one another.
+//! A segment that is missing would take pages with it and leave no trace, so a gap is a fault. The
 //! numbers of frames are asked too: a segment that was shortened between two frames has no tail,
 //! and only the next frame's number shows it.
 

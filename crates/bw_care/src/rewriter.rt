@@ -2,7 +2,7 @@
 //!
 //! A page is read from its last setting block on, and each frame that touched it since is read
 //! whole. A page that lives long and changes a little in each frame would cost more with each
-//! flush. One Base behind all of that, and its next read is one frame. Its older blocks stay where
+//! flush. One Base after all of that, and its next read is one frame. Its older blocks stay where
 //! they are until their segment is given up.
 
 ghost use Rattle.std.specs.Prelude.{◌≡◌, ◌↔◌, [], true, IfOk, IfErr, IsErrOf};
@@ -24,10 +24,10 @@ use std::alloc::Global;
 /// not looked at any more, so reading it costs one block and what comes later. No segment is given
 /// up.
 ///
-/// E7 comes first, exactly where the log is Failed. Then E8 where a frame is wanted and has no
-/// number, E1, E5 where no spare is left (the last one may be taken), and E6. A refusal part-way
-/// keeps the frames already written and changes no page. After E1, E5 and a failed read it may be
-/// called again; where an append failed, the log is Failed.
+/// E7 comes first, exactly if the log is Failed. Then E8 if a frame is wanted and has no number,
+/// E1, E5 if no spare is left (the last one may be taken), and E6. A refusal part-way keeps the
+/// frames already written and changes no page. After E1, E5 and a failed read it may be called
+/// again; if an append failed, the log is Failed.
 ///
 /// Each page costs what `read_page` costs, and then come the bytes of the new frames.
 pub fn rewrite(alloc: Global, log: &mut Log, pages: &[u32]) -> Result<u64, LogFault>

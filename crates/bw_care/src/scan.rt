@@ -1,10 +1,10 @@
 //! One box's bytes, read from left to right.
 //!
-//! What stands behind the last whole frame is a tail, or damage, and everything hangs on which. A
-//! stop leaves a beginning of a lawful frame there. Were damage taken for a tail, records that
-//! were durable would be dropped in silence; were a tail taken for damage, a store would be
-//! refused after each loss of power. No beginning of a lawful frame is a whole one or begins
-//! another, so the bytes alone decide.
+//! What stands after the last whole frame is a tail, or damage, and everything hangs on which. A
+//! stop leaves a beginning of a lawful frame there. Were damage taken for a tail, records that were
+//! durable would be dropped in silence; were a tail taken for damage, a store would be refused
+//! after each loss of power. No beginning of a lawful frame is a whole one or begins another, so
+//! only the bytes decide.
 
 ghost use Rattle.std.specs.Prelude.{◌≡◌, ◌≤◌, ◌<◌, ◌^◌, ℕ, None, IfOk, IfErr, Result, Ok, Err, length, map, slice_get, OnOk, IfSome};
 ghost use Rattle.bw_codec.specs.Grammar.{IsFront};
@@ -55,7 +55,7 @@ impl<T: Drop> From<AllocFailed<T>> for ScanFault {
     }
 }
 
-/// What stands behind a header.
+/// What stands after a header.
 #[derive(Drop)]
 pub struct Behind {
     /// Where the whole frames stand, each in segment 0.
@@ -74,7 +74,7 @@ impl Behind {
     }
 }
 
-/// What stands at the front of bytes behind a header of this version and with these limits.
+/// What stands at the front of bytes after a header of this version and with these limits.
 pub(crate) fn front(
     alloc: Global,
     bytes: &[u8],
@@ -94,7 +94,8 @@ pub(crate) fn front(
     read_frame(alloc, bytes, &header)
 }
 
-/// The same in short: nothing is made of the frame, and no memory is taken.
+/// What stands at the front of bytes after a header, in short: nothing is made of the frame, and no
+/// memory is taken.
 fn seen(version: u16, m: u16, f: u32, bytes: &[u8]) -> Result<FrameSeen, CodecFault>
     ensures found { IfOk result (IsSeen version m f bytes.now) }
     ensures none { IfErr result (λ _. front_at version m f bytes.now ≡ None) }
@@ -130,7 +131,7 @@ fn line_of(alloc: Global, header: &Header, number: u64, at: usize, bytes: &[u8])
     }
 }
 
-/// All whole frames behind this header of a segment. It costs what the bytes do.
+/// All whole frames after this header of a segment. It costs what the bytes do.
 pub fn read_behind(alloc: Global, bytes: &[u8], header: Header) -> Result<Behind, ScanFault>
     requires { 24 ≤ length bytes.now }
     ensures found { IfOk result (IsBehind header bytes.now) }

@@ -1,4 +1,4 @@
-//! Recovery's steps, one behind the other, before any box is moved.
+//! Recovery's steps, one after the other, before any box is moved.
 //!
 //! Frames are found in a first pass over each box, and their blocks are read in a second one, once
 //! the order of all segments is known. The second pass makes no record: it looks at blocks where they
@@ -55,7 +55,7 @@ fn room_of(boxes: &[Box<dyn Segment>], at: usize) -> Option<u64>
     ensures none { IfNone result
         (IfSome (slice_get (map holding boxes.now) at) (λ h. nat_lt 1073741824 h.room ≡ true)) }
 {
-    // The length tells the proof that no box holds more than it has room for.
+    // The length shows the proof that no box holds more than it has room for.
     let _ = len_of(boxes, at);
     let room = capacity_of(boxes, at);
     if room > MAX_CAPACITY {
@@ -85,7 +85,7 @@ fn rooms_of(alloc: Global, boxes: &[Box<dyn Segment>]) -> Result<Vec<u64>, Recov
     Ok(rooms)
 }
 
-// What each box is, and what stands in the segments, where their order is right.
+// What each box is, and what stands in the segments, if their order is right.
 fn look_over(alloc: Global, boxes: &mut Vec<Box<dyn Segment>>) -> Result<Survey, RecoverCause>
     requires { Unit {0} }
     ensures found { IfOk result (IsSurvey (map holding boxes.old.items)) }

@@ -1,7 +1,7 @@
 //! What a store counts beside what it keeps.
 //!
 //! Counting takes no memory, and nothing is refused for it. A number that is at its greatest stays
-//! there: one that began again at 0 would tell of a store that has just begun.
+//! there: one that began again at 0 would look like a store that has just begun.
 
 ghost use Rattle.std.specs.Prelude.{◌≡◌};
 ghost use Rattle.bw_care.specs.Tallies.{counted_by, counted_from, counted_out, counted_up};
@@ -89,7 +89,7 @@ impl Tally {
     }
 
     /// With so many frames more of the cleaner's, and as many bytes as the live segments have more
-    /// than before: where it is done, so many segments were given up, whose bytes are among these.
+    /// than before: if it is done, so many segments were given up, whose bytes are among these.
     pub fn with_moved(
         self,
         is_done: bool,

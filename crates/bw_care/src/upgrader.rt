@@ -28,7 +28,7 @@ pub struct Upgraded {
     pub segments: u32,
     /// How many pages were written again.
     pub pages: usize,
-    /// In how many frames, those of the upgrade alone.
+    /// In how many frames, only those of the upgrade.
     pub frames: u64,
 }
 
@@ -96,10 +96,10 @@ fn give_up(log: &mut Log, count: u32)
 /// first, so their leases come back. At each point between two drops the counted frames stand for
 /// what they stood for.
 ///
-/// E11 comes first, exactly where no live segment has version 1, then E7, exactly where the log is
-/// Failed. Then E8 where a frame is wanted and has no number, E1, E5 where no spare is left, and
-/// E6. A refusal part-way keeps the frames already written, drops no box and changes no page. After
-/// E1, E5 and a failed read it may be called again; where an append failed, the log is Failed.
+/// E11 comes first, exactly if no live segment has version 1, then E7, exactly if the log is
+/// Failed. Then E8 if a frame is wanted and has no number, E1, E5 if no spare is left, and E6. A
+/// refusal part-way keeps the frames already written, drops no box and changes no page. After E1,
+/// E5 and a failed read it may be called again; if an append failed, the log is Failed.
 ///
 /// It costs a look at each page's line in memory and four bytes for each page that is written
 /// again, and of each what `read_page` costs. Then come the bytes of the new frames, and a pass

@@ -32,7 +32,7 @@ pub struct WarmFault {
     pub cause: RecoverCause,
 }
 
-// What was recovered need not be told.
+// What was recovered need not be shown.
 impl Debug for WarmFault {
     fn fmt<W: fmt::Write>(&self, f: &mut Formatter<W>) -> fmt::Result {
         write!(f, "WarmFault({:?})", self.cause)
@@ -120,9 +120,9 @@ impl Recovered {
     /// A copy of a page; `None` if the number is 0 or above the number of pages. A page that is not in
     /// memory is read by the links back from its last block, and does not stay.
     ///
-    /// Refused `NoMemory`; `Device`, where the segment with this lease failed and counts it: the next
-    /// read may not; or `Spent`, where no more failure of a segment that has to be read could be
-    /// counted.
+    /// Refused `NoMemory`. Refused `Device` if the segment with this lease failed and counts it:
+    /// the next read may not. Refused `Spent` if no more failure of a segment that has to be read
+    /// could be counted.
     pub fn page(&mut self, page: u32) -> Result<Option<Leaf>, RecoverCause>
         requires { IsRecovered (λ b. holding (b.vtable, b.value)) self.old }
         ensures leaf { IfOk result (λ leaf. leaf ≡ leaf_at page self.old.leaves.leaves) }

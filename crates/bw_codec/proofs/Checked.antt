@@ -1,4 +1,4 @@
--- What is told of bytes that are checked is told of what would be read.
+-- What is said of bytes that are checked is said of what would be read.
 
 use Rattle.std.proofs.Common.{◌≡◌, ℕ, zero, suc, ◌+◌, ◌-◌, ◌<◌, nat_lt, Bool, true, false, if◌then◌else◌, Option, Some, None, Result, Ok, Err, IfOk, IfErr, ◌^◌, List, ◌∷◌, refl, sym, ap, subst, ◌∙◌, arith}
 use Rattle.std.specs.Option.{option_map}
@@ -51,14 +51,14 @@ past_done one count i bytes rest all so_far = past_many one count bytes ∙ step
 
 -- ---- pairs
 
--- pairs that were read, where their keys ascend behind those of others
+-- pairs that were read, if their keys ascend after those of others
 abbrev risen : List Pair → Found (List Pair) → Found (List Pair)
 risen before read = read >>= λ ps. if ascends ps.0 then Some ps else None
 
 abbrev behind : Pair → Found (List Pair) → Found (List Pair)
 behind p read = read >>= λ others. Some (p ∷ others.0, others.1)
 
--- the same pairs, where they ascend behind this one
+-- pairs that were read, if they ascend after this one
 abbrev rising : Pair → Found (List Pair) → Found (List Pair)
 rising p read = read >>= λ ps. if ascends (p ∷ ps.0) then Some ps else None
 
@@ -162,7 +162,7 @@ led_many v n bytes None e = rw e refl
 led_many v n bytes (Some x) e =
     rw e (led_behind x.0 (many_at (pair_at v) n x.1)) ∙ ap (λ (o : Option (List ℕ)). o >>= λ after. Some (Some x.0.0, after)) (rises v n x.0 x.1)
 
--- some pairs: the first, and those behind it
+-- some pairs: the first, and those after it
 pub led_some : (v count : ℕ) (bytes : List ℕ) (o : Found (List ℕ)) → 0 < count → keyed (pair_at v bytes) ≡ o
     → led_by (judged (many_at (pair_at v) count bytes)) ≡ (o >>= λ pair. rising_after v (count - 1) pair.0 pair.1 >>= λ after. Some (Some pair.0, after))
 led_some v count bytes o some e =
@@ -178,13 +178,13 @@ seen_by v m f bytes told None is small fits gives = cc
 seen_by v m f bytes told (Some read) is small fits gives =
     record { read = read; there = front_is v m f bytes read small fits is; is = sym (found gives) }
 
--- what is told stands there
+-- what is said stands there
 pub seen_there : (v m f : ℕ) (bytes : List ℕ) (result : Result FrameSeen CodecFault) → m < 2 ^ 16 → IsBytes bytes
     → Gives (λ (x : FrameSeen). x) result (option_map seen_of (front_at v m f bytes)) → IfOk result (IsSeen v m f bytes)
 seen_there v m f bytes (Ok told) small fits gives = seen_by v m f bytes told (front_at v m f bytes) refl small fits gives
 seen_there v m f bytes (Err fault) small fits gives = tt
 
--- what stands there is told
+-- what stands there is said
 pub only_seen : (v m f : ℕ) (bytes : List ℕ) (result : Result FrameSeen CodecFault) → m < 2 ^ 16 → f < 2 ^ 32
     → IfErr result (λ fault. fault ≡ BadBytes)
     → Gives (λ (x : FrameSeen). x) result (option_map seen_of (front_at v m f bytes))

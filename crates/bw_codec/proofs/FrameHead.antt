@@ -1,4 +1,4 @@
--- What the head of a frame reads as, where its numbers are known.
+-- What the head of a frame reads as, if its numbers are known.
 
 use Rattle.std.proofs.Common.{◌≡◌, ℕ, List, true, false, Some, None, length, ◌-◌, refl, sym}
 use Rattle.std.proofs.lemmas.List.{take_rest}

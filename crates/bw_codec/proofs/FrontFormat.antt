@@ -292,7 +292,7 @@ beginnings_are_tails v m f a n law short =
           inr (h, take (n - 20) body, law.head, fewer, same))
     ]
 
--- ---- what a reader's answer tells
+-- ---- what a reader's answer says
 
 pub found_there : (v : ℕ) → (m f : ℕ) (bytes : List ℕ) (result : Result FrameRead CodecFault) → m < 2 ^ 16 → IsBytes bytes
     → Gives (λ (x : FrameRead). x) result (front_at v m f bytes) → IfOk result (IsFront v m f bytes)

@@ -86,7 +86,7 @@ passes h law =
 
 -- ---- a header is spelled where one is read
 
--- a number stands at an offset, and more bytes behind it
+-- a number stands at an offset, and more bytes after it
 number_at_offset : (n k j : ℕ) (bytes : List ℕ) → k + n ≡ j → j ≤ length bytes → IsBytes (drop k bytes)
     → (drop k bytes ≡ number_bytes n (little_number n (drop k bytes)) ++ drop j bytes) × (little_number n (drop k bytes) < 256 ^ n) × IsBytes (drop j bytes)
 number_at_offset n k j bytes at long fits =
@@ -215,7 +215,7 @@ bad_there bytes e = (
   λ part. (let no : heading.Bad ≡ heading.Part = sym e ∙ part_again bytes part in cc),
 )
 
--- the tests in turn, each with what it tells
+-- the tests in turn, each with what it says
 heading_there : (bytes : List ℕ) → IsBytes bytes → (read : HeaderRead) → heading_of bytes ≡ read → IsHeading bytes read
 unfolding heading_of
 heading_there bytes fits read e =

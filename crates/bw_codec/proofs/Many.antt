@@ -24,7 +24,7 @@ pub many_none : {X : Type 0} (one : List ℕ → Found X) (n : ℕ) (bytes : Lis
 unfolding many_at
 many_none one n bytes e = rw e refl
 
--- one thing alone was read
+-- only one thing was read
 pub many_of_one : {X : Type 0} (one : List ℕ → Found X) (bytes : List ℕ) (x : X) (rest : List ℕ) → one bytes ≡ Some (x, rest)
     → many_at one 1 bytes ≡ Some (x ∷ [], rest)
 unfolding many_at
@@ -62,7 +62,7 @@ many_begins {X} one count bytes =
 
 -- ---- what a fault says
 
--- where nothing is read of a part, nothing is read of the whole
+-- if nothing is read of a part, nothing is read of the whole
 pub fault_goes_on : {X Y : Type 0} (fault : CodecFault) (part : Option X) (whole : Option Y) → (part ≡ None → whole ≡ None) → Says fault part → Says fault whole
 fault_goes_on NoMemory part whole none says = tt
 fault_goes_on BadBytes part whole none says = none says

@@ -38,7 +38,7 @@ old_may_be_written m (Base leaf) law = base_newer m leaf law
 old_may_be_written m (Split page back upper) law =
     record { splits = law.splits; links = law.links; makes = base_newer m upper law.makes; low = law.low; count = law.count; new = law.new }
 
--- the fourth byte tells them apart
+-- the fourth byte sets them apart
 pub no_frame_of_both : NoFrameOfBoth
 no_frame_of_both a b x y same =
     (let fourth : ◌≡◌ {A = ℕ} 49 50 = ap (λ (l : List ℕ). get_or l 3 0) same in absurd (omega (arith, fourth)))

@@ -1,4 +1,4 @@
--- A run of bytes behind its length, and numbers as bytes.
+-- A run of bytes after its length, and numbers as bytes.
 
 use Rattle.std.specs.Prelude.{ℕ, List, ◌∷◌, ◌++◌, length}
 use Rattle.byteorder.specs.Endian.{little_bytes}

@@ -1,4 +1,4 @@
--- What is told of bytes that are checked, of which nothing is kept.
+-- What is said of bytes that are checked, of which nothing is kept.
 
 use Rattle.std.specs.Prelude.{ℕ, zero, suc, ◌≡◌, if◌then◌else◌, Option, Some, None, List, [], ◌∷◌}
 use Rattle.bw_record.specs.Keys.{is_below}
@@ -20,7 +20,7 @@ abbrev pub keyed : Found (List ℕ × List ℕ) → Found (List ℕ)
 keyed None = None
 keyed (Some read) = Some (read.0.0, read.1)
 
--- so many pairs whose keys ascend, the first behind this key: the bytes after them
+-- so many pairs whose keys ascend, the first after this key: the bytes after them
 unfoldable pub rising_after : ℕ → ℕ → List ℕ → List ℕ → Option (List ℕ)
 rising_after v zero before bytes = Some bytes
 rising_after v (suc n) before bytes =
@@ -40,12 +40,12 @@ abbrev pub paged : Found Leaf → Found ℕ
 paged None = None
 paged (Some read) = Some (read.0.page, read.1)
 
--- a whole frame is told by its number and its length
+-- a whole frame is given by its number and its length
 abbrev pub seen_of : FrameRead → FrameSeen
 seen_of (Whole frame used) = seen.Whole frame.number used
 seen_of Tail = seen.Tail
 
--- what is told stands at the front of bytes
+-- what is said stands at the front of bytes
 pub record IsSeen (v m f : ℕ) (bytes : List ℕ) (told : FrameSeen) : Type 0 where
   pub read : FrameRead
   pub there : IsFront v m f bytes read

@@ -1,4 +1,4 @@
--- What is told of a block without its records and pairs.
+-- What is said of a block without its records and pairs.
 
 use Rattle.std.specs.Prelude.{ℕ, ◌≡◌, ◌==◌, ◌||◌, Bool, false, Option, Some, None, length}
 use Rattle.bw_codec.specs.Grammar.{block_bytes_in}

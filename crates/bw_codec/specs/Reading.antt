@@ -40,7 +40,7 @@ abbrev pub run_at : List ℕ → Found (List ℕ)
 run_at [] = None
 run_at (n ∷ rest) = if nat_lt (length rest) n then None else Some (take n rest, drop n rest)
 
--- the same, of a length within bounds
+-- one byte of length, which is within bounds, and that many bytes
 unfoldable pub text_at : ℕ → ℕ → List ℕ → Found (List ℕ)
 text_at low high bytes = do
   run ← run_at bytes
@@ -151,7 +151,7 @@ head_at v f bytes =
           (record { number = number.0; body = body.0; blocks = blocks.0 }, blocks.1) else None)
     else None
 
--- what stands at the front, where that is lawful
+-- what stands at the front, if that is lawful
 unfoldable pub front_at : ℕ → ℕ → ℕ → List ℕ → Option FrameRead
 front_at v m f bytes =
     if nat_lt (length bytes) 20 then (if agrees bytes (frame_word v) then Some Tail else None)
@@ -162,7 +162,8 @@ front_at v m f bytes =
             blocks ← many_at (block_at v m) head.0.blocks (take head.0.body head.1)
             if length blocks.1 == 0 then Some (Whole (record { number = head.0.number; blocks = blocks.0 }) (head.0.body + 20)) else None))
 
--- what a fault says of what reading gives: nothing where memory ran out, and else that it gives nothing
+-- what a fault says of what reading gives: nothing if memory ran out, and else that it gives
+-- nothing
 abbrev pub Says : {Y : Type 0} → CodecFault → Option Y → Type 0
 Says NoMemory read = Unit {0}
 Says BadBytes read = read ≡ None

@@ -14,7 +14,7 @@ use Rattle.bw_record.specs.declared.block.Block.TheVariants.{Delta, Base, Split}
 abbrev pub AreShort : ℕ → List Block → Type 0
 AreShort n blocks = length (body_bytes blocks) ≤ n
 
--- a frame of these blocks alone is within a limit
+-- a frame of only these blocks is within a limit
 abbrev pub FitEmptyFrame : ℕ → List Block → Type 0
 FitEmptyFrame f blocks = 20 + length (body_bytes blocks) ≤ f
 
@@ -26,7 +26,7 @@ pub record BlockLengths : Type 0 where
   pub split : (m page : ℕ) (back : Place) (upper : Leaf) → IsSplit m page back upper
       → length (block_bytes (Split page back upper)) ≤ 152 + length upper.pairs * 643
 
--- the largest blocks, where a page has at most 32 pairs
+-- the largest blocks, if a page has at most 32 pairs
 pub record LargestBlocks : Type 0 where
   pub base : (leaf : Leaf) → IsBase 32 leaf → AreShort 20712 (Base leaf ∷ [])
   -- of one record

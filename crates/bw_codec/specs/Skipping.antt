@@ -1,4 +1,4 @@
--- What stands behind a block and each part of it, found by their lengths alone.
+-- What stands after a block and each part of it, found only by their lengths.
 
 use Rattle.std.specs.Prelude.{ℕ, zero, suc, ◌==◌, nat_lt, length, drop, if◌then◌else◌, Option, Some, None, List, [], ◌∷◌}
 use Rattle.byteorder.specs.Endian.{little_number}

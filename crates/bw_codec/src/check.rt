@@ -20,7 +20,7 @@ use crate::parts::{four_of, key_at, low_at, page_of, place_of, two_of, value_at}
 use crate::words::frame_word;
 use bw_record::is_before;
 
-/// What stands at the front of the bytes behind a header or a frame, in short.
+/// What stands at the front of the bytes after a header or a frame, in short.
 #[derive(Debug, Clone, Copy, PartialEq, Eq)]
 pub enum FrameSeen {
     /// A frame of this number, in so many bytes.
@@ -29,7 +29,7 @@ pub enum FrameSeen {
     Tail,
 }
 
-/// One record behind its tag.
+/// One record after its tag.
 #[tactic(auto, unfolding(crate::specs::Reading::op_at))]
 fn check_op(version: u16, bytes: &[u8]) -> Result<&[u8], CodecFault>
     ensures gives { Gives (λ x. x.now) result (past (op_at version bytes.now)) }
@@ -88,7 +88,7 @@ fn check_pair(version: u16, bytes: &[u8]) -> Result<(&[u8], &[u8]), CodecFault>
     Ok((key, rest))
 }
 
-/// So many pairs behind one with this key.
+/// So many pairs after one with this key.
 fn check_rising<'a>(
     version: u16,
     count: u16,
@@ -244,12 +244,12 @@ fn check_within(version: u16, m: u16, limit: u32, bytes: &[u8]) -> Result<FrameS
 }
 
 /// What `read_frame` would find, in short: no memory is taken, and time is linear in the bytes.
-/// `BadBytes` is the only error, and told exactly where `read_frame` would tell it.
+/// `BadBytes` is the only error, and given exactly if `read_frame` would give it.
 pub fn check_frame(bytes: &[u8], header: &Header) -> Result<FrameSeen, CodecFault>
-    // What is told stands there.
+    // What is said stands there.
     ensures found { IfOk result (IsSeen header.now.version header.now.m header.now.f bytes.now) }
 
-    // What stands there is told.
+    // What stands there is said.
     ensures only { (read : FrameRead)
         → IsFront header.now.version header.now.m header.now.f bytes.now read
         → result ≡ Ok (seen_of read) }

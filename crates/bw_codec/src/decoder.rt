@@ -240,11 +240,11 @@ fn read_within(
     front_of(alloc, version, m, limit, bytes)
 }
 
-/// What stands at the front of the bytes behind a header or a frame: a whole frame of a segment
-/// with this header, in the format that it names, or bytes at which one was torn off. `BadBytes` for
-/// all other bytes, `NoMemory` only where a growth was refused. Time and memory are linear in the
-/// bytes: room is made for no more blocks, records and pairs than the bytes can hold, whatever
-/// counts were read.
+/// What stands at the front of the bytes after a header or a frame: a whole frame of a segment with
+/// this header, in the format that it names, or bytes at which one was torn off. `BadBytes` for all
+/// other bytes, `NoMemory` only if a growth was refused. Time and memory are linear in the bytes:
+/// room is made for no more blocks, records and pairs than the bytes can hold, whatever counts were
+/// read.
 pub fn read_frame(alloc: Global, bytes: &[u8], header: &Header) -> Result<FrameRead, CodecFault>
     // What is answered stands there.
     ensures found { IfOk result (IsFront header.now.version header.now.m header.now.f bytes.now) }
@@ -258,8 +258,8 @@ pub fn read_frame(alloc: Global, bytes: &[u8], header: &Header) -> Result<FrameR
 }
 
 /// The block at the front of the bytes, in a segment of this format whose pages have at most `m`
-/// pairs, whatever follows it. `BadBytes` where no lawful block stands there, `NoMemory` only where
-/// a growth was refused. Time and memory are linear in the block.
+/// pairs, whatever follows it. `BadBytes` if no lawful block stands there, `NoMemory` only if a
+/// growth was refused. Time and memory are linear in the block.
 pub fn read_block(alloc: Global, bytes: &[u8], version: u16, m: u16) -> Result<Block, CodecFault>
     // What is answered stands there.
     ensures found { IfOk result (IsFirst version m bytes.now) }

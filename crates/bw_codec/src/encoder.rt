@@ -1,5 +1,5 @@
 //! The spelling of blocks, headers and frame heads. A block's length is known before it is written,
-//! so there is one growth at most, and where that is refused nothing was written.
+//! so there is one growth at most, and if that is refused, nothing was written.
 
 ghost use Rattle.std.specs.Prelude.{◌≡◌, ◌≤◌, ◌<◌, ◌+◌, ◌*◌, ◌^◌, ◌++◌, length, OnOk, OnErr};
 ghost use Rattle.std.specs.List.{flat_map};
@@ -63,7 +63,7 @@ pub fn ops_length(ops: &[Packed]) -> usize
     total
 }
 
-// ---- writing where there is room
+// ---- writing into room that is there
 
 fn push(out: &mut Vec<u8>, bytes: &[u8])
     requires { HasRoom out.old (length bytes.now) }
@@ -182,8 +182,8 @@ fn push_op(out: &mut Vec<u8>, op: &Packed)
     }
 }
 
-/// Appends the bytes of records, without their count, where there is room for them, as `ops_length`
-/// tells. No memory is taken.
+/// Appends the bytes of records, without their count, if there is room for them, as `ops_length`
+/// says. No memory is taken.
 pub fn write_ops(ops: &[Packed], out: &mut Vec<u8>)
     requires { HasRoom out.old (length (flat_map op_bytes ops.now)) }
     ensures { Adds out.old out.new (flat_map op_bytes ops.now) }
@@ -210,7 +210,7 @@ fn push_ops(out: &mut Vec<u8>, ops: &[Packed])
 pub fn header_cells(number: u64, m: u16, f: u32) -> [u8; HEADER_LEN]
     ensures { result ≡ header_bytes (record { version = latest; number = number; m = m; f = f }) }
 {
-    // From the back, so that what stands behind each number is known when it is written.
+    // From the back, so that what stands after each number is known when it is written.
     let mut cells = [0u8; HEADER_LEN];
     LittleEndian::write_u32(&mut cells[20..], f);
     LittleEndian::write_u16(&mut cells[18..], 0);
@@ -299,8 +299,7 @@ fn push_upper(out: &mut Vec<u8>, upper: &Leaf)
     push_pairs(out, upper.pairs.as_slice());
 }
 
-/// Appends a block's bytes where there is room for them, as `block_length` tells. No memory is
-/// taken.
+/// Appends a block's bytes if there is room for them, as `block_length` says. No memory is taken.
 pub fn write_block(block: &Block, out: &mut Vec<u8>)
     requires lawful { IsBlock 32 block.now }
     requires room { HasRoom out.old (length (block_bytes block.now)) }

@@ -1,4 +1,4 @@
-//! What can go wrong where bytes are read.
+//! What can go wrong when bytes are read.
 
 ghost use Rattle.std.specs.Prelude.{◌≡◌};
 ghost use Rattle.bw_codec.specs.declared.fault.CodecFault.TheVariants.{NoMemory};

@@ -68,7 +68,7 @@ pub enum HeaderRead {
     Bad,
 }
 
-/// What stands at the front of the bytes behind a header or a frame.
+/// What stands at the front of the bytes after a header or a frame.
 #[derive(Drop)]
 pub enum FrameRead {
     /// A frame, in so many bytes.

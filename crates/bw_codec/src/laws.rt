@@ -37,7 +37,7 @@ pub fn block_lengths()
     ensures { BlockLengths }
 {}
 
-/// The largest blocks where a page has at most 32 pairs: a Base has 20,712 bytes, a Delta of one
+/// The largest blocks if a page has at most 32 pairs: a Base has 20,712 bytes, a Delta of one
 /// record 663, a Split of a page that holds one pair too many 11,083, and all blocks of one record
 /// have less than 21,500.
 pub fn largest_blocks()

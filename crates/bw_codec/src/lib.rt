@@ -8,12 +8,12 @@
 //! all.
 //!
 //! A value has one spelling, since each length stands before what it measures, each number has its
-//! width, and keys ascend. So a reader knows behind each part where the next one begins, and no two
+//! width, and keys ascend. So a reader knows after each part where the next one begins, and no two
 //! values share their bytes. A proper beginning of a frame is neither a frame nor begins one, since
-//! its head tells how long it is (`laws`).
+//! its head says how long it is (`laws`).
 //!
 //! Both formats are one grammar over a version's numbers (`specs/Version.antt`): either is read,
-//! each with its own limits, and format 2 alone is written.
+//! each with its own limits, and only format 2 is written.
 #![tactic(auto)]
 
 mod check;

@@ -1,4 +1,4 @@
-//! What is told of a block without its records and pairs: a reader that looks for the blocks of one
+//! What is said of a block without its records and pairs: a reader that looks for the blocks of one
 //! page steps over all others.
 
 ghost use Rattle.std.specs.Prelude.{◌≡◌, ◌^◌, ◌<◌, ◌++◌, ℕ, List, Some, IfErr};
@@ -25,8 +25,8 @@ pub struct Outline {
 
 impl Outline {
     /// The outline of the block at the front of bytes, in a segment of this format. Of bytes that
-    /// begin with no lawful block it may tell anything or `None`. No memory is taken, and no record or
-    /// pair is looked at but for its lengths.
+    /// begin with no lawful block it may answer anything or `None`. No memory is taken, and no
+    /// record or pair is looked at but for its lengths.
     #[inline(always)]
     pub fn read(version: u16, bytes: &[u8]) -> Option<Outline>
         ensures { (m : ℕ) (block : Block) (rest : List ℕ) → m < 2 ^ 16
@@ -43,7 +43,7 @@ impl Outline {
         }
     }
 
-    /// Whether a block with this outline tells anything of a page.
+    /// Whether a block with this outline says anything of a page.
     pub fn touches(&self, page: u32) -> bool
         ensures { result ≡ outline_touches page self.now }
     {

@@ -1,6 +1,6 @@
 //! The parts of a block, each read from the front of bytes: numbers, runs of bytes, records, pairs.
-//! What follows a part is handed on with it. A count that was read is no reason to take memory: room
-//! is made for no more than the bytes behind it can hold.
+//! What follows a part is handed on with it. A count that was read is no reason to take memory:
+//! room is made for no more than the bytes after it can hold.
 
 ghost use Rattle.std.specs.Prelude.{◌≡◌, ◌≤◌, ◌/◌, [], length, min, IfOk, IfErr};
 ghost use Rattle.std.specs.Vec.{vec_capacity};
@@ -138,7 +138,7 @@ pub(crate) fn low_of(alloc: Global, version: u16, bytes: &[u8]) -> Result<(Low, 
     Ok((Low::of(low), rest))
 }
 
-/// One record behind its tag.
+/// One record after its tag.
 #[tactic(auto, unfolding(crate::specs::Reading::op_at))]
 pub(crate) fn op_of(
     alloc: Global,
@@ -181,7 +181,7 @@ pub(crate) fn pair_of(
     Ok((pair, rest))
 }
 
-/// Room for so many things, or for as many as can stand in the bytes where these are fewer: each has
+/// Room for so many things, or for as many as can stand in the bytes if these are fewer: each has
 /// `least` bytes or more.
 pub(crate) fn room_for<T>(
     alloc: Global,
@@ -214,7 +214,7 @@ pub(crate) fn some_pairs(
     Ok((Pairs::of(items), rest))
 }
 
-/// So many records, one behind the other. One by itself takes no list.
+/// So many records, one after the other. One by itself takes no list.
 pub(crate) fn some_ops(
     alloc: Global,
     version: u16,

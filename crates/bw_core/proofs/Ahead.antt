@@ -1,4 +1,5 @@
--- One record more is planned: what a look at the rows tells is what the places and blocks behind it are.
+-- One record more is planned: what a look at the rows says is what the places and blocks after it
+-- are.
 
 use Rattle.std.proofs.Common.{◌≡◌, ◌≢◌, ℕ, ◌+◌, ◌-◌, ◌≤◌, Bool, true, false, Option, Some, None, List, [], ◌∷◌, ◌++◌}
 use Rattle.std.proofs.Common.{length, set, refl, sym, ap, ◌∙◌, arith, if◌then◌else◌, length-append}
@@ -147,7 +148,7 @@ module _ (rows : List Row) (base bs : List Block) (p0 : ℕ) (back here x : Plac
       | false ↦ λ e. (let h = leb-false _ _ e in absurd (other (omega arith)))
     ] refl
 
-    -- what is told of a page by its newest row, where the newest of all rows is this cut
+    -- what is said of a page by its newest row, where the newest of all rows is this cut
     by_cut : {A : Type 0} (tell : Option Row → A) (split was : A) → tell (Some cut_row) ≡ split → ((p0 == p) ≡ false → p ≤ n → tell (row_in rows p) ≡ was)
         → tell (row_in (rows ++ cut_row ∷ []) p) ≡ (if (p0 == p) || (upper.page == p) then split else was)
     by_cut tell split was is stays =
@@ -186,7 +187,7 @@ planned_for_is m leaves back here r =
     ≡ (if b then Delta (directed_at leaves r) back (r ∷ []) ∷ [] else Delta (directed_at leaves r) back (r ∷ []) ∷ Split (directed_at leaves r)
     here (upper_of m (length leaves + 1) (result_of leaves r)) ∷ [])) [ true ↦ refl | false ↦ refl ]
 
--- what is known of the places before it, and of those behind it
+-- what is known of the places before it, and of those after it
 pub record Knows (rows : List Row) (base : List Place) (blocks : List Block) (d : Drawn) : Type 0 where
   pub places : (p : ℕ) → 1 ≤ p → p ≤ length d.leaves → place_in rows base p ≡ slice_get d.newest (p - 1)
   pub opens : (p : ℕ) → 1 ≤ p → p ≤ length d.leaves → open_in rows blocks p ≡ joins p d.frame.blocks

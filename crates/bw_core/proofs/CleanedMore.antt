@@ -70,7 +70,7 @@ pub record Cleans (s : Kept) (most : ℕ) (new : logs.Contents) : Type 0 where
   pub begun : IsBegun s.edge new
   pub left : new.is_failed ≡ true → Stand s.filed.m (frames_of (logs.image new).bytes) s.filed.leaves
 
--- the same, and what holds of its frames
+-- a cleaning that wrote frames, and what holds of its frames
 abbrev pub Wrote : Kept → ℕ → logs.Contents → (List Frame → Type 0) → Type 0
 Wrote s most new holds = (x : Cleans s most new) × holds x.written
 
@@ -134,7 +134,8 @@ stands_as s new b stands =
     (subst (λ (m : ℕ). Stand m (logs.counted new) (pages m s.start (records s.entries))) (sym h.pairs)
     (stands (pages s.log.m s.start (records s.entries)) b.done.stands))
 
--- what a refused step leaves in the live segments, where an append failed: the counted frames, or these and one of Bases
+-- what a refused step leaves in the live segments, if an append failed: the counted frames, or
+-- these and one of Bases
 torn_left : (m : ℕ) (old new : logs.Contents) (leaves : List Leaf) → care.IsTornBase old new → Stand m (logs.counted new) leaves
     → Stand m (frames_of (logs.image new).bytes) leaves
 torn_left m old new leaves t stand = elim (t.stopped.left) [
@@ -382,7 +383,7 @@ pub numbered_of : (next : Option ℕ) (frame : ℕ) → IfSome next (λ n. frame
 numbered_of None frame h = inr refl
 numbered_of (Some n) frame h = inl (ap (λ (k : ℕ). Some k) (sym h))
 
--- what noting asks, and what it tells
+-- what noting asks, and what it says
 module _ (s : Kept) (most : ℕ) (new : logs.Contents) (x : Cleans s most new) (first : Option ℕ) (h : IsSound s) (at_first : first ≡ s.log.next) where
   pub note_some : 1 ≤ end_by first
   note_some = (let one = end_before s h in let e = ap end_by at_first in omega arith)
@@ -424,7 +425,7 @@ moved_done : (s t : Kept) (new : logs.Contents) (frames told : ℕ) → t ≡ wi
 moved_done s t new frames told is same =
     ap (λ (k : Kept). record k { floor = k.durable }) is ∙ ap (λ (n : ℕ). with_moved s n (s.durable + n) t.newest t.making new) same
 
--- where segments were given up the floor is what is durable
+-- if segments were given up the floor is what is durable
 pub done_sound : (s t : Kept) {most : ℕ} {new : logs.Contents} {frames : ℕ} (b : Begins s)
     → Notes s most new frames (s.cuts ++ replicate frames (length s.entries)) t.newest t.making
     → t ≡ with_moved s frames s.floor t.newest t.making new → IsSound (record t { floor = t.durable })
@@ -443,7 +444,7 @@ has_given holds s t {new} {frames} {told} is same empty held =
       log = subst holds (sym log) held;
     })
 
--- where none was given up it stays
+-- if none was given up it stays
 pub has_moved : (holds : logs.Contents → Type 0) (s t : Kept) {new : logs.Contents} {frames told : ℕ}
     → t ≡ with_moved s frames s.floor t.newest t.making new → frames ≡ told → t.making.blocks ≡ [] → holds new → HasMoved s told s.floor holds t
 has_moved holds s t {new} {frames} {told} is same empty held =
@@ -542,7 +543,7 @@ pub gives_floor : {A : Type 0} (frames : A → ℕ) (done : logs.Contents → A 
 gives_floor frames done refuses old s new (Ok x) same left = ap (λ (k : Kept). k.floor) left.is ∙ sym (ap (λ (k : Kept). k.durable) left.is)
 gives_floor frames done refuses old s new (Err fault) same left = ap (λ (k : Kept). k.floor) left.2.is ∙ same
 
--- it is not refused so where there is something to give up
+-- it is not refused so if there is something to give up
 pub not_nothing : {A : Type 0} (frames : A → ℕ) (done : logs.Contents → A → logs.Contents → Type 0)
     (refuses : CleanFault → logs.Contents → logs.Contents → Type 0) (s new : Kept) (r : Result A StoreFault)
     → (refuses NothingOld s.log new.log → ⊥) → GivesUp frames done refuses s r new → r ≡ Err store.NothingOld → ⊥

@@ -1,4 +1,4 @@
--- A store with further cuts behind those of its appended frames: what stood before them stays.
+-- A store with further cuts after those of its appended frames: what stood before them stays.
 
 use Rattle.std.proofs.Common.{◌≡◌, ℕ, zero, suc, ◌+◌, ◌-◌, ◌<◌, ◌≤◌, true, false, List, [], length, take, drop, refl, sym, ap, ◌∙◌, subst, arith}
 use Rattle.std.specs.Prelude.{nat_le}

@@ -1,4 +1,5 @@
--- One record more is planned behind those of its group before it, and the store would be sound behind it.
+-- One record more is planned after those of its group before it, and the store would be sound after
+-- it.
 
 use Rattle.std.proofs.Common.{◌≡◌, ℕ, zero, suc, ◌+◌, ◌-◌, ◌^◌, ◌<◌, ◌≤◌, false, Option, Some, None, List, [], ◌∷◌, ◌++◌}
 use Rattle.std.proofs.Common.{length, map, refl, sym, ap, ◌∙◌, subst, arith}
@@ -51,7 +52,7 @@ none_at [] i x e = absurd cc
 none_at (y ∷ ys) zero x e = omega arith
 none_at (y ∷ ys) (suc i) x e = (let rest = none_at ys i x e in omega arith)
 
--- ---- the store behind some records
+-- ---- the store after some records
 
 module _ (s : Kept) (lane : ℕ) (done : List Record) where
   abbrev now : Kept
@@ -120,7 +121,7 @@ module _ (s : Kept) (lane : ℕ) (done : List Record) where
         subst (λ (x : Drawn). All (IsBlock 32) (blocks_in s.filed.m x r)) drawn_is
         (subst (λ (m : ℕ). All (IsBlock 32) (blocks_in m (drawn_of now) r)) pairs_are wide)
 
-    -- and where they fit, the store would be sound behind it
+    -- and if they fit, the store would be sound after it
     pub stands_next : (r : Record) → IsOp r → HasPage s.filed.m d.leaves r → lane < length s.rings
         → size_of (with_all s.making (group_blocks s (done ++ r ∷ []))) ≤ s.making.limit → Stands s lane (done ++ r ∷ [])
     stands_next r op room inside fits =

@@ -1,4 +1,4 @@
--- A group is planned record by record, each on the pages, places and blocks behind those before it.
+-- A group is planned record by record, each on the pages, places and blocks after those before it.
 
 use Rattle.std.proofs.Common.{◌≡◌, ℕ, ◌≤◌, List, [], ◌∷◌, ◌++◌}
 use Rattle.std.proofs.Common.{map, refl, sym, ap, ◌∙◌, arith, append-nil, append_assoc}
@@ -32,7 +32,7 @@ items_marked [] = refl
 items_marked (r ∷ []) = refl
 items_marked (r ∷ s ∷ rs) = ap (λ (l : List Record). r ∷ l) (items_marked (s ∷ rs))
 
--- ---- a store behind records, and what is drawn of it
+-- ---- a store after records, and what is drawn of it
 
 pub drawn_all : (s : Kept) (w : ℕ) (ms : List Marked) → drawn_of (taken_all s w ms) ≡ drawn_behind s (items ms)
 drawn_all s w [] = refl

@@ -1,4 +1,5 @@
--- A log with an empty frame in the making behind its counted ones, and the place of each page as the log has it.
+-- A log with an empty frame in the making after its counted ones, and the place of each page as the
+-- log has it.
 
 use Rattle.std.proofs.Common.{◌≡◌, ℕ, zero, suc, ◌+◌, ◌-◌, ◌<◌, ◌≤◌, true, false, Option, Some, None, List, [], ◌∷◌, ◌++◌}
 use Rattle.std.proofs.Common.{length, refl, sym, ap, ◌∙◌, subst, arith}

@@ -1,4 +1,4 @@
--- What entering a group asks of its growths, and the store behind it.
+-- What entering a group asks of its growths, and the store after it.
 
 use Rattle.std.proofs.Common.{◌≡◌, ℕ, ◌+◌, ◌<◌, ◌≤◌, Bool, true, false, Option, Some, None, Result, List, [], ◌∷◌, ◌++◌}
 use Rattle.std.proofs.Common.{length, refl, sym, ap, ◌∙◌, subst, arith, if◌then◌else◌, length-append}
@@ -111,7 +111,7 @@ module _ (s : Kept) (group : List Record) (d : Draft) (h : IsSound s) (ops : All
       ap (is_made q) (making_blocks making blocks made same)
       ∙ rows_evicted s.filed.m (drawn_of s) group evicted q lawful_now here beyond there apart
 
-  -- the store behind it
+  -- the store after it
   pub entered_all : (lane : ℕ) (rings rs : List Ring) (entries es : List Entry) (filed : Filed) (newest ps : List Place) (rows : List Row) (making : Filling)
       (blocks : List Block) → rings ≡ rs → rs ≡ s.rings → entries ≡ es ++ entered lane (marked group) → es ≡ s.entries
       → filed ≡ record s.filed { leaves = pages s.filed.m s.filed.leaves group } → newest ≡ fold set_row ps rows → ps ≡ s.newest → rows ≡ d.rows.items
@@ -164,7 +164,7 @@ wanting_of s f group apply.Spent pairs leaves spent = spent_pages s f group pair
 abbrev pub filed_with : ℕ → List Leaf → Filed
 filed_with m leaves = record { m = m; leaves = leaves }
 
--- where a frame was appended before, any group has room
+-- if a frame was appended before, any group has room
 pub fresh_room : (s : Kept) (lane : ℕ) (group : List Record) → IsSound s → s.log.is_failed ≡ false → s.log.next ≡ Some s.making.frame → All IsOp group
     → HasPages s.filed.m s.filed.leaves group → lane < length s.rings → s.making.blocks ≡ [] → length group ≤ 4 → Fits s group
 fresh_room s lane group h works next ops room inside empty few =
@@ -184,7 +184,7 @@ pub draft_none : (s : Kept) (group records : List Record) (o : Option Draft) →
 draft_none s group records o same is m fits =
     subst (λ (x : Option Draft). MatchOption x (Fits s records → ⊥) (IsDraft s records)) is m (subst (Fits s) (sym same) fits)
 
--- a group that was planned and then entered, behind a frame that was appended, or not
+-- a group that was planned and then entered, after a frame that was appended, or not
 pub drafted_left : (lane : ℕ) (away : ℕ → Bool) (old drawn middle new : Kept) (group records : List Record) (o : Option Draft) (d : Draft)
     (r : Result (Unit {0}) StoreFault)
     → (1 ≤ length group) × (length group ≤ 4) → Works old → MakesRoom group old drawn → Works drawn → middle ≡ drawn → records ≡ group → o ≡ Some d

@@ -109,7 +109,7 @@ module _ (s : Kept) (h : IsSound s) (p : ℕ) (from : 1 ≤ p) (within : p ≤ l
       ap (value_on k) (evicted_page below.0 below.1) ∙ tells.value
       ∙ ap (λ (w : Option Leaf). told_by (records_word k (ops_at p s.making.blocks)) (value_on k w)) (sym below.1)
 
-  -- the same by what these records say
+  -- the value that the page tells, by what these records say
   pub told_value : (k : Bytes) (word : Word) → word ≡ records_word k (ops_at p s.making.blocks)
       → told_by word (value_on k (content p (blocks_of (logs.counted s.log)))) ≡ value_on k (leaf_at p s.filed.leaves)
   told_value k word said =
@@ -190,7 +190,7 @@ value_is s h key p leaf at there found =
     ∙ sym (get-union s.filed.m key s.filed.leaves lawful)
     ∙ ap (λ (u : Map). finite.get u key) h.mapped
 
--- the same of what the page has
+-- the value of a key, from what its page has
 pub value_of_evicted_is : (s : Kept) → IsSound s → (key : Bytes) (p : ℕ) → p ≡ (home key s.filed.leaves).page → 1 ≤ p → p ≤ length s.filed.leaves
     → {value : Option Bytes} → value ≡ value_on key (leaf_at p s.filed.leaves) → value ≡ finite.get (plain s.start (records s.entries)) key
 value_of_evicted_is s h key p at from to found =
@@ -234,7 +234,7 @@ evicted_refused s h p from within apart A reads new fault stops none =
 
 -- ---- a page whose newest block stands elsewhere
 
--- the last place of blocks behind one that stands in this frame is in this frame
+-- the last place of blocks after one that stands in this frame is in this frame
 place_stays : (p number i : ℕ) (was place : Place) (bs : List Block) → fold (later (touches p)) (Some was) (placed number i bs) ≡ Some place
     → was.frame ≡ number → place.frame ≡ number
 place_stays p number i was place [] e at = (let same : was ≡ place = cc in ap (λ (x : Place). x.frame) (sym same) ∙ at)

@@ -54,7 +54,7 @@ fetch_refuses away group old new Spent works h = (works, inr h)
 fetch_refuses away group old new NoPage works h = absurd h
 fetch_refuses away group old new NothingOld works h = absurd h
 
--- the same where the records were those of a slice
+-- fetching was refused, and the records were those of a slice
 pub fetch_refuses_as : (away : ℕ → Bool) (group records : List Record) (old new : Kept) (cause : StoreFault) → records ≡ group → Works old
     → FetchLeaves away records old (Err cause) new → Refuses away group old cause new
 fetch_refuses_as away group records old new cause same works h =
@@ -95,7 +95,7 @@ one_unread A away group at item old new Spent one gone read h = (
 one_unread A away group at item old new NoPage one gone read h = absurd h
 one_unread A away group at item old new NothingOld one gone read h = absurd h
 
--- the same where the page was found by the record's key
+-- a page could not be read, which was found by the record's key
 pub key_unread : (A : Type 0) (away : ℕ → Bool) (group : List Record) (at : ℕ) (item : Record) (key : List ℕ) (old new : Kept) (cause : StoreFault)
     → key ≡ key_of item → slice_get group at ≡ Some item → away (home key old.filed.leaves).page ≡ true → HasRead old new
     → ReadLeaves {A = A} (HoldsPage old.log (home key old.filed.leaves).page) old (Err cause) new → FetchLeaves away group old (Err cause) new
@@ -104,7 +104,7 @@ key_unread A away group at item key old new cause same one gone read h =
     → ReadLeaves {A = A} (HoldsPage old.log (home k old.filed.leaves).page) old (Err cause) new → FetchLeaves away group old (Err cause) new)
     (sym same) (λ gone h. one_unread A away group at item old new cause one gone read h) gone h
 
--- the same behind pages that could be read
+-- a page could not be read, after pages that could be
 pub later_unread : (A : Type 0) (away : ℕ → Bool) (group : List Record) (at : ℕ) (item : Record) (old middle new : Kept) (cause : StoreFault) → middle ≡ old
     → slice_get group at ≡ Some item → away (directed_at middle.filed.leaves item) ≡ true → HasRead middle new
     → ReadLeaves {A = A} (HoldsPage middle.log (directed_at middle.filed.leaves item)) middle (Err cause) new → FetchLeaves away group old (Err cause) new

@@ -410,7 +410,7 @@ refused_follows lanes away old new cause r = (refused_turned lanes away old new 
 pub refused_boxes : (lanes : List Lane) (away : ℕ → Bool) (old new : Kept) (cause : StoreFault) → RefusedAt old lanes away cause new → HasBoxes old new
 refused_boxes lanes away old new cause r = (refused_turned lanes away old new cause r.1).boxes
 
--- where an append failed before, no record is taken
+-- if an append failed before, no record is taken
 none_taken : (n : ℕ) (old new : Kept) → old.log.is_failed ≡ true → Takes n old new → (n ≡ 0) × (new ≡ old)
 none_taken zero old new failed x = (refl, x)
 none_taken (suc n) old new failed x =
@@ -425,7 +425,7 @@ failed_at lanes away old new cause failed r =
     let before = none_taken (groups_since old r.1.middle) old r.1.middle failed r.1.took.each in
     failed_record away r.1.refuses.group r.1.middle new cause (ap (λ (s : Kept). s.log.is_failed) before.1 ∙ failed) r.1.refuses.refuses
 
--- also where nothing waits
+-- also if nothing waits
 still_failed : (old middle : Kept) → old.log.is_failed ≡ true → TookSome old middle → middle.log.is_failed ≡ true
 still_failed old middle failed x = ap (λ (s : Kept). s.log.is_failed) (none_taken (groups_since old middle) old middle failed x.1.each).1 ∙ failed
 

@@ -27,7 +27,7 @@ pub gone_stopped : (s : Kept) (cuts : List ℕ) (end gone : ℕ) → s.durable �
 gone_stopped s cuts end gone many is low =
     (let e = ap (λ (cs : List ℕ). cut cs s.durable) is ∙ cut_old s.cuts end s.durable many in omega arith)
 
--- it is the end of the history where frames were added behind it
+-- it is the end of the history where frames were added after it
 cut_many : (cs : List ℕ) (n end k : ℕ) → length cs ≡ k → cut cs k ≡ end → cut (cs ++ replicate n end) (k + n) ≡ end
 cut_many cs zero end k len last =
     (let e : k + 0 ≡ k = omega arith in ap (λ (ds : List ℕ). cut ds (k + 0)) (append-nil cs) ∙ ap (cut cs) e ∙ last)

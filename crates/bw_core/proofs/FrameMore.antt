@@ -37,7 +37,7 @@ use Rattle.bw_core.proofs.Edging.{begun_on, appended_more, stopped_more}
 use Rattle.bw_core.proofs.CutMore.{same_leaves, old_shares, mapped_more}
 use Rattle.bw_core.proofs.Telling.{tells_none}
 
--- ---- an empty frame behind others
+-- ---- an empty frame after others
 
 abbrev pub empty_frame : ℕ → Frame
 empty_frame n = record { number = n; blocks = [] }

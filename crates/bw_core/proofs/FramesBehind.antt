@@ -1,4 +1,4 @@
--- Frames numbered one after the other: those behind others, their numbers, and their places.
+-- Frames numbered one after the other: those after others, their numbers, and their places.
 
 use Rattle.std.proofs.Common.{inl, inr, ◌≡◌, ℕ, zero, suc, ◌+◌, ◌^◌, ◌<◌, ◌≤◌, Bool, true, false, if◌then◌else◌, Option, Some, None, List, [], ◌∷◌, ◌++◌}
 use Rattle.std.proofs.Common.{length, refl, sym, ap, ◌∙◌, subst, arith}
@@ -45,7 +45,7 @@ from_behind n (x ∷ xs) ys are =
     let e : n + 1 + length xs ≡ n + length (x ∷ xs) = omega arith in
     subst (λ (k : ℕ). AreFrom k ys) e (from_behind (n + 1) xs ys are.1)
 
--- each number lies between the first and the number of frames behind it
+-- each number lies between the first and the number of frames after it
 pub from_within : (low high n : ℕ) (fs : List Frame) → AreFrom n fs → low ≤ n → n + length fs ≤ high → All (λ f. (low ≤ f.number) × (f.number < high)) fs
 from_within low high n [] are a b = tt
 from_within low high n (f ∷ fs) are a b = (let e = are.0 in (omega arith, omega arith), from_within low high (n + 1) fs are.1 (omega arith) (omega arith))

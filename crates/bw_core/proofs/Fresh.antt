@@ -87,7 +87,7 @@ pub first_lawful : (blocks : List Block) → blocks ≡ Base empty_leaf ∷ [] �
 first_lawful blocks is = subst (All (IsBlock 32)) (sym is)
     (record { page = (lit≤ tt, lit< tt); low = lit≤ tt; count = lit≤ tt; pairs = tt; ascends = refl }, tt)
 
--- boxes are taken that the slice of them is told to be
+-- boxes are taken that the slice of them is said to be
 pub taken_at : {X : Type 0} (config : Config) (view : X → Holding) (shown items : List X) → AreTaken config (map view shown) → shown ≡ items
     → AreTaken config (map view items)
 taken_at {X} config view shown items taken same = subst (λ (xs : List X). AreTaken config (map view xs)) same taken

@@ -1,4 +1,4 @@
--- Calls that take nothing back, one behind the other.
+-- Calls that take nothing back, one after the other.
 
 use Rattle.std.proofs.Common.{◌≡◌, ◌∙◌, ℕ, Option, Result, refl, subst, sym}
 use Rattle.bw_device.specs.Holding.{Holding}
@@ -14,7 +14,7 @@ use Rattle.bw_core.specs.Views.{kept_by, noted_of, IsSound}
 use Rattle.bw_core.proofs.FollowMore.{follow_then, follows_as, follows_left}
 use Rattle.bw_core.proofs.Machines.{may_leave}
 
--- behind its steps a store is sound, and so each cut stands, and what a stop leaves is found
+-- after its steps a store is sound, and so each cut stands, and what a stop leaves is found
 pub runs_as : {A : Type 0} (old : Kept) (result : Result A StoreFault) (new : Kept) → kept.IsSound new → KeepsAs result old new → RunsAs old result new
 runs_as old result new sound steps = record { each_cut = sound.stands; steps = steps; may_leave = may_leave new sound }
 

@@ -123,7 +123,7 @@ rows_evicted m d (r ∷ rs) evicted q l here beyond there apart =
     rows_evicted m (drawn_by m d r) rs evicted q (lawful_next m d r rs l) (here.1 l.room.0) (λ p more. beyond p (omega arith)) there
     (evicted_entered m d.leaves (back_in d r) (here_for d.frame p0) r d.frame.blocks evicted q there here.0 (beyond (length d.leaves + 1) (omega arith)) apart)
 
--- ---- the store behind it
+-- ---- the store after it
 
 pub taken_is : (s : Kept) (w : ℕ) (ms : List Marked) → taken_all s w ms ≡ record s {
   entries = s.entries ++ entered w ms;
@@ -150,7 +150,7 @@ taken_is s w (m ∷ ms) =
     }) (sym (fold-append joined s.making.blocks (blocks_in s.filed.m (drawn_of s) m.item)
     (blocks_all s.filed.m (drawn_by s.filed.m (drawn_of s) m.item) (items ms))))
 
--- sound, where it fits: each store between would be
+-- sound, if it fits: each store between would be
 pub taken_all_sound : (s : Kept) (w : ℕ) (ms : List Marked) → IsSound s → s.log.is_failed ≡ false → s.log.next ≡ Some s.making.frame → All IsOp (items ms)
     → HasPages s.filed.m s.filed.leaves (items ms) → w < length s.rings → size_of (taken_all s w ms).making ≤ s.making.limit → IsSound (taken_all s w ms)
 taken_all_sound s w [] h works next ops room inside fits = h

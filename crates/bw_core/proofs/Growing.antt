@@ -62,7 +62,7 @@ module _ (m : ℕ) (counted : List Frame) (o : Frame) (leaves : List Leaf) (newe
   here : (1 ≤ directed_at leaves r) × (directed_at leaves r ≤ length leaves)
   here = home_within m (key_of r) leaves lawful_now
 
-  -- where the Delta goes, and where a Split behind it goes
+  -- where the Delta goes, and where a Split after it goes
   abbrev pub at : Place
   at = here_for o (directed_at leaves r)
 

@@ -123,7 +123,7 @@ ahead_none s d blocks rows count = record {
   records = λ p some top. ap (λ (ws : List Row). records_in ws s.making.blocks p) rows;
 }
 
--- ---- one record more of a group, behind those before it
+-- ---- one record more of a group, after those before it
 
 module _ (s : Kept) (lane : ℕ) (evicted : List ℕ) (rs : List Record) (at : ℕ) (item : Record) (inside : at < length rs) (is : item ≡ get_or rs at item)
     (t : Stands s lane (take at rs)) (old : Draft) (a : IsAhead s (take at rs) old) (ops : All IsOp rs) (room : HasPages s.filed.m s.filed.leaves rs)

@@ -114,7 +114,7 @@ pub added_counts : (old new : logs.Contents) (box : Holding) → logs.IsSound ne
 added_counts old new box sound is = counts_via old (record old { spares = old.spares ++ box ∷ [] }) new sound is
     (λ x. record { sound = x; m = refl; f = refl; next = refl; failed = refl; frames = refl; bytes = refl; begun = λ edge was. was })
 
--- for a refusal of the log the store tells a bad box where the log does, and nowhere else; and never
+-- for a refusal of the log the store answers a bad box if the log does, and only then; and never
 -- that nothing is old
 told_by_log : (fault : LogFault) → (fault_of fault ≡ BadConfig → fault ≡ log.BadConfig) × (NothingOld ≡ fault_of fault → ⊥)
 told_by_log log.NoMemory = (λ e. cc, λ e. cc)

@@ -36,7 +36,7 @@ module _ {I : Type 0} {H : I → Type 0} where
     noted = looks.noted ∙ stays.noted;
   }
 
-  -- a look behind them, whatever its answer
+  -- a look after them, whatever its answer
   pub reads_behind : {A : Type 0} (page : ℕ) (result : Result A StoreFault) (old mid new : Core I H) (v : (i : I) × H i → Holding) → Stays old mid v
       → LooksAt page mid result new v → OnlyReads old new v
   reads_behind page result old mid new v stays looks =
@@ -51,7 +51,7 @@ module _ {I : Type 0} {H : I → Type 0} where
         noted = looks.noted ∙ stays.noted;
       }
 
-  -- no look behind them
+  -- no look after them
   pub reads_no_more : (old new : Core I H) (v : (i : I) × H i → Holding) → Stays old new v → OnlyReads old new v
   reads_no_more old new v stays =
       let turned = follows_as (kept_by old v) (kept_by new v) stays.same in

@@ -177,7 +177,7 @@ broken_breaks old new lease all b =
     made_same new.start old.start new.entries old.entries (cut new.cuts new.durable) (cut old.cuts old.durable) (cut new.cuts (length new.cuts))
     (length old.entries) start entries kept end
 
--- a read changes the log alone
+-- a read changes only the log
 read_same : (old new : Kept) → HasRead old new → machine_of new ≡ machine_of old
 read_same old new r = ap machine_of r.is
 
@@ -234,7 +234,7 @@ took_one lane old new all t =
       then.1,
     )
 
--- where a group was taken, no append had failed
+-- if a group was taken, no append had failed
 first_worked : (n : ℕ) (old new : Kept) → Takes (suc n) old new → old.log.is_failed ≡ false
 first_worked zero old new t = (let w = t.2.1.worked in let is = ap (λ (s : Kept). s.log.is_failed) t.1 in sym is ∙ w)
 first_worked (suc n) old new t = first_worked n old t.0 t.1
@@ -254,7 +254,7 @@ takes_many (suc n) old new h t = (took_many (suc n) old new (all_appended old h 
 pub turn_takes : (n : ℕ) (old new : Kept) → IsSound old → TookInTurn n old new → TakesMany (groups_since old new) (machine_of old) (machine_of new)
 turn_takes n old new h t = takes_many (groups_since old new) old new h t.each
 
--- a store that works still has all its frames appended behind groups that were taken
+-- a store that works still has all its frames appended after groups that were taken
 takes_appended : (n : ℕ) (old new : Kept) → AllAppended old → Takes n old new → AllAppended new
 takes_appended n old new all t = (took_many n old new all t).1
 
@@ -309,7 +309,7 @@ flush_stops takes_last old new Spent h answers left = inl (same_machine old new 
 flush_stops takes_last old new NoPage h answers left = inl (same_machine old new left)
 flush_stops takes_last old new NothingOld h answers left = inl (same_machine old new left)
 
--- where nothing is in the making, all is kept
+-- if nothing is in the making, all is kept
 kept_already : (s : Kept) → AllAppended s → cut s.cuts s.durable ≡ length s.entries → keeps (machine_of s) ≡ machine_of s
 kept_already s all is =
     made_same s.start s.start s.entries s.entries (length s.entries) (cut s.cuts s.durable) (length s.entries) (cut s.cuts (length s.cuts))
@@ -333,7 +333,7 @@ flush_steps takes_last old new (Err fault) h answers left = flush_stops takes_la
 
 -- ---- settlements
 
--- a flush behind groups that were taken
+-- a flush after groups that were taken
 pub settle_keeps : (old middle new : Kept) (o : Option ℕ) → IsSound old → TookSome old middle → IsSound middle → FlushAnswers (refusal_by false middle) (Ok o)
     → FlushLeaves middle (Ok o) new → TakesAndKeeps (machine_of old) (machine_of new)
 settle_keeps old middle new o h took sound answers left =
@@ -362,7 +362,7 @@ many_cuts cs (suc frames) n k is e =
     ∙ ap (λ (l : List ℕ). cut l (suc k + frames)) (sym (append_assoc cs (n ∷ []) (replicate frames n)))
     ∙ many_cuts (cs ++ n ∷ []) frames n (suc k) next last
 
--- frames of the cleaner's, behind a store of which all is kept
+-- frames of the cleaner's, after a store of which all is kept
 moved_same : (s new : Kept) (frames floor : ℕ) → AllAppended s → cut s.cuts s.durable ≡ length s.entries
     → new ≡ with_moved s frames floor new.newest new.making new.log → machine_of new ≡ machine_of s
 moved_same s new frames floor all is e =
@@ -409,7 +409,7 @@ unready_stops old new fault h (inl refused) = inr (flush_stops true old new faul
 unready_stops old new fault h (inr wanting) =
     inl (same_machine wanting.0 new wanting.3 ∙ (emptied_keeps old wanting.0 h wanting.1).0)
 
--- a step behind such a flush
+-- a step after such a flush
 behind_keeps : {A : Type 0} (leaves : Kept → Result A StoreFault → Kept → Type 0) (some none : Type 0) (refusal : StoreFault) (old new : Kept)
     (r : Result A StoreFault) → IsSound old
     → ((middle : Kept) (x : Result A StoreFault) → Emptied true old middle → leaves middle x new → machine_of new ≡ keeps (machine_of old))

@@ -65,7 +65,7 @@ may_follow_at {s} sound next some fits b is =
     let g : Goes s = record { sound = sound; next = next; some = some; fits = fits } in
     subst (λ (f : Rattle.bw_record.specs.declared.block.Frame.Frame). MayFollow s.log f) (sym (sealed_frame s b is)) (may_follow s g)
 
--- the log's next number behind a frame
+-- the log's next number after a frame
 next_after : (old : logs.Contents) (f : Rattle.bw_record.specs.declared.block.Frame.Frame) (new : logs.Contents) → logs.IsSound new → Appended old f new
     → new.next ≡ following f.number
 next_after old f new sound added = sound.holds.follows ∙ ap next_of added.frames
@@ -77,7 +77,7 @@ pub appended_is : (s : Kept) (fresh : Filling) (new : logs.Contents) (cuts : Lis
 appended_is s fresh new cuts end more at =
     ap (λ (cs : List ℕ). record s { cuts = cs; durable = s.durable + 1; making = fresh; log = new }) (more ∙ ap (λ (n : ℕ). s.cuts ++ n ∷ []) at)
 
--- the buffer behind a sealed one is the next of the frame in the making
+-- the buffer after a sealed one is the next of the frame in the making
 next_of_sealed : (s : Kept) (b fresh : Filling) → b ≡ record s.making { is_sealed = true } → IsNext b fresh → IsNext s.making fresh
 next_of_sealed s b fresh is next =
     let n = subst (λ (x : Filling). IsNext x fresh) is next in record { limit = n.limit; empty = n.empty; unsealed = n.unsealed; number = n.number }

@@ -125,7 +125,7 @@ module _ (s : Kept) (written : List Frame) (a : Adds s written) where
   abbrev n : ℕ
   n = length written
 
-  -- the first number behind those that the log counts
+  -- the first number after those that the log counts
   abbrev first : ℕ
   first = s.before + s.durable + 1
 
@@ -258,7 +258,7 @@ module _ (s : Kept) (written : List Frame) (a : Adds s written) where
             (some_bases (blocks_of old) (λ f. nat_le f.number (s.before + k)) written a.bases))))
       ] refl
 
-  -- ---- each frame tells its share
+  -- ---- each frame says its share
 
   pub shares_then : All (Tells s more) (old ++ written)
   shares_then =

@@ -26,7 +26,7 @@ needed_all after last frames (l ∷ ls) zero le = absurd (omega arith)
 needed_all after last frames (l ∷ ls) (suc n) le =
     ap (λ k. needed_by after last frames l + k) (needed_all after last frames ls n (omega arith))
 
--- one page more, whatever is told of it
+-- one page more, whatever is said of it
 pub needed_next : (after last : ℕ) (frames : List Frame) (ls : List Leaf) (n k : ℕ) → n < length ls
     → IfSome (slice_get ls n) (λ l. k ≡ needed_by after last frames l)
     → needed_of after last frames (take (suc n) ls) ≡ needed_of after last frames (take n ls) + k

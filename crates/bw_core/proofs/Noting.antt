@@ -1,4 +1,4 @@
--- What noting asks behind a step that wrote pages again, and what it leaves.
+-- What noting asks after a step that wrote pages again, and what it leaves.
 
 use Rattle.std.proofs.Common.{◌≡◌, ℕ, ◌+◌, ◌≤◌, Option, ◌++◌, length, sym, ◌∙◌, subst, replicate}
 use Rattle.bw_device.specs.Holding.{Holding}
@@ -33,7 +33,7 @@ module _ (s : Kept) (most : ℕ) (new : logs.Contents) (b : Begins s) (first : O
     notes : Cleans s most new → Notes s most new frames (s.cuts ++ replicate frames (length s.entries)) now.newest now.making
     notes x = notes_of s most new x first b.sound at_first frames now.newest now.making n.told n.count n.each n.limit n.empty n.sealed n.number
 
-    -- where segments were given up
+    -- if segments were given up
     pub given_noted : (told : ℕ) → Wrote s most new (λ fs. length fs ≡ told) → (holds : logs.Contents → Type 0) → holds new
         → IsSound (record now { floor = now.durable }) × HasMoved s told (s.durable + told) holds (record now { floor = now.durable })
     unfolding notes
@@ -46,14 +46,14 @@ module _ (s : Kept) (most : ℕ) (new : logs.Contents) (b : Begins s) (first : O
     unfolding notes
     none_given x counts = subst IsSound (sym n.noted) (refused_sound s most b new frames _ now.newest now.making (notes x) counts)
 
-    -- where none was
+    -- if none was
     pub moved_noted : (told : ℕ) → Wrote s most new (λ fs. (logs.counted new ≡ logs.counted s.log ++ fs) × (length fs ≡ told))
         → (holds : logs.Contents → Type 0) → holds new → IsSound now × HasMoved s told s.floor holds now
     unfolding notes
     moved_noted told wrote holds held =
         (none_given wrote.0 wrote.1.0, has_moved holds s now n.noted ((notes wrote.0).frames_are ∙ wrote.1.1) n.empty held)
 
-    -- where a step was refused
+    -- if a step was refused
     pub stopped_noted : Wrote s most new (λ fs. logs.counted new ≡ logs.counted s.log ++ fs) → (holds : logs.Contents → Type 0) → holds new
         → IsSound now × HasStopped s holds now
     stopped_noted wrote holds held = (none_given wrote.0 wrote.1, has_stopped holds s now frames n.noted n.empty held)

@@ -185,7 +185,7 @@ pub flushed_or_not : (group : List Record) (old new : Kept) (o : Option ℕ) →
 flushed_or_not group old new None full a f = inl f.0
 flushed_or_not group old new (Some n) full a f = inr (full, none_of (flush_refusal old) (Some n) a, (n, f))
 
--- a group that was to be entered, behind a flush or not
+-- a group that was to be entered, after a flush or not
 pub entered_or_not : (lane : ℕ) (away : ℕ → Bool) (old middle new : Kept) (group : List Record) (r : Result (Unit {0}) StoreFault)
     → (1 ≤ length group) × (length group ≤ 4) → Works old → MakesRoom group old middle → Fits middle group → middle.log.is_failed ≡ false
     → OnOk r (new ≡ taken_all middle lane (marked group)) → OnErr r (new ≡ middle) → IfErr r (IsWanting middle group) → GroupLeaves lane away group old r new
@@ -193,7 +193,7 @@ entered_or_not lane away old middle new group (Ok x) few was may fits works is s
     (record { group = group; few = few; worked = was; middle = middle; flushes = may; fits = fits; works = works; is = is }, refl)
 entered_or_not lane away old middle new group (Err cause) few was may fits works is same w = entered_not away group old middle new cause was may same w
 
--- the same of a group of one, whose last block was known
+-- a group of one was entered, whose last block was known
 pub one_entered : (s new : Kept) (lane : ℕ) (item : Record) (plan : Plan) (r : Result (Unit {0}) StoreFault) → IsPlan s item plan
     → OnOk r (new ≡ taken s lane (alone item) plan.back) → OnOk r (new ≡ taken_all s lane (marked (item ∷ [])))
 one_entered s new lane item plan (Err cause) p is = tt
@@ -224,7 +224,7 @@ pub one_refused : (s : Kept) (item : Record) (error : ApplyError) → Works s
     → IsUnplanned s (item ∷ []) (fault_of_apply error)
 one_refused s item error works w = wanting_unplanned s (item ∷ []) (fault_of_apply error) works (one_wanting s item error w)
 
--- the same of what the pages tell
+-- want of a page or of memory for one record, from what the pages say
 pub one_wanting_of : (s : Kept) (f : Shown) (item : Record) (error : ApplyError) → f.m ≡ s.filed.m → f.leaves ≡ s.filed.leaves
     → (error ≡ apply.Spent → IsSpent f item) → IsWanting s (item ∷ []) (fault_of_apply error)
 one_wanting_of s f item apply.NoMemory pairs leaves spent = tt
@@ -236,7 +236,7 @@ one_wanting_of s f item apply.Spent pairs leaves spent =
     (subst (λ (n : ℕ). n < length (result_of f.leaves item).pairs) pairs x.0) in
     one_wanting s item apply.Spent (more, omega arith)
 
--- what a take of the next group of a lane tells of it
+-- what a take of the next group of a lane says of it
 pub take_some : (lane n : ℕ) (group : List Record) (a b c : Kept) → b ≡ a → (t : Took lane b c) × (t.group ≡ group) → n ≡ length group
     → (t : Took lane a c) × (length t.group ≡ n)
 take_some lane n group a b c same t count =

@@ -33,7 +33,7 @@ worked takes_last old new (Some n) a left = ap (λ (s : Kept). s.log.is_failed) 
 
 -- ---- causes
 
--- where a flush answered Ok, want of memory or of a page is told of the store before it
+-- if a flush answered Ok, want of memory or of a page is said of the store before it
 pub entered_not : (away : ℕ → Bool) (group : List Record) (old middle new : Kept) (cause : StoreFault) → Works old → MakesRoom group old middle
     → new ≡ middle → IsWanting middle group cause → Refuses away group old cause new
 entered_not away group old middle new NoMemory works may same w = (works, subst (MakesRoom group old) (sym same) may)
@@ -161,7 +161,7 @@ prepared_leaves takes_last old new cause r same =
     (wants_segment old.log (length (frame_bytes (frame_of old.making))) && nat_lt (length old.log.spares) (spares_wanted takes_last))
     (is_spent old.log (length (frame_bytes (frame_of old.making)))) old new cause r same
 
--- no flush tells that too few segments are live
+-- no flush says that too few segments are live
 pub never_nothing : (takes_last : Bool) (s : Kept) → FlushAnswers (refusal_by takes_last s) (Err NothingOld) → ⊥
 never_nothing takes_last s a = is_cause takes_last s NothingOld (λ x. x) a
 
@@ -217,7 +217,7 @@ flush_refuses away group old new Spent full a left = (
 flush_refuses away group old new NoPage full a left = absurd (is_cause false old NoPage (λ x. x) a)
 flush_refuses away group old new NothingOld full a left = absurd (is_cause false old NothingOld (λ x. x) a)
 
--- where an append failed before, a flush tells it, and so does a refused group
+-- if an append failed before, a flush says it, and so does a refused group
 pub failed_flush : (takes_last : Bool) (s : Kept) (r : Result (Option ℕ) StoreFault) → s.log.is_failed ≡ true → FlushAnswers (refusal_by takes_last s) r
     → r ≡ Err Failed
 failed_flush takes_last s r failed answers = by s.log.is_failed _ r failed answers

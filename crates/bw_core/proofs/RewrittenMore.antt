@@ -38,7 +38,7 @@ pages_in count (p ∷ ps) c many are =
     let high = leb-true _ _ one.1 in
     ((low, omega arith), pages_in count ps c many parts.1)
 
--- the log behind a flush knows each page of the store
+-- the log after a flush knows each page of the store
 pub all_there : (old s : Kept) (ps : List ℕ) → IsSound s → IsSettled s → length s.filed.leaves ≡ length old.filed.leaves
     → are_pages (length old.filed.leaves) ps ≡ true → All (IsPage s.log) ps
 all_there old s ps h done same are =
@@ -52,7 +52,7 @@ pub same_count : (old new : Kept) (o : Option ℕ) → FlushLeaves old (Ok o) ne
 same_count old new None left = ap (λ (s : Kept). length s.filed.leaves) left.0
 same_count old new (Some n) left = ap (λ (s : Kept). length s.filed.leaves) left.is
 
--- ---- the log behind it
+-- ---- the log after it
 
 -- a rewriting that is not refused at once
 pub held_of : (s : Kept) (ps : List ℕ) (cause : LogFault) (new : logs.Contents) → Begins s → rewrites.RefusesRewrite cause s.log ps new

@@ -55,7 +55,8 @@ fifth_blocks : blocks_for 4 (pages 4 (empty_leaf ∷ []) (records (upto cuts fiv
     ≡ Delta 1 (place 4 0) (put 101 53 ∷ []) ∷ Split 1 (place 5 0) upper ∷ []
 fifth_blocks = refl
 
--- frame 4 behind three shares is the cleaner's: nothing was put for it, and its one block is a whole page
+-- frame 4 after three shares is the cleaner's: nothing was put for it, and its one block is a whole
+-- page
 fourth_is_moved : (s : Kept) → IsMoved s 4 [] (Base (record { page = 1; low = []; pairs = (106 ∷ [], 50 ∷ []) ∷ (107 ∷ [], 51 ∷ []) ∷ [] }) ∷ [])
 fourth_is_moved s = (λ opened first. absurd (omega arith), refl, (tt, tt))
 
@@ -70,7 +71,7 @@ two_streams : streams 0 2 (entry 0 false (put 97 49) ∷ entry 1 true (put 98 49
     ≡ (marked false (put 97 49) ∷ []) ∷ (marked true (put 98 49) ∷ marked false (put 99 50) ∷ []) ∷ []
 two_streams = refl
 
--- no cut stands behind the group's first record
+-- no cut stands after the group's first record
 two_whole : are_whole (1 ∷ 3 ∷ []) (entry 0 false (put 97 49) ∷ entry 1 true (put 98 49) ∷ entry 1 false (put 99 50) ∷ []) ≡ true
 two_whole = refl
 

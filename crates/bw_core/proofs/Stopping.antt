@@ -1,4 +1,4 @@
--- What recovery finds of a store's boxes: after a stop, and behind a cut of the newest segment.
+-- What recovery finds of a store's boxes: after a stop, and after a cut of the newest segment.
 
 use Rattle.std.proofs.Common.{inl, inr, ◌≡◌, ◌⊎◌, ℕ, zero, suc, ◌+◌, ◌-◌, ◌<◌, ◌≤◌, Bool, true, false, if◌then◌else◌, Option, Some, None, Result}
 use Rattle.std.proofs.Common.{List, [], ◌∷◌, ◌++◌, length, take, refl, sym, ap, ◌∙◌, subst, arith, append-nil}
@@ -324,7 +324,7 @@ module _ (s : Kept) (h : IsSound s) (works : s.log.is_failed ≡ false) where
       let some = ap (λ (fs : List Frame). length fs) is in
       subst FindsNow (sym (own_boxes s.log (leaves_at s s.durable) h.log works (stand_now (omega arith)))) refl
 
-  -- where no append failed, recovery finds the pages up to the durable cut
+  -- if no append failed, recovery finds the pages up to the durable cut
   pub whole_found : FindsNow (recovery (logs.boxes s.log))
   whole_found = whole_by (logs.counted s.log) refl
 

@@ -1,4 +1,4 @@
--- A frame tells its share, one record after the other.
+-- A frame says its share, one record after the other.
 
 use Rattle.std.proofs.Common.{◌≡◌, ℕ, ◌+◌, true, false, List, [], ◌∷◌, ◌++◌, length, refl, sym, ap, ◌∙◌, append_assoc, append-nil, if◌then◌else◌}
 use Rattle.std.specs.Prelude.{◌==◌, nat_le}
@@ -65,6 +65,6 @@ tells_more m leaves rs blocks back here r t =
       bases = added_bases blocks more ∙ ap (λ (l : List Leaf). l ++ bases_in more) t.bases ∙ bases_for m now back here r;
     }
 
--- nothing tells no records
+-- nothing says no records
 pub tells_none : (m : ℕ) (leaves : List Leaf) → Tells m leaves [] []
 tells_none m leaves = record { deltas = λ p. refl; splits = refl; bases = refl }

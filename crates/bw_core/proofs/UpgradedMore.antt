@@ -20,7 +20,7 @@ use Rattle.bw_core.specs.Kept.{Kept}
 use Rattle.bw_core.specs.Upgrading.{UpgradeMoves}
 use Rattle.bw_core.proofs.CleanedMore.{Begins, Cleans, GaveUp, StandsOn, Wrote, few_upto, given_wrote, refused_wrote, stopped_roster}
 
--- ---- the log behind it
+-- ---- the log after it
 
 gave_up_old : (s : Kept) (upgraded : Upgraded) (new : logs.Contents) → Begins s → (x : upgrades.IsUpgraded s.log upgraded new)
     → GaveUp (old_segments s.log) (count_in (old_segments s.log) x.then_log.live) x.then_log new

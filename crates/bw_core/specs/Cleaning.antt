@@ -25,7 +25,8 @@ with_moved s frames floor newest making log = record s {
   log = log;
 }
 
--- so many frames were added in a store where nothing waited, the floor is this, and of the log this holds
+-- so many frames were added in a store in which nothing waited, the floor is this, and of the log
+-- this holds
 pub record HasMoved (old : Kept) (frames floor : ℕ) (holds : logs.Contents → Type 0) (new : Kept) : Type 0 where
   pub is : new ≡ with_moved old frames floor new.newest new.making new.log
   pub empty : new.making.blocks ≡ []
@@ -38,14 +39,15 @@ pub record HasStopped (old : Kept) (holds : logs.Contents → Type 0) (new : Kep
   pub empty : new.making.blocks ≡ []
   pub log : holds new.log
 
--- segments are given up in a store where nothing waits: from here on the floor is what is durable
+-- segments are given up in a store in which nothing waits: from here on the floor is what is
+-- durable
 abbrev pub GivesUp : {A : Type 0} → (A → ℕ) → (logs.Contents → A → logs.Contents → Type 0)
     → (CleanFault → logs.Contents → logs.Contents → Type 0) → Kept → Result A StoreFault → Kept → Type 0
 GivesUp frames done refuses old (Ok x) new = HasMoved old (frames x) (old.durable + frames x) (done old.log x) new
 GivesUp frames done refuses old (Err fault) new =
     (cause : CleanFault) × (fault ≡ fault_of_clean cause) × HasStopped old (refuses cause old.log) new
 
--- the cleaner, in a store where nothing waits
+-- the cleaner, in a store in which nothing waits
 abbrev pub MoveLeaves : Kept → Result Cleaned StoreFault → Kept → Type 0
 MoveLeaves old result new = GivesUp (λ (c : Cleaned). c.frames) care.IsCleaned care.Refuses old result new
 

@@ -25,13 +25,13 @@ noted_left left n = if left then record n { tally = counted_out n.tally } else n
 
 -- ---- what a cleaning counts, and an upgrade
 
--- the first live segments are given up, so many of them, in a store where nothing waits
+-- the first live segments are given up, so many of them, in a store in which nothing waits
 abbrev pub counted_gone : ℕ → Tally → Kept → Bool → Kept → Tally
 counted_gone count t old done new =
     counted_by t done (new.durable - old.durable) (up 0 (bytes_of old.log.live)) (up 0 (bytes_of new.log.live))
     (up 0 (bytes_of (take count old.log.live))) count
 
--- a call that gives segments up: it counts what its step did behind the flush, and nothing else
+-- a call that gives segments up: it counts what its step did after the flush, and nothing else
 abbrev pub CountsStep : {A : Type 0} → (Kept → ℕ) → (Kept → Result A StoreFault → Kept → Type 0)
     → Kept → Tally → Result A StoreFault → Kept → Tally → Type 0
 CountsStep gone leaves old t (Ok x) new u =
@@ -48,7 +48,7 @@ CountsClean old t result new u = CountsStep (λ _. 1) MoveLeaves old t result ne
 abbrev pub CountsUpgraded : Kept → Tally → Result Upgraded StoreFault → Kept → Tally → Type 0
 CountsUpgraded old t result new u = CountsStep (λ s. old_segments s.log) UpgradeMoves old t result new u
 
--- ---- what is told
+-- ---- what is said
 
 abbrev pub counters_of : Kept → Tally → Looks → Counters
 counters_of s t looks = record {

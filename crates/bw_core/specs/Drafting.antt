@@ -31,7 +31,7 @@ pub record IsAhead (s : Kept) (done : List Record) (draft : Draft) : Type 0 wher
   pub records : (p : ℕ) → 1 ≤ p → p ≤ length (drawn_behind s done).leaves
       → records_in draft.rows.items s.making.blocks p ≡ open_records p (drawn_behind s done).frame.blocks
 
--- the store as it would be behind these records of a lane
+-- the store as it would be after these records of a lane
 abbrev pub behind : Kept → ℕ → List Record → Kept
 behind s lane done = taken_all s lane (map alone done)
 

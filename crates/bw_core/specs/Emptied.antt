@@ -1,4 +1,4 @@
--- A flush that answered Ok, and what a call leaves that takes its step behind one.
+-- A flush that answered Ok, and what a call leaves that takes its step after one.
 
 use Rattle.std.specs.Prelude.{ℕ, ◌≡◌, ◌⊎◌, Bool, true, Option, Result, Ok, Err}
 use Rattle.bw_terms.specs.declared.fault.StoreFault.{StoreFault}
@@ -18,7 +18,7 @@ IsUnready old fault new =
     (FlushAnswers (refusal_by true old) (Err fault) × FlushLeaves old (Err fault) new)
     ⊎ ((middle : Kept) × Emptied true old middle × (fault ≡ NoMemory) × (new ≡ middle))
 
--- a step behind such a flush
+-- a step after such a flush
 abbrev pub Behind : {A : Type 0} → (Kept → Result A StoreFault → Kept → Type 0) → Kept → Result A StoreFault → Kept → Type 0
 Behind leaves old (Ok x) new = (middle : Kept) × Emptied true old middle × leaves middle (Ok x) new
 Behind leaves old (Err fault) new = IsUnready old fault new ⊎ ((middle : Kept) × Emptied true old middle × leaves middle (Err fault) new)

@@ -54,7 +54,7 @@ FlushLeaves old (Err Spent) new = new ≡ old
 FlushLeaves old (Err NoPage) new = new ≡ old
 FlushLeaves old (Err NothingOld) new = new ≡ old
 
--- the same of the append alone
+-- the frame in the making was appended, and the next one is begun; nothing is said of a number
 pub record AppendedNow (old new : Kept) : Type 0 where
   pub fresh : Filling
   pub log : logs.Contents
@@ -74,12 +74,13 @@ AppendLeaves old (Err Spent) new = ⊥
 AppendLeaves old (Err NoPage) new = ⊥
 AppendLeaves old (Err NothingOld) new = ⊥
 
--- the log's refusal, or want of memory where it has none
+-- the log's refusal, or want of memory if it has none
 abbrev pub IsRefused : Option LogFault → StoreFault → Type 0
 IsRefused None fault = fault ≡ NoMemory
 IsRefused (Some cause) fault = fault ≡ fault_of cause
 
--- the answer is that refusal; where there is none, no other than want of memory or a failure of the device
+-- the answer is that refusal; if there is none, no other than want of memory or a failure of the
+-- device
 abbrev pub FlushAnswers : Option StoreFault → Result (Option ℕ) StoreFault → Type 0
 FlushAnswers (Some fault) result = result ≡ Err fault
 FlushAnswers None (Ok x) = Unit {0}

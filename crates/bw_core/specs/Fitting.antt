@@ -17,7 +17,7 @@ drawn_of s = record { leaves = s.filed.leaves; newest = s.newest; frame = frame_
 abbrev pub back_for : Kept → Record → Place
 back_for s item = back_in (drawn_of s) item
 
--- where its Delta goes in the frame in the making, and where a Split behind that goes
+-- where its Delta goes in the frame in the making, and where a Split after that goes
 abbrev pub here_at : Kept → Record → Place
 here_at s item = here_for (frame_of s.making) (directed_at s.filed.leaves item)
 

@@ -28,7 +28,7 @@ pub record Continues (old new : Kept) : Type 0 where
   pub appended : old.durable ≤ new.durable
   pub floor : old.floor ≤ new.floor
 
--- the same of a call that gives up no segment: the floor is what it was
+-- what a call does not take back that gives up no segment: the floor, too, is what it was
 pub record Follows (old new : Kept) : Type 0 where
   pub continues : Continues old new
   pub floor : new.floor ≡ old.floor
@@ -52,7 +52,7 @@ Takes (suc n) old new = (middle : Kept) × Takes n old middle × ((lane : ℕ) �
 abbrev pub groups_since : Kept → Kept → ℕ
 groups_since old new = ends_in (drop (length old.entries) new.entries)
 
--- so many records were taken, group after group; where an append failed before, none was
+-- so many records were taken, group after group; if an append failed before, none was
 pub record TookInTurn (n : ℕ) (old new : Kept) : Type 0 where
   pub turned : Turned n old new
   pub each : Takes (groups_since old new) old new
@@ -67,19 +67,19 @@ pub record RefusedAfter (n : ℕ) (old : Kept) (lanes : List Lane) (away : ℕ �
   pub lane : ℕ
   pub refuses : RefusesNext lane lanes away middle cause new
 
--- the same of so many groups
+-- so many records were taken, in so many groups
 abbrev pub TookGroups : ℕ → ℕ → Kept → Kept → Type 0
 TookGroups groups n old new = TookInTurn n old new × (groups_since old new ≡ groups)
 
--- the same without a number
+-- some records were taken, group after group, whatever their number
 abbrev pub TookSome : Kept → Kept → Type 0
 TookSome old new = (n : ℕ) × TookInTurn n old new
 
 abbrev pub RefusedAt : Kept → List Lane → (ℕ → Bool) → StoreFault → Kept → Type 0
 RefusedAt old lanes away cause new = (n : ℕ) × RefusedAfter n old lanes away cause new
 
--- a round goes on behind what was taken before: it tells all that was taken since the first, or why no
--- more was, before so many groups were taken
+-- a round goes on after what was taken before: it says all that was taken since the first, or why
+-- no more was, before so many groups were taken
 abbrev pub TurnsOn : ℕ → Count → Kept → Result Count TurnFault → List Lane → (ℕ → Bool) → Kept → Type 0
 TurnsOn limit taken old result lanes away new =
     (first : Kept) → TookGroups taken.groups taken.records first old → MatchResult result

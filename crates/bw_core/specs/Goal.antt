@@ -1,4 +1,4 @@
--- The goal: what a settlement promises where it answers Ok.
+-- The goal: what a settlement promises if it answers Ok.
 
 use Rattle.std.specs.Prelude.{ℕ, ◌≡◌, ◌<◌, List, length, map}
 use Rattle.std.specs.List.{AllByRecursion}
@@ -22,7 +22,7 @@ pub record Goal (feeds : List Feed) (old new : Kept) (told : ℕ) : Type 0 where
   -- each writer's records in the history are exactly those that its feed accepted, each once, in its order
   pub exactly : streams 0 (length feeds) new.entries ≡ map accepted feeds
   pub writers : AllByRecursion (λ e. e.writer < length feeds) new.entries
-  -- the last cut is the whole history, and each counted frame tells its share
+  -- the last cut is the whole history, and each counted frame says its share
   pub last_cut : IsAllCut new
   pub shares : AllByRecursion (λ f. new.before < f.number → TellsShare new f) (counted new.log)
   -- each live segment is whole; those of format 1 come first and have one frame limit
@@ -38,7 +38,8 @@ pub record SameFeeds (old new : List Feed) : Type 0 where
   pub ends : map ring_of_feed new ≡ map ring_of_feed old
   pub accepted : map accepted new ≡ map accepted old
 
--- what no call takes back, whatever its answer; and a stop behind it, or in the middle of its last append, leaves a whole store
+-- what no call takes back, whatever its answer; and a stop after it, or in the middle of its last
+-- append, leaves a whole store
 pub record Sequel (old new : Kept) (was now : Noted) : Type 0 where
   pub each_cut : EachCutStands new
   pub follows : Follows old new

@@ -19,7 +19,7 @@ module _ {I : Type 0} {H : I → Type 0} where
     pub sound : IsSound new v
     pub noted : noted_of new ≡ noted_of old
 
-  -- the same, and its lanes and its history are as they were
+  -- the store stays sound, nothing is noted, and its lanes and its history are as they were
   pub record KeepsIntake (old new : Core I H) (v : (i : I) × H i → Holding) : Type 0 where
     pub sound : IsSound new v
     pub intake : new.intake ≡ old.intake

@@ -113,7 +113,8 @@ pub record IsSound (s : Kept) : Type 0 where
   pub ops : AllByRecursion (λ e. IsOp e.item) s.entries
   pub writers : AllByRecursion (λ e. e.writer < length s.rings) s.entries
   pub grown : Grown s.filed.m (logs.counted s.log) (frame_of s.making) s.filed.leaves s.newest
-  -- the frame in the making is the next one, or there is none and it stays empty; it is sealed where an append failed
+  -- the frame in the making is the next one, or there is none and it stays empty; it is sealed if
+  -- an append failed
   pub next : s.log.next ≡ following (s.before + s.durable)
   pub last : s.before + s.durable < 2 ^ 64
   pub number : (s.making.frame ≡ s.before + s.durable + 1) ⊎ ((s.log.next ≡ None) × (s.making.blocks ≡ []))
@@ -126,7 +127,7 @@ pub record IsSound (s : Kept) : Type 0 where
   pub floor : s.floor ≤ s.durable
   -- the counted frames up to a cut stand for the pages of the history up to it, for each cut from the floor on
   pub stands : EachCutStands s
-  -- frames tell their shares, and so does the one in the making
+  -- frames say their shares, and so does the one in the making
   pub shares : AllByRecursion (λ f. s.before < f.number → TellsShare s f) (logs.counted s.log)
   pub tells : TellsBy s (s.before + s.durable + 1) (leaves_at s s.durable) (waiting s) s.making.blocks
   -- boxes: what a cut or a stop leaves can be recovered

@@ -21,12 +21,12 @@ module _ {I : Type 0} {H : I → Type 0} where
     pub boxes : HasBoxes (kept_by old v) (kept_by new v)
     pub noted : noted_of new ≡ noted_of old
 
-  -- a walk over pages: what it leaves, and where all are in memory, that it lacks memory alone
+  -- a walk over pages: what it leaves, and if all are in memory, that it can lack only memory
   pub record Walks {A : Type 0} (old : Core I H) (result : Result A StoreFault) (new : Core I H) (v : (i : I) × H i → Holding) : Type 0 where
     pub leaves : WalkLeaves (kept_by old v) result (kept_by new v)
     pub memory : ((p : ℕ) → is_evicted p old ≡ false) → IfErr result (λ fault. fault ≡ NoMemory)
 
-  -- a page was looked at, and read where it is away: the pages are as they were
+  -- a page was looked at, and read if it is away: the pages are as they were
   pub record LooksAt {A : Type 0} (page : ℕ) (old : Core I H) (result : Result A StoreFault) (new : Core I H) (v : (i : I) × H i → Holding) : Type 0 where
     pub sound : IsSound new v
     pub pages : new.pages.leaves ≡ old.pages.leaves

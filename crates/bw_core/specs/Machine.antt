@@ -17,24 +17,27 @@ use Rattle.bw_core.specs.Kept.{EachCutStands, Kept}
 abbrev pub machine_of : Kept → Machine
 machine_of s = record { start = union s.start; entries = s.entries; durable = cut s.cuts s.durable; written = cut s.cuts (length s.cuts); shown = 0 }
 
--- where segments are given up or pages written again, all that was taken is kept before; a refusal may come before or behind that
+-- if segments are given up or pages written again, all that was taken is kept before; a refusal may
+-- come before or after that
 abbrev pub KeepsAs : {A : Type 0} → Result A StoreFault → Kept → Kept → Type 0
 KeepsAs result old new =
     MatchResult result (λ _. machine_of new ≡ keeps (machine_of old))
     (λ _. (machine_of new ≡ keeps (machine_of old)) ⊎ Stops (machine_of old) (machine_of new))
 
--- recovery finds the pages of entries that a stop may leave; it finds nothing only where the store was opened and nothing was kept
+-- recovery finds the pages of entries that a stop may leave; it finds nothing only if the store was
+-- opened and nothing was kept
 abbrev pub FindsLeft : Kept → List Holding → Type 0
 FindsLeft s held =
     MatchResult (recovery held)
     (λ f. (left : List Entry) × MayLeave (machine_of s) left × (f.leaves ≡ pages s.filed.m s.start (records left)))
     (λ e. (e ≡ Empty) × (s.before ≡ 0) × (s.durable ≡ 0))
 
--- what is found, were the store stopped now: where no call appends, or in the middle of the append that failed
+-- what is found, were the store stopped now: if no call appends, or in the middle of the append
+-- that failed
 abbrev pub MayBeStopped : Kept → Type 0
 MayBeStopped s = FindsLeft s (boxes s.log)
 
--- a call that writes pages again, as the machine: each cut stands behind it, and what a stop leaves
+-- a call that writes pages again, as the machine: each cut stands after it, and what a stop leaves
 -- is found
 pub record RunsAs {A : Type 0} (old : Kept) (result : Result A StoreFault) (new : Kept) : Type 0 where
   pub each_cut : EachCutStands new

@@ -12,12 +12,12 @@ use Rattle.bw_log.specs.Spans.{last_upto}
 use Rattle.bw_care.specs.Tallies.{length_at}
 use Rattle.bw_core.specs.Kept.{Kept}
 
--- a place, if there is one, stands in the frames behind one and up to another
+-- a place, if there is one, stands in the frames after one and up to another
 abbrev pub is_between : ℕ → ℕ → Option Place → Bool
 is_between after last None = false
 is_between after last (Some place) = nat_lt after place.frame && nat_le place.frame last
 
--- how many bytes a page's Base has as the page stands, where it was last set in these frames
+-- how many bytes a page's Base has as the page stands, if it was last set in these frames
 abbrev pub needed_by : ℕ → ℕ → List Frame → Leaf → ℕ
 needed_by after last frames leaf = if is_between after last (base_of leaf.page frames) then length (block_bytes (Base leaf)) else 0
 
@@ -25,7 +25,8 @@ abbrev pub needed_of : ℕ → ℕ → List Frame → List Leaf → ℕ
 needed_of after last frames [] = 0
 needed_of after last frames (l ∷ ls) = needed_by after last frames l + needed_of after last frames ls
 
--- the same of the pages that were last set in the i-th live segment, by the frames that it has
+-- how many bytes the Bases have of the pages that were last set in the i-th live segment, by the
+-- frames that it has
 abbrev pub needed_in : Kept → ℕ → ℕ
 needed_in s i =
     needed_of (last_upto (s.log.number + i - 1) s.log.frames) (last_upto (s.log.number + i) s.log.frames) (counted s.log) s.filed.leaves

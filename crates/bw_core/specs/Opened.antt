@@ -43,7 +43,7 @@ started rings entries filed newest making log = record {
   log = log;
 }
 
--- a store of one empty page over spares alone
+-- a store of one empty page over spares only
 abbrev pub opened : List Ring → ℕ → ℕ → List Holding → Kept
 opened rings m f spares = started rings [] (one_empty m) (first_place ∷ []) (first_making f) (fresh m f spares)
 

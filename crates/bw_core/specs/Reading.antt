@@ -1,4 +1,4 @@
--- What the calls leave that only ask or read, or change the boxes alone.
+-- What the calls leave that only ask or read, or change only the boxes.
 
 use Rattle.std.specs.Prelude.{ℕ, ◌≡◌, false, Result, Ok, Err, List, [], ◌∷◌, ◌++◌}
 use Rattle.bw_record.specs.declared.leaf.Leaf.{Leaf}
@@ -44,7 +44,7 @@ ReadLeaves reads old (Err Spent) new = (new ≡ old) × IsWornOut reads old.log.
 ReadLeaves reads old (Err NoPage) new = ⊥
 ReadLeaves reads old (Err NothingOld) new = ⊥
 
--- the same of a page, which there may not be
+-- what a read of a page leaves, which there may not be
 abbrev pub PageLeaves : (ℕ → Type 0) → Kept → Result Leaf StoreFault → Kept → Type 0
 PageLeaves reads old (Err NoPage) new = new ≡ old
 PageLeaves reads old result new = ReadLeaves reads old result new

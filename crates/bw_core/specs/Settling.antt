@@ -1,4 +1,4 @@
--- What a settlement leaves: records taken one after the other, and a flush behind them.
+-- What a settlement leaves: records taken one after the other, and a flush after them.
 
 use Rattle.std.specs.Prelude.{ℕ, Bool, false, ◌⊎◌, List, Err}
 use Rattle.bw_terms.specs.declared.fault.StoreFault.{StoreFault}
@@ -13,7 +13,7 @@ abbrev pub FlushStops : Kept → StoreFault → Kept → Type 0
 FlushStops old fault new =
     (middle : Kept) × TookSome old middle × FlushAnswers (flush_refusal middle) (Err fault) × FlushLeaves middle (Err fault) new
 
--- why a settlement was refused: a record was, or the flush behind all of them
+-- why a settlement was refused: a record was, or the flush after all of them
 abbrev pub SettleRefuses : Kept → List Lane → (ℕ → Bool) → StoreFault → Kept → Type 0
 SettleRefuses old lanes away fault new = RefusedAt old lanes away fault new ⊎ FlushStops old fault new
 

@@ -1,4 +1,4 @@
--- What recovery finds of a store's boxes: after a stop, and behind a cut of the newest segment.
+-- What recovery finds of a store's boxes: after a stop, and after a cut of the newest segment.
 
 use Rattle.std.specs.Prelude.{ℕ, ◌+◌, ◌-◌, ◌≡◌, ◌≤◌, ◌⊎◌, IfSome, MatchResult, List, [], length, take}
 use Rattle.bw_device.specs.Holding.{Holding}
@@ -12,7 +12,8 @@ use Rattle.bw_core.specs.Kept.{Kept, leaves_at}
 
 -- ---- stops
 
--- the pages up to the durable cut, or up to the one beyond it; nothing is found only where the store was opened and nothing was durable
+-- the pages up to the durable cut, or up to the one beyond it; nothing is found only if the store
+-- was opened and nothing was durable
 abbrev pub FindsStop : Kept → List Holding → Type 0
 FindsStop s boxes =
     MatchResult (recovery boxes)
@@ -31,8 +32,9 @@ MayCut s n =
     IfSome (last_of s.log.live) (λ h. (newest_number s.log ≡ s.edge.segment → s.edge.length ≤ n)
     × HoldsUpto (s.before + s.floor) h.bytes (take n h.bytes))
 
--- the pages up to the cut of the last whole frame left, which is one from the floor to the durable one, or those at the start
--- where that frame stood before this store; nothing is found only where no whole frame is left
+-- the pages up to the cut of the last whole frame left, which is one from the floor to the durable
+-- one, or those at the start if that frame stood before this store; nothing is found only if no
+-- whole frame is left
 abbrev pub FindsCut : Kept → List Holding → Type 0
 FindsCut s boxes =
     MatchResult (recovery boxes)

@@ -54,8 +54,8 @@ module _ {I : Type 0} {H : I → Type 0} where
     pub here : AreHere s.pages.leaves group
     pub lawful : AllByRecursion IsOp group
 
-  -- a take of the next group, which there may not be: the store stays sound, its lanes stay as many,
-  -- and where there was none, all that the lane's ring had was taken before
+  -- a take of the next group, which there may not be: the store stays sound, its lanes stay as
+  -- many, and if there was none, all that the lane's ring had was taken before
   pub record TakesAny (lane : ℕ) (old : Core I H) (result : Result (Option ℕ) StoreFault) (new : Core I H) (v : (i : I) × H i → Holding) : Type 0 where
     pub sound : IsSound new v
     pub count : length (lanes_of new) ≡ length (lanes_of old)

@@ -24,8 +24,8 @@ abbrev pub MakesRoom : List Record → Kept → Kept → Type 0
 MakesRoom group old new =
     (new ≡ old) ⊎ ((Fits old group → ⊥) × (flush_refusal old ≡ None) × ((number : ℕ) × Flushed old number new))
 
--- one group was taken: all its records are put into the frame in the making, and a frame is appended
--- before it only where it does not fit whole
+-- one group was taken: all its records are put into the frame in the making, and a frame is
+-- appended before it only if it does not fit whole
 pub record Took (lane : ℕ) (old new : Kept) : Type 0 where
   pub group : List Record
   pub few : (1 ≤ length group) × (length group ≤ 4)
@@ -61,7 +61,7 @@ IsWanting s group NothingOld = ⊥
 abbrev pub IsSpentAt : Kept → List Record → Type 0
 IsSpentAt s group = (s.log.next ≡ None) ⊎ HasAllPages s group
 
--- or, where the group does not fit, one that the append before it needs
+-- or, if the group does not fit, one that the append before it needs
 abbrev pub IsSpentFor : List Record → Kept → Type 0
 IsSpentFor group s = IsSpentAt s group ⊎ ((Fits s group → ⊥) × (flush_refusal s ≡ Some Spent))
 
@@ -113,7 +113,7 @@ IsStopped s Spent = Works s × (s.log.next ≡ None)
 IsStopped s NoPage = ⊥
 IsStopped s NothingOld = ⊥
 
--- why nothing could be planned: where an append failed before, for no other reason
+-- why nothing could be planned: if an append failed before, for no other reason
 abbrev pub IsUnplanned : Kept → List Record → StoreFault → Type 0
 IsUnplanned s group NoMemory = Works s
 IsUnplanned s group BadConfig = ⊥
@@ -124,9 +124,9 @@ IsUnplanned s group Spent = Works s × IsSpentAt s group
 IsUnplanned s group NoPage = ⊥
 IsUnplanned s group NothingOld = ⊥
 
--- a group was refused, and nothing of it was taken. The frame in the making was appended before it, or
--- that was refused, only where the group does not fit whole; or a page of its records is away, as
--- these are behind the refusal, and could not be read. Where an append failed before, the cause is
+-- a group was refused, and nothing of it was taken. The frame in the making was appended before it,
+-- or that was refused, only if the group does not fit whole; or a page of its records is away, as
+-- these are after the refusal, and could not be read. If an append failed before, the cause is
 -- Failed
 abbrev pub Refuses : (ℕ → Bool) → List Record → Kept → StoreFault → Kept → Type 0
 Refuses away group old NoMemory new = Works old × MakesRoom group old new
@@ -153,14 +153,15 @@ pub record RefusesNext (lane : ℕ) (lanes : List Lane) (away : ℕ → Bool) (o
   pub waits : IsNext lanes lane group
   pub refuses : Refuses away group old fault new
 
--- a take of the next group of a lane, which there may not be, and how many records it has; these are
--- the lanes behind it, and these pages are away
+-- a take of the next group of a lane, which there may not be, and how many records it has; these
+-- are the lanes after it, and these pages are away
 abbrev pub TakeLeaves : ℕ → List Lane → (ℕ → Bool) → Kept → Result (Option ℕ) StoreFault → Kept → Type 0
 TakeLeaves lane lanes away old (Ok None) new = new ≡ old
 TakeLeaves lane lanes away old (Ok (Some n)) new = (t : Took lane old new) × (length t.group ≡ n)
 TakeLeaves lane lanes away old (Err fault) new = RefusesNext lane lanes away old fault new
 
--- the same of one that is known to be there
+-- a take of the next group of a lane, which is known to be there; these are the lanes after it, and
+-- these pages are away
 abbrev pub WaitingLeaves : ℕ → List Lane → (ℕ → Bool) → Kept → Result (Unit {0}) StoreFault → Kept → Type 0
 WaitingLeaves lane lanes away old (Ok x) new = Took lane old new
 WaitingLeaves lane lanes away old (Err fault) new = RefusesNext lane lanes away old fault new

@@ -10,7 +10,7 @@ use Rattle.bw_core.specs.Cleaning.{GivesUp}
 use Rattle.bw_core.specs.Emptied.{Behind, WhereSome}
 use Rattle.bw_core.specs.Kept.{Kept}
 
--- the upgrade, in a store where nothing waits
+-- the upgrade, in a store in which nothing waits
 abbrev pub UpgradeMoves : Kept → Result Upgraded StoreFault → Kept → Type 0
 UpgradeMoves old result new = GivesUp (λ (u : Upgraded). u.frames) care.IsUpgraded care.RefusesUpgrade old result new
 

@@ -31,11 +31,12 @@ impl Core {
     /// Gives up the oldest live segment: what waits is flushed, then each page that was last set in
     /// that segment is written again, and its box is dropped.
     ///
-    /// Refused `NothingOld`, exactly where fewer than two segments are live, before anything else;
-    /// then as `flush` is, but `NoSegment` only where no spare stands at all; then `NoMemory`; then
-    /// as the cleaner is. A refused step leaves the steps before it done: frames that were appended
-    /// stay and are durable, each with a cut at the end of the history, and no box is dropped.
-    /// After a refusal other than `Failed` and a failed append it may be called again.
+    /// Refused `NothingOld`, exactly if fewer than two segments are live, before anything else.
+    /// Then it is refused as `flush` is, but `NoSegment` only if no spare stands at all. Then it is
+    /// refused `NoMemory`, and then as the cleaner is. A refused step leaves the steps before it
+    /// done: frames that were appended stay and are durable, each with a cut at the end of the
+    /// history, and no box is dropped. After a refusal other than `Failed` and a failed append it
+    /// may be called again.
     ///
     /// It costs what a flush and `bw_care::clean` cost, and a look at each page's line in memory.
     pub fn clean(&mut self) -> Result<Cleaned, StoreFault>
@@ -46,7 +47,7 @@ impl Core {
         ensures nothing_old { IsErrOf result StoreFault.NothingOld
             ↔ (length (kept_by self.old holding).log.live < 2) }
 
-        // The floor is what is durable once a segment is given up, and stays else.
+        // The floor is what is durable once a segment is given up, and otherwise stays.
         ensures floor { HasFloorBut (kept_by self.old holding) result (kept_by self.new holding) }
 
         // Nothing is forgotten, and what is counted is what the cleaner did.
@@ -88,7 +89,7 @@ impl Core {
         Ok(())
     }
 
-    // The cleaner, where nothing waits, and what is counted of it.
+    // The cleaner, if nothing waits, and what is counted of it.
     fn move_pages(&mut self) -> Result<Cleaned, StoreFault>
         requires ready { MayMove self.old holding }
         requires two { 2 ≤ length (kept_by self.old holding).log.live }

@@ -1,7 +1,7 @@
 //! How many pairs there are.
 //!
 //! No number is kept beside the pages. A put may be a new key or an update, and only a look at its
-//! page tells: a count that is kept would cost each record of an evicted page a read. So it is
+//! page says which: a count that is kept would cost each record of an evicted page a read. So it is
 //! asked for, and costs a look at each page.
 
 ghost use Rattle.std.specs.Prelude.{◌≡◌, ◌≤◌, ◌-◌, false, length, slice_index_or, IfOk, IfErr};

@@ -1,4 +1,4 @@
-//! What a store tells of what it counted.
+//! What a store says of what it counted.
 
 ghost use Rattle.std.specs.Prelude.{◌≡◌};
 ghost use Rattle.bw_core.specs.Counting.{counters_of};

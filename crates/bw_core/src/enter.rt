@@ -4,7 +4,7 @@
 //! refused memory after two had changed, the store would have to take them back, and each such way
 //! back would be code that hardly ever runs. So nothing is undone here: every list grows first,
 //! unused, and the page, which may be refused all the same, changes before the others. What comes
-//! behind it cannot be refused, and its types say so: it answers nothing.
+//! after it cannot be refused, and its types say so: it answers nothing.
 
 ghost use Rattle.std.specs.Prelude.{◌≡◌, ◌≤◌, ◌-◌, ◌∷◌, [], Some, length, slice_get, OnOk, OnErr, IfErr};
 ghost use Rattle.bw_record.specs.Record.{key_of};

@@ -29,8 +29,8 @@ impl Core {
     ghost use Rattle.bw_core.specs.Views.{away_in, kept_by, is_evicted, noted_of, IsSound};
 
     /// From how many frames a page would be read, if it were evicted: those that were appended and
-    /// have a block of it, from the last that says all of it on. It is 0 where no frame has the page
-    /// yet, and `None` where there is no such page, evicted or not. `rewrite` makes it 1.
+    /// have a block of it, from the last that says all of it on. It is 0 if no frame has the page
+    /// yet, and `None` if there is no such page, evicted or not. `rewrite` makes it 1.
     ///
     /// No memory is taken, and it costs the same for each page. Whoever evicts pages asks this first,
     /// and writes a page again whose walk is long, so that bringing it back stays cheap.
@@ -47,11 +47,11 @@ impl Core {
     }
 
     /// Drops a page from memory; answers whether it left. The page stays: it is then read from the
-    /// log, and the records that no frame has yet are kept. It does not leave where it is evicted,
-    /// nor where the frame in the making makes it or cuts it.
+    /// log, and the records that no frame has yet are kept. It does not leave if it is evicted, nor
+    /// if the frame in the making makes it or cuts it.
     ///
-    /// Refused `NoPage`, where the number is 0 or above the number of pages. No memory is taken. It
-    /// costs a look at each block of the frame in the making, where that has one of the page.
+    /// Refused `NoPage` if the number is 0 or above the number of pages. No memory is taken. It
+    /// costs a look at each block of the frame in the making, if that has one of the page.
     pub fn evict(&mut self, page: u32) -> Result<bool, StoreFault>
         requires { IsSound self.old holding }
         ensures left { IfOk result (λ left. left
@@ -91,8 +91,8 @@ impl Core {
         self.is_making(page) && makes(&self.pages.making, page)
     }
 
-    /// Whether the newest block of a page stands in the frame in the making. Where it does not,
-    /// that frame has no block of the page, and need not be looked through.
+    /// Whether the newest block of a page stands in the frame in the making. If it does not, that
+    /// frame has no block of the page, and need not be looked through.
     pub(crate) fn is_making(&self, page: u32) -> bool
         requires sound { IsSound self.now holding }
         requires inside { (1 ≤ page) × (page ≤ length self.now.pages.leaves.leaves) }
@@ -102,7 +102,7 @@ impl Core {
         self.pages.newest[page as usize - 1].frame == self.pages.making.frame()
     }
 
-    /// Brings back the page that a record of this key changes, if it is evicted, and tells which it
+    /// Brings back the page that a record of this key changes, if it is evicted, and says which it
     /// is.
     pub(crate) fn fetch(&mut self, key: &Key) -> Result<u32, StoreFault>
         requires sound { IsSound self.old holding }

@@ -1,12 +1,12 @@
 //! The frame in the making is appended, and the next one begun.
 //!
-//! Checks and growths come first (`prepare`): behind them nothing but the device can refuse. Then
-//! the frame is sealed and its cut pushed, and only then its bytes go out. The order matters where
-//! the device fails: what it wrote nobody knows, so the frame stays sealed, its cut stands beyond
-//! the durable ones, and the log is failed for good. A second try would append behind a piece of
-//! unknown length. Recovery finds that frame or does not, and both are beginnings of the history.
+//! Checks and growths come first (`prepare`): after them nothing but the device can refuse. Then
+//! the frame is sealed and its cut pushed, and only then its bytes go out. The order matters if the
+//! device fails: what it wrote nobody knows, so the frame stays sealed, its cut stands beyond the
+//! durable ones, and the log is failed for good. A second try would append after a piece of unknown
+//! length. Recovery finds that frame or does not, and both are beginnings of the history.
 //!
-//! `durable` is counted behind the append and nowhere else: it is what receipts, readers and
+//! `durable` is counted after the append and nowhere else: it is what receipts, readers and
 //! `forget` go by.
 
 ghost use Rattle.std.specs.Prelude.{◌≡◌, ◌≤◌, ◌<◌, Some, true, false, length, vec_len, OnOk, IfErr, MatchResult};
@@ -29,12 +29,12 @@ use bw_log::{Log, LogFault};
 use bw_making::begin_next;
 use bw_terms::StoreFault;
 
-/// Which spares a flush may take, where it has to begin a segment.
+/// Which spares a flush may take, if it has to begin a segment.
 #[derive(Clone, Copy)]
 pub(crate) enum Spares {
     /// Each but the last, which is kept for a cleaning.
     ButLast,
-    /// The last too: what comes behind this flush may give a segment back.
+    /// The last too: what comes after this flush may give a segment back.
     All,
 }
 
@@ -53,13 +53,14 @@ impl Core {
     ghost use Rattle.bw_core.specs.Going.{GoesOn, KeepsIntake};
     ghost use Rattle.bw_core.specs.Views.{kept_by, noted_of, IsSound};
 
-    /// Seals the frame in the making and appends it; answers its number, or `None` where nothing
+    /// Seals the frame in the making and appends it; answers its number, or `None` if nothing
     /// waited.
     ///
-    /// Refused `Failed`, where an append failed before; then `Spent`, where there is no number for
-    /// a frame, even if nothing waits; then, where something waits, `NoSegment`, `Spent` and
-    /// `NoMemory` as the log's append is: nothing was changed. `Device`: the frame stays sealed and
-    /// kept, and every later flush is refused `Failed`. Time is linear in the frame.
+    /// Refused `Failed` if an append failed before. Then it is refused `Spent` if there is no
+    /// number for a frame, even if nothing waits. Then, if something waits, it is refused
+    /// `NoSegment`, `Spent` and `NoMemory` as the log's append is. After each of these nothing was
+    /// changed. `Device`: the frame stays sealed and kept, and every later flush is refused
+    /// `Failed`. Time is linear in the frame.
     pub fn flush(&mut self) -> Result<Option<u64>, StoreFault>
         requires sound { IsSound self.old holding }
         ensures goes { GoesOn self.old self.new holding }
@@ -81,7 +82,7 @@ impl Core {
         self.flush_making(Spares::ButLast)
     }
 
-    // The same, without what follows from it, by which spares it may take.
+    // Does what `flush` does, with these spares. Its clauses do not say what follows from that.
     pub(crate) fn flush_making(&mut self, spares: Spares) -> Result<Option<u64>, StoreFault>
         requires sound { IsSound self.old holding }
         ensures keeps { KeepsIntake self.old self.new holding }
@@ -158,8 +159,8 @@ impl Core {
     }
 }
 
-// Appends a sealed buffer's frame, as `Log::append_care` where the last spare may be taken, or
-// else as `Log::append`.
+// Appends a sealed buffer's frame, as `Log::append_care` if the last spare may be taken, or else as
+// `Log::append`.
 fn append_to(log: &mut Log, buffer: &Buffer, spares: Spares) -> Result<(), LogFault>
     requires sound { IsSoundLog log.old holding }
     requires sealed { buffer.now.is_sealed ≡ true }

@@ -14,9 +14,9 @@ impl Core {
     ghost use Rattle.bw_core.specs.Views.{forgotten_of, kept_by, noted_of, IsSound};
 
     /// Lets go of all entries of the history up to the last durable cut, and answers how many
-    /// entries more are forgotten by that. They leave memory alone: nothing that a clause says of
-    /// the store changes, `history` then has the entries behind them, and `forgotten` tells how
-    /// many they are. No other call but `forget_upto` does this (`noted` of each).
+    /// entries more are forgotten by that. They leave only memory: nothing that a clause says of
+    /// the store changes, `history` then has the entries after them, and `forgotten` says how many
+    /// they are. No other call but `forget_upto` does this (`noted` of each).
     ///
     /// No memory is taken, and the room of what was forgotten is used again. It costs a step for
     /// each entry that was kept.
@@ -36,7 +36,9 @@ impl Core {
         self.forget_upto(end as u64)
     }
 
-    /// The same up to this index of the history, where that is less.
+    /// Lets go of the entries of the history up to the last durable cut, or up to this index if
+    /// that is less, and answers how many entries more are forgotten by that. As `forget`
+    /// otherwise.
     pub fn forget_upto(&mut self, end: u64) -> u64
         requires { IsSound self.old holding }
         ensures sound { IsSound self.new holding }

@@ -4,8 +4,8 @@
 //! one of these makes, or join the Delta of one. But no page may change before it is sure that the
 //! whole group fits the frame. So the group is drafted on what the records before would leave:
 //! `Leaves::steps` applies all but the last to the pages, notes what each did, and takes them back.
-//! The work in the pages comes twice; a draft is blocks and places alone, and is thrown away where
-//! they do not fit.
+//! The work in the pages comes twice; a draft is only blocks and places, and is thrown away if they
+//! do not fit.
 
 ghost use Rattle.std.specs.Prelude.{ℕ, ◌≡◌, ◌<◌, ◌+◌, Some, true, false, List, length, take, IfOk, IfErr, OnOk, OnErr, MatchOption};
 ghost use Rattle.std.specs.List.{AllByRecursion};
@@ -54,7 +54,7 @@ impl Core {
         Ok(())
     }
 
-    // The same of one record.
+    // Brings back the page of one record, if it is evicted.
     fn fetch_one(&mut self, item: &Record) -> Result<(), StoreFault>
         requires sound { IsSound self.old holding }
         ensures keeps { KeepsIntake self.old self.new holding }
@@ -73,7 +73,7 @@ impl Core {
         Ok(())
     }
 
-    /// What a group adds to the frame in the making, or `None` where it does not fit there whole.
+    /// What a group adds to the frame in the making, or `None` if it does not fit there whole.
     pub(crate) fn draft(
         &mut self,
         lane: usize,
@@ -105,7 +105,8 @@ impl Core {
         Ok(self.lay(lane, records, steps.as_slice())?)
     }
 
-    // The same from what the records do to the pages.
+    // What a group adds to the frame in the making, from what its records do to the pages; `None`
+    // if it does not fit there whole.
     fn lay(
         &self,
         lane: usize,
@@ -133,7 +134,8 @@ impl Core {
         Ok(Some(draft))
     }
 
-    // The same of one record, behind those before it; answers whether there is room so far.
+    // Adds to the draft what one record of a group adds, after those before it; answers whether
+    // there is room so far.
     fn lay_one(
         &self,
         lane: usize,

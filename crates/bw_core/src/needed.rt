@@ -1,9 +1,9 @@
 //! How much of a live segment is still needed, and when it pays to clean the oldest.
 //!
-//! A cleaning writes what is still needed of a segment behind all others, and gives its room back.
-//! Where most of it is needed that makes the log longer, and a store that cleans whenever it is
-//! full would write the same pages round and round. It pays at twice what is needed and 88 bytes
-//! more: heads of frames and headers are less than that, so room is won; no clause says so.
+//! A cleaning writes what is still needed of a segment after all others, and gives its room back.
+//! If most of it is needed that makes the log longer, and a store that cleans whenever it is full
+//! would write the same pages round and round. It pays at twice what is needed and 88 bytes more:
+//! heads of frames and headers are less than that, so room is won. No clause says so.
 
 ghost use Rattle.std.specs.Prelude.{◌≡◌, ◌≤◌, ◌<◌, ◌^◌, ◌↔◌, None, Some, length, slice_get, IfSome, IsTrue, MatchOption};
 ghost use Rattle.bw_log.specs.Contents.{counted};
@@ -14,7 +14,7 @@ use crate::store::Core;
 use bw_care::{is_won, length_of};
 use bw_codec::Place;
 
-// Whether a place, if there is one, stands in the frames behind one and up to another.
+// Whether a place, if there is one, stands in the frames after one and up to another.
 fn is_between(after: u64, last: u64, place: Option<Place>) -> bool
     ensures { result ≡ is_between after last place }
 {
@@ -29,8 +29,8 @@ impl Core {
 
     /// How many bytes of the i-th live segment, from 0, are still needed: those that the pages have
     /// whose last setting block stands there, each as a Base as it stands. So many bytes of blocks
-    /// `clean` writes again where it is the oldest, nothing waits in the frame in the making, and no
-    /// append fails. `None` where there is no such segment. `bwlog stats` tells this as `rewritten`.
+    /// `clean` writes again if it is the oldest, nothing waits in the frame in the making, and no
+    /// append fails. `None` if there is no such segment. `bwlog stats` shows this as `rewritten`.
     ///
     /// No memory is taken and nothing is read. It costs a look at the line of each frame and of each
     /// page, and at the pairs of each page that is counted and in memory.
@@ -47,9 +47,9 @@ impl Core {
     }
 
     /// Whether it pays to clean: two segments are live or more, and the oldest has twice as many
-    /// bytes as are still needed of it, and 88 more. Then `clean` gives back more than it writes, so
-    /// that there is more room behind it than before: beside what is needed it writes 20 bytes for
-    /// each frame, and 24 for each segment that it begins.
+    /// bytes as are still needed of it, and 88 more. Then `clean` gives back more than it writes,
+    /// so that there is more room after it than before: beside what is needed it writes 20 bytes
+    /// for each frame, and 24 for each segment that it begins.
     ///
     /// It costs what `needed` does.
     pub fn pays(&self) -> bool
@@ -66,7 +66,8 @@ impl Core {
         }
     }
 
-    // The same of the pages that were last set in the frames behind one and up to another.
+    // How many bytes the pages have that were last set in the frames after one and up to another,
+    // each as a Base as it stands.
     fn needed_between(&self, after: u64, last: u64) -> u64
         requires { IsSound self.now holding }
         ensures { result ≡ needed_of after last (counted (kept_by self.now holding).log)
@@ -79,7 +80,8 @@ impl Core {
         needed
     }
 
-    // The same of one page.
+    // How many bytes a page has as a Base, if it was last set in the frames after one and up to
+    // another; 0 if not.
     fn needed_on(&self, page: u32, after: u64, last: u64) -> u64
         requires sound { IsSound self.now holding }
         requires inside { (1 ≤ page) × (page ≤ length self.now.pages.leaves.leaves) }

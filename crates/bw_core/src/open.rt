@@ -99,9 +99,9 @@ impl Core {
     /// A store of one empty page over empty segments, and a feed for each writer, which may go to
     /// another thread. The first page is the first block of frame 1.
     ///
-    /// Refused `BadConfig`, where a value is out of its range, there are more than 4,096 boxes, or
-    /// one of them is not empty or has not room for 24 + `f` bytes to 1,073,741,824; or `NoMemory`.
-    /// The boxes then come back as they were.
+    /// Refused `BadConfig` if a value is out of its range, there are more than 4,096 boxes, or one
+    /// of them is not empty or has not room for 24 + `f` bytes to 1,073,741,824; or `NoMemory`. The
+    /// boxes then come back as they were.
     pub fn open(
         alloc: Global,
         config: &Config,
@@ -139,7 +139,7 @@ impl Core {
         }
     }
 
-    // A store of these ends over a log: its history begins here, behind the frame of this number.
+    // A store of these ends over a log: its history begins here, after the frame of this number.
     pub(crate) fn begun(
         alloc: Global,
         ends: Ends,

@@ -20,7 +20,7 @@ pub struct Edge {
 /// Where a store begins.
 #[derive(Drop)]
 pub(crate) struct Origin {
-    /// The leaves at `open` or `reopen`, which the proof alone knows.
+    /// The leaves at `open` or `reopen`, which only the proof knows.
     pub(crate) start: Snapshot<Leaves>,
     /// The number of the frame before the first of this store.
     pub(crate) before: u64,

@@ -60,8 +60,8 @@ impl Core {
     /// flushed or not, in memory or evicted; `None` before the first pair. Pages that are evicted
     /// are read from the log, and stay evicted.
     ///
-    /// It costs a search and a look at a page; and, where that page has no such pair, two searches
-    /// and a look for each page before it that has none. Refused as `get` is.
+    /// It costs a search and a look at a page; and, if that page has no such pair, two searches and
+    /// a look for each page before it that has none. Refused as `get` is.
     pub fn prev_at(&mut self, key: &Key) -> Result<Option<(Key, Value)>, StoreFault>
         requires { IsSound self.old holding }
         ensures value { IfOk result (λ pair. IsLast (plain (kept_by self.old holding).start
@@ -72,8 +72,9 @@ impl Core {
         self.walk_back(key, Reach::With)
     }
 
-    /// The same, but of the keys below this one alone: where a walk back goes on behind the pair
-    /// that it came to.
+    /// The pair with the greatest key below this one, as all records of the history leave it;
+    /// `None` before the first pair. A walk back goes on so after the pair that it came to. As
+    /// `prev_at` otherwise.
     pub fn prev_below(&mut self, key: &Key) -> Result<Option<(Key, Value)>, StoreFault>
         requires { IsSound self.old holding }
         ensures value { IfOk result (λ pair. IsLastBelow (plain (kept_by self.old holding).start

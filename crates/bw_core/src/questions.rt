@@ -1,6 +1,6 @@
 //! What a store answers of itself. None of these calls takes memory.
 //!
-//! So they may be asked where memory has run out: that is when somebody wants to know what is
+//! So they may be asked when memory has run out: that is when somebody wants to know what is
 //! durable, and how many spares stand.
 
 ghost use Rattle.std.specs.Prelude.{◌≡◌, ◌≤◌, ◌+◌, ◌-◌, true, Some, None, drop, take, length, map, slice_get, MatchOption};

@@ -32,9 +32,10 @@ impl Core {
     /// A copy of a page as all records of the history leave it, flushed or not, in memory or
     /// evicted. A page that is evicted is read from the log, and stays evicted.
     ///
-    /// Refused `NoPage`, where the number is 0 or above the number of pages; `NoMemory`; and, where
-    /// the page is evicted, `Device`, where the read failed: the next one may not; `Spent`, where
-    /// one more failure of a segment that has to be read could not be counted.
+    /// Refused `NoPage` if the number is 0 or above the number of pages, and `NoMemory`. If the
+    /// page is evicted, it is also refused `Device` if the read failed: the next one may not. And
+    /// it is refused `Spent` if one more failure of a segment that has to be read could not be
+    /// counted.
     pub fn page(&mut self, page: u32) -> Result<Leaf, StoreFault>
         requires { IsSound self.old holding }
         ensures value { IfOk result (λ leaf.
@@ -57,9 +58,9 @@ impl Core {
     }
 
     /// The value of a key as all records of the history leave it, flushed or not, in memory or
-    /// evicted. It is refused as `page` is, but never `NoPage`, and its page stays where it is.
-    /// Where the page is evicted, it is read from its newest block back, up to the first that
-    /// speaks of the key: a key that changed lately costs one frame.
+    /// evicted. It is refused as `page` is, but never `NoPage`, and its page stays where it is. If
+    /// the page is evicted, it is read from its newest block back, up to the first that speaks of
+    /// the key: a key that changed lately costs one frame.
     pub fn get(&mut self, key: &Key) -> Result<Option<Value>, StoreFault>
         requires { IsSound self.old holding }
         ensures value { IfOk result (λ value. value
@@ -138,8 +139,8 @@ impl Core {
         Ok(word_in_records(overlay.as_slice(), key))
     }
 
-    // The records that the frame in the making has of a page, in order. Where the frame has no
-    // block of the page, it is not looked through, and no memory is taken.
+    // The records that the frame in the making has of a page, in order. If the frame has no block
+    // of the page, it is not looked through, and no memory is taken.
     fn overlay(&self, page: u32) -> Result<Vec<Packed>, AllocError>
         requires sound { IsSound self.now holding }
         requires inside { (1 ≤ page) × (page ≤ length self.now.pages.leaves.leaves) }

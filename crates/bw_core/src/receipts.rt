@@ -1,7 +1,7 @@
 //! How much of what a writer put is durable.
 //!
 //! What is durable is a beginning of the history, up to a cut, and a writer wants to know of its
-//! own records. No list of the records of each writer is kept: of the few behind the durable cut
+//! own records. No list of the records of each writer is kept: of the few after the durable cut
 //! those that are the writer's are counted, and taken from all that it gave.
 
 ghost use Rattle.std.specs.Prelude.{◌≡◌, length};

@@ -86,8 +86,8 @@ impl Core {
     /// history is empty, and its next frame is the one after the last. So it begins with what
     /// recovery finds in whatever boxes these were recovered from (`begins`).
     ///
-    /// Refused `BadConfig`, where a number is out of its range, or `NoMemory`. What was recovered
-    /// then comes back. It costs a look at each page's line.
+    /// Refused `BadConfig` if a number is out of its range, or `NoMemory`. What was recovered then
+    /// comes back. It costs a look at each page's line.
     pub fn reopen(
         alloc: Global,
         recovered: Recovered,

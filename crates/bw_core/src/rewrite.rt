@@ -26,14 +26,14 @@ impl Core {
     /// page changes, and no segment is given up.
     ///
     /// A page that is evicted is read back from all frames that touched it since it was last
-    /// written whole; behind this call it is read from one. So whoever evicts pages that many
+    /// written whole; after this call it is read from one. So whoever evicts pages that many
     /// flushes changed calls it first. A page that is named twice is written twice.
     ///
-    /// Refused `NoPage`, exactly where one of the numbers is no page's, before anything else; then
-    /// as `flush` is, but `NoSegment` only where no spare stands at all; then `NoMemory`; then as
-    /// `bw_care::rewrite` is. A refused step leaves the steps before it done: frames that were
-    /// appended stay and are durable, each with a cut at the end of the history. After a refusal
-    /// other than `Failed` and a failed append it may be called again.
+    /// Refused `NoPage`, exactly if one of the numbers is no page's, before anything else. Then it
+    /// is refused as `flush` is, but `NoSegment` only if no spare stands at all. Then it is refused
+    /// `NoMemory`, and then as `bw_care::rewrite` is. A refused step leaves the steps before it
+    /// done: frames that were appended stay and are durable, each with a cut at the end of the
+    /// history. After a refusal other than `Failed` and a failed append it may be called again.
     ///
     /// It costs what a flush and reading these pages cost, the bytes of the new frames, and a look
     /// at each page's line in memory.
@@ -57,7 +57,7 @@ impl Core {
         self.rewrite_pages(pages)
     }
 
-    // The pages, where nothing waits, and what the store notes of their frames.
+    // Rewrites the pages, if nothing waits, and what the store notes of their frames.
     fn rewrite_pages(&mut self, pages: &[u32]) -> Result<u64, StoreFault>
         requires sound { IsSound self.old holding }
         requires settled { IsSettled (kept_by self.old holding) }

@@ -1,7 +1,7 @@
 //! A walk over the pairs of all pages in the order of their keys.
 //!
 //! Pages are numbered as they were made, and their lows are in no order. So a walk goes from a
-//! key's page to the page with the next low, which a search among the lows tells.
+//! key's page to the page with the next low, which a search among the lows finds.
 
 ghost use Rattle.std.specs.Prelude.{◌≡◌, false, IfOk, IfErr, OnOk};
 ghost use Rattle.bw_leaf.specs.Above.{pair_above, pairs_above, with_some};
@@ -37,11 +37,11 @@ impl Core {
     }
 
     /// The pair with the least key at or above this one, as all records of the history leave it,
-    /// flushed or not, in memory or evicted; `None` behind the last pair. Pages that are evicted
-    /// are read from the log, and stay evicted.
+    /// flushed or not, in memory or evicted; `None` after the last pair. Pages that are evicted are
+    /// read from the log, and stay evicted.
     ///
-    /// It costs a search and a look at a page; and, where that page has no such pair, another
-    /// search and look for each page behind it that has none. Refused as `get` is.
+    /// It costs a search and a look at a page; and, if that page has no such pair, another search
+    /// and look for each page after it that has none. Refused as `get` is.
     pub fn next_at(&mut self, key: &Key) -> Result<Option<(Key, Value)>, StoreFault>
         requires { IsSound self.old holding }
         ensures value { IfOk result (λ pair. IsFirst (plain (kept_by self.old holding).start
@@ -90,11 +90,11 @@ impl Core {
 
     /// Puts the pairs at or above a key into `found`, as all records of the history leave them, in
     /// the order of keys and no more than so many. What stood in `found` is dropped before. A walk
-    /// goes on behind the last of them. Pages that are evicted are read from the log, and stay
+    /// goes on after the last of them. Pages that are evicted are read from the log, and stay
     /// evicted.
     ///
     /// It costs a search and a look for each page, and a copy of each pair. Refused as `get` is, or
-    /// `NoMemory` where `found` does not grow; it then has some of the pairs.
+    /// `NoMemory` if `found` does not grow; it then has some of the pairs.
     pub fn scan(
         &mut self,
         key: &Key,

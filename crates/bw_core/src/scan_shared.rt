@@ -48,7 +48,7 @@ impl Core {
     /// becomes of the page, and they stay in memory as long as it does.
     ///
     /// It costs a search and a look for each page, and a look at each pair. Refused as `scan` is;
-    /// `NoMemory` also where the count of those that share a pair is full.
+    /// `NoMemory` also if the count of those that share a pair is full.
     pub fn scan_shared(
         &mut self,
         key: &Key,

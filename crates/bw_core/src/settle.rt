@@ -1,6 +1,6 @@
 //! All that was accepted is taken and appended.
 //!
-//! Where a turn asks the rings again and again, a settling looks at each ring once, with both of
+//! While a turn asks the rings again and again, a settling looks at each ring once, with both of
 //! its ends at hand, and takes what it knows of then. A further look could show more, and nothing
 //! would bound the loop; and what the feeds had accepted at the call is what the caller may speak
 //! of. It goes lane by lane: no promise speaks of the order among writers.
@@ -28,11 +28,11 @@ impl Core {
     /// are those that `open` or `reopen` gave, all of them, in order.
     ///
     /// On Ok the segments hold, page for page, each accepted record exactly once: `Goal` has each
-    /// line of it. What was taken is flushed as `flush` does it, also where nothing waits: a log
-    /// that failed answers `Failed`, and one without a further number `Spent`. A refusal leaves
-    /// what a refused `turn` or `flush` leaves, and tells its cause; `settle` may be called again.
-    /// Whatever the answer is, the history has nothing but what the feeds accepted, in their order.
-    /// The time is that of a turn over what was accepted, and of a flush.
+    /// line of it. What was taken is flushed as `flush` does it, also if nothing waits: a log that
+    /// failed answers `Failed`, and one without a further number `Spent`. A refusal leaves what a
+    /// refused `turn` or `flush` leaves, and says its cause; `settle` may be called again. Whatever
+    /// the answer is, the history has nothing but what the feeds accepted, in their order. The time
+    /// is that of a turn over what was accepted, and of a flush.
     pub fn settle(&mut self, feeds: &mut Vec<Feed>) -> Result<u64, StoreFault>
         requires sound { IsSound self.old holding }
         requires feeds { map ring_of_feed feeds.old.items ≡ (kept_by self.old holding).rings }

@@ -1,15 +1,15 @@
 //! One group is taken from a lane, whole or not at all.
 //!
 //! A reader of the log must never see a part of a group, and no stop may leave one. So a group's
-//! blocks go into one frame: where they do not fit the frame in the making, that one is appended
+//! blocks go into one frame: if they do not fit the frame in the making, that one is appended
 //! first, and the group begins the next. And the group leaves its ring as the last thing of all:
 //! were it popped before its page is read or its frame appended, a refusal would lose it. All that
 //! can be refused (a read of an evicted page, a growth, an append) comes before; so whoever was
 //! refused finds the same group first in its ring, and may ask again.
 //!
 //! A record by itself is the common case, and nearly none splits its page: it is lent all the way
-//! down, and written where it belongs. Where its page is split, its blocks are planned first, by
-//! `plan`. Several records are planned one behind the other (`groups.rt`) before the first of them
+//! down, and written where it belongs. If its page is split, its blocks are planned first, by
+//! `plan`. Several records are planned one after the other (`groups.rt`) before the first of them
 //! changes a page.
 
 ghost use Rattle.std.specs.Prelude.{◌≡◌, ◌≤◌, ◌<◌, ◌∷◌, [], false, length, IsTrue, IfOk, IfErr, OnOk, MatchResult};
@@ -50,8 +50,8 @@ impl Core {
         self.take_looked(lane)
     }
 
-    // The same, by a look at its ring. A group has the room of four records, which is made and moved
-    // only where there are more than one.
+    // Takes the next group of a lane after a look at its ring. A group has the room of four
+    // records, which is made and moved only if there are more than one.
     fn take_looked(&mut self, lane: usize) -> Result<Option<u64>, StoreFault>
         requires there { HasLane lane self.old holding }
         ensures takes { TakesAny lane self.old result self.new holding }
@@ -68,7 +68,8 @@ impl Core {
         self.take_several(lane)
     }
 
-    // The same, where the lane knows of a group, which may have more than one record.
+    // Takes the next group of a lane, which the lane knows of and which may have more than one
+    // record; answers how many it has.
     fn take_several(&mut self, lane: usize) -> Result<Option<u64>, StoreFault>
         requires waits { Waits lane self.old holding }
         ensures takes { TakesAny lane self.old result self.new holding }
@@ -95,7 +96,8 @@ impl Core {
         self.take_first(lane)
     }
 
-    // The same, where more than one record may wait as a group.
+    // Takes the next group of a lane, which the lane knows of and which may have more than one
+    // record.
     fn take_first(&mut self, lane: usize) -> Result<(), StoreFault>
         requires waits { Waits lane self.old holding }
         ensures takes { TakesWaiting lane self.old result self.new holding }
@@ -131,7 +133,7 @@ impl Core {
         self.take_here(lane, item, page)
     }
 
-    // The same, where the page at which it is directed is in memory.
+    // Takes a group of this one record, if the page at which it is directed is in memory.
     fn take_here(&mut self, lane: usize, item: &Record, page: u32) -> Result<(), StoreFault>
         requires comes { Comes lane (item.now ∷ []) self.old holding }
         requires at { IsAt page item.now self.old }
@@ -146,9 +148,9 @@ impl Core {
         self.take_delta(lane, item, page, found)
     }
 
-    // The same, where the record does not split that page, and the search for its key there ended
-    // so: no block is made of it, and it is moved nowhere. A frame that is appended changes no page,
-    // so the place stays right behind it.
+    // Takes a group of this one record, if it does not split its page, and the search for its key
+    // there ended so: no block is made of it, and it is moved nowhere. A frame that is appended
+    // changes no page, so the place is still the right one after it.
     fn take_delta(
         &mut self,
         lane: usize,
@@ -175,7 +177,7 @@ impl Core {
         self.enter_delta(lane, item, page, found)
     }
 
-    // The same, where it does: its blocks are planned.
+    // Takes a group of this one record, if it splits its page: its blocks are planned.
     fn take_split(&mut self, lane: usize, item: &Record, page: u32) -> Result<(), StoreFault>
         requires comes { Comes lane (item.now ∷ []) self.old holding }
         requires at { IsAt page item.now self.old }
@@ -209,8 +211,8 @@ impl Core {
         }
     }
 
-    // The same, where the frame in the making has no room for all of the group: it is appended
-    // first.
+    // Takes a group of several records, if the frame in the making has no room for all of it: that
+    // frame is appended first.
     fn take_behind(
         &mut self,
         lane: usize,
@@ -234,7 +236,7 @@ impl Core {
         }
     }
 
-    // Whether a lane has a group to give, where need be by a look at its ring.
+    // Whether a lane has a group to give, if need be by a look at its ring.
     fn look(&mut self, lane: usize) -> bool
         requires { lane < length self.old.intake.lanes.items }
         ensures same { kept_by self.new holding ≡ kept_by self.old holding }
@@ -263,7 +265,7 @@ impl Core {
         }
     }
 
-    // What a record of this page adds, where there is a frame for it.
+    // What a record of this page adds, if there is a frame for it.
     fn plan(&self, page: u32, item: &Record) -> Result<Plan, StoreFault>
         requires sound { IsSound self.now holding }
         requires at { IsAt page item.now self.now }

@@ -21,8 +21,8 @@ impl Core {
     /// feeds are those that `open` or `reopen` gave, all of them, in order.
     ///
     /// Nothing is flushed but a frame that is full, before a group that does not fit: what was
-    /// taken is kept by the next `flush` or `settle`. Where nothing waits nothing is done, and
-    /// nothing refused. A refusal leaves what a refused `turn` leaves, and tells its cause. Whatever
+    /// taken is kept by the next `flush` or `settle`. If nothing waits, nothing is done, and
+    /// nothing refused. A refusal leaves what a refused `turn` leaves, and says its cause. Whatever
     /// the answer is, the history has nothing but what the feeds accepted, in their order.
     pub fn take_all(&mut self, feeds: &mut Vec<Feed>) -> Result<u64, StoreFault>
         requires sound { IsSound self.old holding }

@@ -24,13 +24,13 @@ impl Core {
     /// Gives up all live segments of format 1: what waits is flushed, then each page that was last
     /// set in one of them is written again in format 2, and their boxes are dropped, oldest first.
     ///
-    /// Refused `NothingOld`, exactly where no live segment has format 1, before anything else; then
-    /// as `flush` is, but `NoSegment` only where no spare stands at all; then `NoMemory`; then as
-    /// the upgrade of `bw_care` is. A refused step leaves the steps before it done: frames that
-    /// were appended stay and are durable, each with a cut at the end of the history, and no box is
-    /// dropped. After a refusal other than `Failed` and a failed append it may be called again: it
-    /// does not write a page again that stands in a segment of format 2 by then. So where the
-    /// spares run out (`NoSegment`), `add_segment` and a second call go on.
+    /// Refused `NothingOld`, exactly if no live segment has format 1, before anything else. Then it
+    /// is refused as `flush` is, but `NoSegment` only if no spare stands at all. Then it is refused
+    /// `NoMemory`, and then as the upgrade of `bw_care` is. A refused step leaves the steps before
+    /// it done: frames that were appended stay and are durable, each with a cut at the end of the
+    /// history, and no box is dropped. After a refusal other than `Failed` and a failed append it
+    /// may be called again: it does not write a page again that stands in a segment of format 2 by
+    /// then. So if the spares run out (`NoSegment`), `add_segment` and a second call go on.
     ///
     /// It costs what a flush and `bw_care::upgrade` cost, and a look at each page's line in memory.
     pub fn upgrade(&mut self) -> Result<Upgraded, StoreFault>
@@ -43,7 +43,7 @@ impl Core {
             ↔ (old_segments (kept_by self.old holding).log ≡ 0) }
         ensures none_left { IfOk result (λ _. old_segments (kept_by self.new holding).log ≡ 0) }
 
-        // The floor is what is durable once segments are given up, and stays else.
+        // The floor is what is durable once segments are given up, and otherwise stays.
         ensures floor { HasFloorBut (kept_by self.old holding) result (kept_by self.new holding) }
 
         ensures follows { Continues (kept_by self.old holding) (kept_by self.new holding) }
@@ -72,7 +72,7 @@ impl Core {
         old_segments(&self.log)
     }
 
-    // The upgrade, where nothing waits, and what is counted of it.
+    // The upgrade, if nothing waits, and what is counted of it.
     fn upgrade_counted(&mut self) -> Result<Upgraded, StoreFault>
         requires ready { MayMove self.old holding }
         requires some { 1 ≤ old_segments (kept_by self.old holding).log }
@@ -96,7 +96,7 @@ impl Core {
         moved
     }
 
-    // The upgrade, where nothing waits, and what the store notes of its frames.
+    // The upgrade, if nothing waits, and what the store notes of its frames.
     fn upgrade_pages(&mut self) -> Result<Upgraded, StoreFault>
         requires ready { MayMove self.old holding }
         requires some { 1 ≤ old_segments (kept_by self.old holding).log }

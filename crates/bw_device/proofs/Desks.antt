@@ -14,7 +14,7 @@ out_count_le [] = omega arith
 out_count_le (true ∷ slots) = omega (arith, out_count_le slots)
 out_count_le (false ∷ slots) = omega (arith, out_count_le slots)
 
--- where a number that is out becomes free, one less is out
+-- if a number that is out becomes free, one less is out
 pub out_count-set : (slots : List Bool) (i : ℕ) (d : Bool) → i < length slots → get_or slots i d ≡ true
     → out_count (set slots i false) + 1 ≡ out_count slots
 out_count-set [] i d lt out = absurd (omega (arith, lt))
@@ -23,12 +23,12 @@ out_count-set (false ∷ slots) zero d lt out = cc
 out_count-set (true ∷ slots) (suc i) d lt out = omega (arith, out_count-set slots i d (omega arith) out)
 out_count-set (false ∷ slots) (suc i) d lt out = omega (arith, out_count-set slots i d (omega arith) out)
 
--- where nothing changes, no number is added
+-- if nothing changes, no number is added
 pub only_frees_none : (slots : List Bool) → OnlyFrees slots slots
 only_frees_none [] = tt
 only_frees_none (p ∷ slots) = (λ e. e, only_frees_none slots)
 
--- nor where one more becomes free
+-- nor if one more becomes free
 pub only_frees_one_more : (old new : List Bool) (i : ℕ) → OnlyFrees old new → OnlyFrees old (set new i false)
 only_frees_one_more [] [] i f = tt
 only_frees_one_more (a ∷ old) (b ∷ new) zero f = (λ e. cc, f.1)
@@ -48,14 +48,14 @@ pub position_is_some : {X : Type 0} (items slots : List (Option X)) (flags : Lis
 position_is_some items slots flags same seen =
     let e = position_len slots in let f = length-map slots is_some in cc
 
--- where as many are out from the front on as there are, each is out
+-- if as many are out from the front on as there are, each is out
 all_out_len : (slots : List Bool) → length slots ≤ prefix_len (λ p. not (not p)) slots → (k : ℕ) (d : Bool) → k < length slots → get_or slots k d ≡ true
 all_out_len [] le k d lt = absurd (omega (arith, lt))
 all_out_len (true ∷ slots) le zero d lt = refl
 all_out_len (true ∷ slots) le (suc k) d lt = all_out_len slots (omega arith) k d (omega arith)
 all_out_len (false ∷ slots) le k d lt = absurd (omega arith)
 
--- where no number is free, all are out
+-- if no number is free, all are out
 pub all_out : (slots : List Bool) → position not slots ≡ None → All IsTrue slots
 all_out slots e = elim (ltb (prefix_len (λ p. not (not p)) slots) (length slots)) as
     (λ b. ltb (prefix_len (λ p. not (not p)) slots) (length slots) ≡ b → cond b (Some (prefix_len (λ p. not (not p)) slots)) None ≡ None
@@ -64,7 +64,7 @@ all_out slots e = elim (ltb (prefix_len (λ p. not (not p)) slots) (length slots
       | false ↦ λ t n. all_out_len slots (ltb-false _ _ t)
     ] refl e
 
--- where a number is free, not all are out
+-- if a number is free, not all are out
 pub not_all_out : (slots : List Bool) (i : ℕ) → position not slots ≡ Some i → All IsTrue slots → ⊥
 not_all_out slots i e all =
     let free = position-Some not slots i true e in
@@ -77,7 +77,7 @@ pub first_free : {X : Type 0} (items slots : List (Option X)) (flags : List Bool
     → r ≡ position (λ p. not (is_some p)) items → position not flags ≡ r
 first_free items slots flags r same seen found = sym (found ∙ position_is_some items slots flags same seen)
 
--- where a slot that had a lease is freed, one less is out
+-- if a slot that had a lease is freed, one less is out
 pub out_count-freed : {X : Type 0} (before after : List (Option X)) (i : ℕ) (slot : Option X) → i < length before → IsTrue (is_some (get_or before i slot))
     → after ≡ set before i None → out_count (map is_some after) + 1 ≡ out_count (map is_some before)
 out_count-freed before after i slot lt out after_is =

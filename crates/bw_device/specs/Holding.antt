@@ -16,7 +16,7 @@ appended old piece = record old { bytes = old.bytes ++ piece }
 abbrev pub failed_once : Holding → Holding
 failed_once old = record old { failed = old.failed + 1 }
 
--- an append failed that added the first n bytes of its piece, or all where it has no more
+-- an append failed that added the first n bytes of its piece, or all if it has no more
 abbrev pub torn_at : ℕ → Holding → List ℕ → Holding
 torn_at n old piece = record old { bytes = old.bytes ++ take n piece; failed = old.failed + 1 }
 

@@ -24,7 +24,7 @@ impl DeadSegment {
     /// The first `calls` appends and reads pass, and all later ones fail; the count of failures
     /// begins at `failures`.
     ///
-    /// An append that fails keeps the first `keep` bytes of its piece, or all where the piece has no
+    /// An append that fails keeps the first `keep` bytes of its piece, or all if the piece has no
     /// more.
     pub fn new(inner: MemSegment, calls: u64, keep: u64, failures: u64) -> DeadSegment
         ensures holding { dead_holding result
@@ -47,7 +47,7 @@ impl Segment for DeadSegment {
 
     ghost holding = { dead_holding };
 
-    /// Adds the piece, without memory. It fails exactly where no passes are left.
+    /// Adds the piece, without memory. It fails exactly if no passes are left.
     fn append(&mut self, piece: &[u8]) -> Result<(), Fault>
         requires fits { length (dead_holding self.old).bytes + length piece.now ≤
             (dead_holding self.old).room }
@@ -71,7 +71,7 @@ impl Segment for DeadSegment {
         Err(Fault)
     }
 
-    /// Fills the slice with the held bytes from `at` on, without memory. It fails exactly where no
+    /// Fills the slice with the held bytes from `at` on, without memory. It fails exactly if no
     /// passes are left, and then leaves the slice as it was.
     fn read(&mut self, at: u64, out: &mut [u8]) -> Result<(), Fault>
         requires within { at + length out.old ≤ length (dead_holding self.old).bytes }

@@ -20,8 +20,8 @@ impl FuseSegment {
 
     /// The first `calls` appends and reads pass, the next one fails, and all later ones pass.
     ///
-    /// If it is an append that fails, it keeps the first `keep` bytes of its piece, or all where
-    /// the piece has no more.
+    /// If it is an append that fails, it keeps the first `keep` bytes of its piece, or all if the
+    /// piece has no more.
     pub fn new(inner: MemSegment, calls: u64, keep: u64) -> FuseSegment
         ensures holding { fuse_holding result ≡ memory_holding inner }
         ensures passes_left { passes_left result ≡ Some calls }
@@ -59,7 +59,7 @@ impl Segment for FuseSegment {
 
     ghost holding = { fuse_holding };
 
-    /// Adds the piece, without memory. It fails exactly where no passes are left.
+    /// Adds the piece, without memory. It fails exactly if no passes are left.
     fn append(&mut self, piece: &[u8]) -> Result<(), Fault>
         requires fits { length (fuse_holding self.old).bytes + length piece.now ≤
             (fuse_holding self.old).room }
@@ -80,7 +80,7 @@ impl Segment for FuseSegment {
         Err(Fault)
     }
 
-    /// Fills the slice with the held bytes from `at` on, without memory. It fails exactly where no
+    /// Fills the slice with the held bytes from `at` on, without memory. It fails exactly if no
     /// passes are left, and then leaves the slice as it was.
     fn read(&mut self, at: u64, out: &mut [u8]) -> Result<(), Fault>
         requires within { at + length out.old ≤ length (fuse_holding self.old).bytes }

@@ -99,7 +99,7 @@ impl MemSegment {
         }
     }
 
-    // Adds the first `keep` bytes of the piece, or all where it has no more: what a failing append
+    // Adds the first `keep` bytes of the piece, or all if it has no more: what a failing append
     // leaves of it.
     pub(crate) fn add_first(&mut self, keep: u64, piece: &[u8])
         requires { length (memory_holding self.old).bytes + length piece.now ≤

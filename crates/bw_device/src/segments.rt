@@ -17,8 +17,8 @@ pub struct Fault;
 pub trait Segment: Send + Drop {
     ghost holding: { Self → Holding };
 
-    /// Adds the piece, for which there has to be room. Where it fails, some beginning of the piece
-    /// was added, maybe all of it.
+    /// Adds the piece, for which there has to be room. If it fails, some beginning of the piece was
+    /// added, maybe all of it.
     fn append(&mut self, piece: &[u8]) -> Result<(), Fault>
         requires fits { length (holding self.old).bytes + length piece.now ≤
             (holding self.old).room }
@@ -27,7 +27,7 @@ pub trait Segment: Send + Drop {
             (λ _. holding self.new ≡ appended (holding self.old) piece.now)
             (λ _. IsTorn (holding self.old) piece.now (holding self.new)) };
 
-    /// Fills the slice with the held bytes from offset `at` on. Where it fails, what it left in the
+    /// Fills the slice with the held bytes from offset `at` on. If it fails, what it left in the
     /// slice is open.
     fn read(&mut self, at: u64, out: &mut [u8]) -> Result<(), Fault>
         requires within { at + length out.old ≤ length (holding self.old).bytes }

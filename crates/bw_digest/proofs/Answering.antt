@@ -9,12 +9,12 @@ use Rattle.bw_digest.specs.Checked.{checked, IsAnswer}
 use Rattle.bw_digest.specs.declared.row.Row.{Row}
 use Rattle.bw_digest.specs.declared.sum.Sum.{Sum}
 
--- the sums up to the first misfit, where there is one
+-- the sums up to the first misfit, if there is one
 data Verdict (bytes : List ℕ) (row : Reach) (ss : List Sum) : Type 0 where
   sound : Fits bytes row ss → checked bytes row ss ≡ Ok (with_all row ss) → Verdict bytes row ss
   damaged : (at : ℕ) → IsDamagedAt bytes row ss at → (Fits bytes row ss → ⊥) → checked bytes row ss ≡ Err at → Verdict bytes row ss
 
--- behind a piece that fits
+-- after a piece that fits
 behind : (bytes : List ℕ) (row : Reach) (s : Sum) (ss : List Sum) → digest (piece_to bytes row s.end) ≡ s.digest → Verdict bytes (after row s) ss →
     Verdict bytes row (s ∷ ss)
 behind bytes row s ss same (sound fits is) = sound (same, fits) (rw (eq-eqb _ _ same) is)

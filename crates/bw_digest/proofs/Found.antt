@@ -16,7 +16,7 @@ by_test false P tells = inr (λ p. (let e = tells.1 p in grind (arith, e)))
 alike : (a b : List ℕ) → (a ≡ b) ⊎ (a ≡ b → ⊥)
 alike a b = by_test (bytes_eq a b) (a ≡ b) (bytes_eq-Decides a b)
 
--- the first piece and those behind it
+-- the first piece and those after it
 joined : (bytes p more : List ℕ) (from : ℕ) → take (length p) (drop from bytes) ≡ p → take (length more) (drop (from + length p) bytes) ≡ more →
     take (length (p ++ more)) (drop from bytes) ≡ p ++ more
 joined bytes p more from first later =

@@ -16,7 +16,7 @@ pub mark_fits : (before end d : ℕ) → mark_of before end d < 2 ^ 64
 unfolding mark_of
 mark_fits before end d = digest_fits _
 
--- behind a part of this length
+-- after a part of this length
 pub drop_exact : (n : ℕ) (xs ys : List ℕ) → length xs ≡ n → drop n (xs ++ ys) ≡ ys
 drop_exact n xs ys is = subst (λ k. drop k (xs ++ ys) ≡ ys) is (drop-append_seam xs ys)
 
@@ -26,7 +26,7 @@ take_exact n xs ys is = subst (λ k. take k (xs ++ ys) ≡ xs) is (take-append_s
 eight : (x : ℕ) → length (little_bytes 8 x) ≡ 8
 eight x = length-bytes_low_first 0 8 x
 
--- the three numbers one behind the other
+-- the three numbers one after the other
 parted : (e d m : ℕ) (rest : List ℕ) → three e d m ++ rest ≡ little_bytes 8 e ++ (little_bytes 8 d ++ (little_bytes 8 m ++ rest))
 parted e d m rest =
     append_assoc (little_bytes 8 e ++ little_bytes 8 d) (little_bytes 8 m) rest ∙ append_assoc (little_bytes 8 e) (little_bytes 8 d) (little_bytes 8 m ++ rest)
@@ -62,6 +62,6 @@ pub read_back : (s : Sum) (rest : List ℕ) → s.end < 2 ^ 64 → s.digest < 2 
 read_back s rest p q r =
     same_sum _ _ _ s.end s.digest s.mark (first_back s.end s.digest s.mark rest p) (second_back s.end s.digest s.mark rest q) (third_back s.end s.digest s.mark rest r)
 
--- what stands behind it
+-- what stands after it
 pub behind_sum : (s : Sum) (rest : List ℕ) → drop 24 (sum_bytes s ++ rest) ≡ rest
 behind_sum s rest = drop_exact 24 (sum_bytes s) rest (length_three s.end s.digest s.mark)

@@ -53,7 +53,7 @@ at_a_misfit bytes sums n k row s all is next other ahead =
     subst (λ (t : Sum). nat_eq (digest (piece_to bytes row t.end)) t.digest ≡ false) here (ne_eqb _ _ other) in
     sym ahead ∙ ap (checked bytes row) (goes_on (suc n) n (length bytes) row (drop k sums) refl its_next) ∙ stops bytes row (sum_in (drop k sums)) _ its_other
 
--- it goes on behind a piece that fits
+-- it goes on after a piece that fits
 pub over_a_piece : (bytes sums : List ℕ) (n k : ℕ) (row new : Reach) (s : Sum) (all : Result Reach ℕ) → s ≡ sum_in (take (length sums - k) (drop k sums)) →
     follows (length bytes) row s ≡ true → digest (piece_to bytes row s.end) ≡ s.digest → new ≡ after row s →
     checked bytes row (standing (suc n) (length bytes) row (drop k sums)) ≡ all →
@@ -68,14 +68,14 @@ over_a_piece bytes sums n k row new s all is next same comes ahead =
     ∙ sym (steps bytes row (sum_in (drop k sums)) _ its_same)
     ∙ sym (ap (checked bytes row) (goes_on (suc n) n (length bytes) row (drop k sums) refl its_next)) ∙ ahead
 
--- the row that is told ends at a sum that does not follow
+-- the row that is answered ends at a sum that does not follow
 pub told_no_more : (sums : List ℕ) (n k len : ℕ) (row all : Reach) (s : Sum) → s ≡ sum_in (take (length sums - k) (drop k sums)) → follows len row s ≡ false →
     with_all row (standing n len row (drop k sums)) ≡ all → row ≡ all
 told_no_more sums n k len row all s is not ahead =
     let not_next : follows len row (sum_in (drop k sums)) ≡ false = subst (λ t. follows len row t ≡ false) (read_there sums k s is) not in
     sym (ap (with_all row) (ended n len row (drop k sums) not_next)) ∙ ahead
 
--- it goes on behind one that does
+-- it goes on after one that does
 pub told_one_more : (sums : List ℕ) (n k len : ℕ) (row new all : Reach) (s : Sum) → s ≡ sum_in (take (length sums - k) (drop k sums)) → follows len row s ≡ true →
     new ≡ after row s → with_all row (standing (suc n) len row (drop k sums)) ≡ all → with_all new (standing n len new (drop 24 (drop k sums))) ≡ all
 told_one_more sums n k len row new all s is next comes ahead =

@@ -13,7 +13,7 @@ use Rattle.bw_digest.proofs.ReadBack.{digest_fits, mark_fits, drop_exact, take_e
 moved : (before p more tail : List ℕ) → before ++ ((p ++ more) ++ tail) ≡ (before ++ p) ++ (more ++ tail)
 moved before p more tail = ap (λ l. before ++ l) (append_assoc p more tail) ∙ sym (append_assoc before p (more ++ tail))
 
--- it stands behind the row
+-- it stands after the row
 piece_is : (row : Reach) (before p more tail : List ℕ) → length before ≡ row.end →
     piece_to (before ++ ((p ++ more) ++ tail)) row (row.end + length p) ≡ p
 piece_is row before p more tail is =
@@ -42,7 +42,7 @@ next row p rest fits = read_back (sum_of row p) rest fits (digest_fits p) (mark_
 follows_there : (len : ℕ) (row : Reach) (p : List ℕ) → 1 ≤ length p → row.end + length p ≤ len → follows len row (sum_of row p) ≡ true
 follows_there len row p some inside = grind (arith, common_steps)
 
--- behind n sums that count nothing does
+-- after n sums that count nothing does
 nothing : (m len : ℕ) (row : Reach) (left : List ℕ) → (m ≡ 0) ⊎ (follows len row (sum_in left) ≡ false) → standing m len row left ≡ []
 nothing m len row left (inl none) = rw none refl
 nothing m len row left (inr stops) = ended m len row left stops
@@ -68,7 +68,7 @@ all_count (p ∷ ps) n m len row left many inside written stops =
     ∙ ap (λ l. s ∷ standing (length ps + m) len (after row s) l) (behind_sum s rest)
     ∙ ap (λ l. s ∷ l) later
 
--- so many sums stand in their bytes and what is left behind them
+-- so many sums stand in their bytes and what is left after them
 length_row : (ps : List (List ℕ)) (row : Reach) → length (row_bytes (sums_of row ps)) ≡ 24 * length ps
 length_row [] row = refl
 length_row (p ∷ ps) row =
@@ -107,7 +107,7 @@ its_last (p ∷ ps) row =
     let long = length-append p (bytes_of ps) in
     omega (arith, later, long)
 
--- the sums that are told are those that were written
+-- the sums that are answered are those that were written
 all_told : (ps : List (List ℕ)) (left : List ℕ) → AreWritten 0 ps → NothingFollows (with_all no_sums (sums_of no_sums ps)) left →
     sums_in (2 ^ 64 - 1) (row_bytes (sums_of no_sums ps) ++ left) ≡ sums_of no_sums ps
 all_told ps left written stops =

@@ -9,7 +9,7 @@ abbrev pub bytes_of : List (List ℕ) → List ℕ
 bytes_of [] = []
 bytes_of (p ∷ ps) = p ++ bytes_of ps
 
--- their sums, behind a row
+-- their sums, after a row
 abbrev pub sums_of : Reach → List (List ℕ) → List Sum
 sums_of row [] = []
 sums_of row (p ∷ ps) = sum_of row p ∷ sums_of (after row (sum_of row p)) ps
@@ -19,7 +19,7 @@ abbrev pub row_bytes : List Sum → List ℕ
 row_bytes [] = []
 row_bytes (s ∷ ss) = sum_bytes s ++ row_bytes ss
 
--- each has bytes, and all of them fit a file behind so many bytes
+-- each has bytes, and all of them fit a file after so many bytes
 abbrev pub AreWritten : ℕ → List (List ℕ) → Type 0
 AreWritten from [] = Unit {0}
 AreWritten from (p ∷ ps) = (1 ≤ length p) × (from + length p < 2 ^ 64) × AreWritten (from + length p) ps
@@ -28,8 +28,9 @@ AreWritten from (p ∷ ps) = (1 ≤ length p) × (from + length p < 2 ^ 64) × A
 abbrev pub NothingFollows : Reach → List ℕ → Type 0
 NothingFollows row left = (length left < 24) ⊎ ((len : ℕ) → follows len row (sum_in left) ≡ false)
 
--- Pieces were written, and then their sums: whatever stands behind these bytes, and whatever behind these sums that does not follow them,
--- these sums are those that count, the bytes fit them, and nothing is missing.
+-- Pieces were written, and then their sums: whatever stands after these bytes, and whatever after
+-- these sums that does not follow them, these sums are those that count, the bytes fit them, and
+-- nothing is missing.
 abbrev pub NoFalseAlarm : Type 0
 NoFalseAlarm = (ps : List (List ℕ)) (tail left : List ℕ) → AreWritten 0 ps →
     NothingFollows (with_all no_sums (sums_of no_sums ps)) left →

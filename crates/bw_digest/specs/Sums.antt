@@ -1,5 +1,6 @@
--- What a row of sums says of the bytes of a file. The file is cut into consecutive pieces; the sum of a piece tells where it ends and the
--- digest of its bytes, and has a mark by which it follows the sum before it.
+-- What a row of sums says of the bytes of a file. The file is cut into consecutive pieces; the sum
+-- of a piece says where it ends and the digest of its bytes, and has a mark by which it follows the
+-- sum before it.
 use Rattle.std.specs.Prelude.{◌≡◌, ◌≢◌, ℕ, zero, suc, ◌+◌, ◌-◌, ◌/◌, ◌==◌, ◌&&◌, ◌^◌, nat_lt, nat_le, if◌then◌else◌, Bool, List, [], ◌∷◌, ◌++◌, length, take, drop}
 use Rattle.byteorder.specs.Endian.{little_bytes, little_number}
 use Rattle.bw_digest.specs.Digest.{digest}
@@ -11,7 +12,7 @@ use Rattle.bw_digest.specs.declared.sum.Sum.{Sum}
 abbrev pub three : ℕ → ℕ → ℕ → List ℕ
 three a b c = little_bytes 8 a ++ little_bytes 8 b ++ little_bytes 8 c
 
--- the mark of a sum behind one of this mark
+-- the mark of a sum after one of this mark
 unfoldable pub mark_of : ℕ → ℕ → ℕ → ℕ
 mark_of before end digested = digest (three before end digested)
 
@@ -39,17 +40,18 @@ no_sums = record { count = 0; end = 0; mark = 0 }
 abbrev pub after : Reach → Sum → Reach
 after row s = record { count = row.count + 1; end = s.end; mark = s.mark }
 
--- the bytes behind the row's pieces, up to an end
+-- the bytes after the row's pieces, up to an end
 abbrev pub piece_to : List ℕ → Reach → ℕ → List ℕ
 piece_to bytes row end = take (end - row.end) (drop row.end bytes)
 
--- the sum of this piece, behind a row
+-- the sum of this piece, after a row
 abbrev pub sum_of : Reach → List ℕ → Sum
 sum_of row piece = record { end = row.end + length piece; digest = digest piece; mark = mark_of row.mark (row.end + length piece) (digest piece) }
 
 -- ---- what counts of a row that a crash may have left
 
--- in a file of this length a sum follows a row: its piece has bytes that all are there, and its mark is the one behind the row's
+-- in a file of this length a sum follows a row: its piece has bytes that all are there, and its
+-- mark is the one after the row's
 abbrev pub follows : ℕ → Reach → Sum → Bool
 follows len row s = nat_lt row.end s.end && nat_le s.end len && s.mark == mark_of row.mark s.end s.digest
 
@@ -68,7 +70,8 @@ abbrev pub with_all : Reach → List Sum → Reach
 with_all row [] = row
 with_all row (s ∷ ss) = with_all (after row s) ss
 
--- where the last piece ends of which a file of sums tells: a sum is not asked whether its piece is there
+-- where the last piece ends of which a file of sums speaks: a sum is not asked whether its piece is
+-- there
 abbrev pub told_end : List ℕ → ℕ
 told_end sums = (with_all no_sums (sums_in (2 ^ 64 - 1) sums)).end
 
@@ -79,7 +82,7 @@ abbrev pub Fits : List ℕ → Reach → List Sum → Type 0
 Fits bytes row [] = Unit {0}
 Fits bytes row (s ∷ ss) = (digest (piece_to bytes row s.end) ≡ s.digest) × Fits bytes (after row s) ss
 
--- behind a row, the first piece that has not its digest begins here
+-- after a row, the first piece that has not its digest begins here
 pub record IsDamagedAt (bytes : List ℕ) (row : Reach) (sums : List Sum) (at : ℕ) : Type 0 where
   pub before : List Sum
   pub its : Sum

@@ -9,7 +9,7 @@ use byteorder::{ByteOrder, LittleEndian};
 /// How many bytes a sum has.
 pub const SUM_LEN: usize = 24;
 
-/// What is told of a piece of a file.
+/// What is said of a piece of a file.
 #[derive(Clone, Copy, Debug, PartialEq, Eq)]
 pub struct Sum {
     /// Where it ends in the file, in bytes.
@@ -32,7 +32,7 @@ fn three_in(a: u64, b: u64, c: u64) -> [u8; SUM_LEN]
     cells
 }
 
-/// The mark of a sum behind one of this mark.
+/// The mark of a sum after one of this mark.
 #[tactic(auto, unfolding(crate::specs::Sums::mark_of))]
 pub(crate) fn mark(before: u64, end: u64, digest: u64) -> u64
     ensures { result ≡ mark_of before end digest }

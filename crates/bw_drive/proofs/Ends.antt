@@ -88,7 +88,7 @@ none_wrote old new scripts len e = (
 
 -- ---- all have ended
 
--- where no writer is left, all jobs are done
+-- if no writer is left, all jobs are done
 pub all_done : (jobs : List Job) (left : List Writer) (feeds : List Feed) (counts : List ℕ) (had : HaveEnded jobs (map job_of left) feeds counts)
     → length left ≡ 0 → had.done ≡ jobs
 all_done jobs [] feeds counts had none = sym (append-nil had.done) ∙ had.whole

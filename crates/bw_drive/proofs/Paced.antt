@@ -1,4 +1,4 @@
--- One turn more, with what the plan wants behind it.
+-- One turn more, with what the plan wants after it.
 
 use Rattle.std.proofs.Common.{◌≡◌, ℕ, suc, ◌+◌, inr, Bool, true, false, Result, Ok, Err, MatchResult, sym, subst, ap, ◌∙◌, arith}
 use Rattle.bw_terms.specs.declared.fault.StoreFault.{StoreFault}

@@ -31,7 +31,7 @@ gave_up : (a b : Kept) → Continues a b → roster b.log ≡ drop 1 (roster a.l
 gave_up a b f gone at =
     record { before = a; after = b; reached = stays a; gone = gone; cleaned = f; at = at; rest = stays b; floor = refl }
 
--- whether a segment was given up is told by the floor and by the row of boxes alike
+-- whether a segment was given up is shown by the floor and by the row of boxes alike
 refused_floor : (a b : Kept) (cause : StoreFault) → Continues a b → HasFloorAfter {A = Cleaned} 1 a (Err cause) b → (b.floor ≡ a.floor) ⊎ GaveUp a b
 refused_floor a b cause f (inl same) = inl same
 refused_floor a b cause f (inr up) = inr (gave_up a b f up.2 up.1)
@@ -99,11 +99,11 @@ stops_now n a b cause r = record { before = a; ran = runs_none n a; refused = r 
 pub stops_then : (n : ℕ) (a b c : Kept) (cause : StoreFault) → Runs n a b → StopsAfter n b cause c → StopsAfter n a cause c
 stops_then n a b c cause r s = record { before = s.before; ran = runs_then n a b s.before r s.ran; refused = s.refused }
 
--- a run, and a call behind it that keeps each box
+-- a run, and a call after it that keeps each box
 pub runs_kept : (n : ℕ) (a b c : Kept) → Runs n a b → Follows b c → HasBoxes b c → Runs n a c
 runs_kept n a b c r f k = runs_then n a b c r (kept_all n b c f k)
 
--- a run, and a settlement behind it that was refused
+-- a run, and a settlement after it that was refused
 pub stops_last : (n : ℕ) (lanes : List Lane) (away : ℕ → Bool) (a b c : Kept) (cause : StoreFault) → Runs n a b → SettleRefuses b lanes away cause c
     → Stops n a cause c
 stops_last n lanes away a b c cause r refused = inr (record { before = b; ran = r; refused = inr (inr (inr (lanes, away, refused))) })

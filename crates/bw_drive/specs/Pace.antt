@@ -17,7 +17,7 @@ pub record TurnedOnce (limit : ℕ) (old new : Kept) : Type 0 where
   pub took : TookInTurn records old new
   pub within : groups_since old new ≤ limit
 
--- a flush is due behind each so many turns, which are counted from 0
+-- a flush is due after each so many turns, which are counted from 0
 abbrev pub is_due : ℕ → ℕ → Bool
 is_due every turn = (turn + 1) % every == 0
 
@@ -25,7 +25,7 @@ abbrev pub Flushes : Kept → Kept → Type 0
 Flushes old new =
     (number : Option ℕ) × FlushAnswers (flush_refusal old) (Ok number) × FlushShows old (Ok number) new
 
--- a cleaning is due behind a flush where so many segments are live, or never
+-- a cleaning is due after a flush if so many segments are live, or never
 abbrev pub IsCleanDue : ℕ → Kept → Type 0
 IsCleanDue clean_at s = (1 ≤ clean_at) × (clean_at ≤ length s.log.live)
 
@@ -34,7 +34,7 @@ MayClean clean_at old new =
     ((IsCleanDue clean_at old → ⊥) × (new ≡ old))
     ⊎ (IsCleanDue clean_at old × ((cleaned : Cleaned) × CleanShows old (Ok cleaned) new))
 
--- a flush, and the cleaning that is due behind it
+-- a flush, and the cleaning that is due after it
 abbrev pub FlushesAndCleans : ℕ → Kept → Kept → Type 0
 FlushesAndCleans clean_at old new = (flushed : Kept) × Flushes old flushed × MayClean clean_at flushed new
 
@@ -53,19 +53,19 @@ Paces plan (suc n) old new =
 
 -- ---- the first refusal
 
--- the flush was refused, or the cleaning behind it
+-- the flush was refused, or the cleaning after it
 abbrev pub FlushOrCleanStops : ℕ → Kept → StoreFault → Kept → Type 0
 FlushOrCleanStops clean_at old cause new =
     (FlushAnswers (flush_refusal old) (Err cause) × FlushShows old (Err cause) new)
     ⊎ ((flushed : Kept) × Flushes old flushed × IsCleanDue clean_at flushed × CleanShows flushed (Err cause) new)
 
--- a turn was refused, or what is due behind it was
+-- a turn was refused, or what is due after it was
 abbrev pub TurnStops : Plan → Bool → Kept → StoreFault → Kept → Type 0
 TurnStops plan due old cause new =
     ((lanes : List Lane) × (away : ℕ → Bool) × RefusedAt old lanes away cause new)
     ⊎ ((due ≡ true) × ((turned : Kept) × TurnedOnce plan.limit old turned × FlushOrCleanStops plan.clean_at turned cause new))
 
--- so many turns went, and the one behind them was refused
+-- so many turns went, and the one after them was refused
 pub record PaceStops (plan : Plan) (most : ℕ) (old : Kept) (cause : StoreFault) (new : Kept) : Type 0 where
   pub turns : ℕ
   pub few : turns < most

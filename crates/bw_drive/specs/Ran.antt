@@ -16,7 +16,7 @@ pub record LosesSome (old new : Kept) : Type 0 where
   pub count : ℕ
   pub rest : roster new.log ≡ drop count (roster old.log)
 
--- where nothing is ever cleaned, each box is where it was in the row of all
+-- if nothing is ever cleaned, each box is where it was in the row of all
 abbrev pub Boxes : ℕ → Kept → Kept → Type 0
 Boxes zero old new = HasBoxes old new
 Boxes (suc n) old new = LosesSome old new
@@ -32,12 +32,12 @@ pub record GaveUp (old new : Kept) : Type 0 where
   pub rest : Continues after new
   pub floor : new.floor ≡ after.floor
 
--- where nothing is ever cleaned, the floor stays
+-- if nothing is ever cleaned, the floor stays
 abbrev pub Floors : ℕ → Kept → Kept → Type 0
 Floors zero old new = new.floor ≡ old.floor
 Floors (suc n) old new = (new.floor ≡ old.floor) ⊎ GaveUp old new
 
--- calls one after the other; segments are given up where so many are live, or never
+-- calls one after the other; segments are given up if so many are live, or never
 pub record Runs (clean_at : ℕ) (old new : Kept) : Type 0 where
   pub continues : Continues old new
   pub boxes : Boxes clean_at old new
@@ -49,7 +49,7 @@ pub record Runs (clean_at : ℕ) (old new : Kept) : Type 0 where
 abbrev pub FlushRefused : Kept → StoreFault → Kept → Type 0
 FlushRefused old cause new = FlushAnswers (flush_refusal old) (Err cause) × FlushShows old (Err cause) new
 
--- a cleaning is tried only where so many segments are live
+-- a cleaning is tried only if so many segments are live
 abbrev pub CleanRefused : ℕ → Kept → StoreFault → Kept → Type 0
 CleanRefused clean_at old cause new = (1 ≤ clean_at) × (clean_at ≤ length old.log.live) × CleanShows old (Err cause) new
 
@@ -65,6 +65,6 @@ pub record StopsAfter (clean_at : ℕ) (old : Kept) (cause : StoreFault) (new : 
   pub ran : Runs clean_at old before
   pub refused : CallRefused clean_at before cause new
 
--- not every writer could be started, and the store was left alone; or a call was refused
+-- not every writer could be started, and the store was left as it was; or a call was refused
 abbrev pub Stops : ℕ → Kept → StoreFault → Kept → Type 0
 Stops clean_at old cause new = ((cause ≡ NoMemory) × (new ≡ old)) ⊎ StopsAfter clean_at old cause new

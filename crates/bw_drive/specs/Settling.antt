@@ -1,4 +1,4 @@
--- What the last settle leaves where it answered Ok.
+-- What the last settle leaves if it answered Ok.
 
 use Rattle.std.specs.Prelude.{ℕ, ◌≡◌, ◌<◌, Some, List, length, map}
 use Rattle.std.specs.List.{AllByRecursion}

@@ -53,6 +53,6 @@ pub record Wrote (old : List Feed) (scripts : List (Vec (List Record) Global)) (
   pub accepted : map accepted new ≡ after_scripts (map accepted old) (texts scripts) counts
   pub within : AreWithin (texts scripts) counts
 
--- the same, whatever the numbers
+-- the feeds, and in each of them the first records of its script, whatever their numbers
 abbrev pub WroteSome : List Feed → List (Vec (List Record) Global) → List Feed → Type 0
 WroteSome old scripts new = (counts : List ℕ) × Wrote old scripts counts new

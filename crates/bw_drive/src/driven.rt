@@ -11,7 +11,7 @@ pub struct Driven {
     /// Those that were handed in, in order.
     pub feeds: Vec<Feed>,
     /// How many records of each script were accepted: those of its first groups. A writer that used
-    /// up its tries for one group put none behind it.
+    /// up its tries for one group put none after it.
     pub accepted: Vec<u64>,
     /// The length of the history.
     pub entries: u64,
@@ -23,7 +23,7 @@ pub struct Driven {
 pub struct DriveFault {
     /// Those that were handed in, in order, each with some first groups of its script.
     pub feeds: Vec<Feed>,
-    /// The first refusal; `NoMemory` also where a thread could not be made.
+    /// The first refusal; `NoMemory` also if a thread could not be made.
     pub cause: StoreFault,
 }
 

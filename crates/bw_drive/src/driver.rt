@@ -119,7 +119,7 @@ fn run_writers<'s, E, R: Threads + Wait, G: Gate>(
     }
 }
 
-// Settles where nothing was refused. What the run was before it, is what both are from its start.
+// Settles if nothing was refused. What the run was before it, is what both are from its start.
 fn finish<R: Wait, G: Gate>(
     rt: &R,
     store: &mut Store,
@@ -170,9 +170,9 @@ fn finish<R: Wait, G: Gate>(
 /// `open` or `reopen` gave, all of them, in order, and script w is writer w's.
 ///
 /// A writer tries each group until its feed accepts it, at most `max_turns` times, between
-/// `gate.before` and `gate.after`; where these tries are used up it ends. The caller's thread turns
-/// at most `max_turns` times, and then waits for the writers. Behind each flush and the last settle
-/// it tells `gate.durable` how many records of each writer are durable.
+/// `gate.before` and `gate.after`; if these tries are used up, it ends. The caller's thread turns
+/// at most `max_turns` times, and then waits for the writers. After each flush and the last settle
+/// it says to `gate.durable` how many records of each writer are durable.
 ///
 /// The first refusal ends the run, and is the cause: memory or a thread that cannot be had before
 /// the store is turned (`NoMemory`), a turn, a flush, a cleaning, or the last settle. Nothing is

@@ -1,4 +1,4 @@
-//! What the caller's thread and the writers tell each other.
+//! What the caller's thread and the writers say to each other.
 
 ghost use Rattle.std.specs.Prelude.{◌≡◌};
 

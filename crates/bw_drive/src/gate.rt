@@ -4,15 +4,16 @@ use std::alloc::{AllocError, Global};
 use std::sync::atomic::{AtomicBool, AtomicU64, Ordering};
 use std::thread;
 
-/// Is told of each group before the first of its puts and after the last, in its writer's thread.
-/// Writers and groups are numbered from 0.
+/// Is called for each group before the first of its puts and after the last, in its writer's
+/// thread. Writers and groups are numbered from 0.
 pub trait Gate: Sync {
     fn before(&self, writer: usize, index: u64);
 
     fn after(&self, writer: usize, index: u64);
 
-    /// Is told in the store's thread, behind each flush and behind the last settle, how many records
-    /// of the writer are durable: `Store::durable_of`. So a writer may answer its own client.
+    /// Is called in the store's thread, after each flush and after the last settle, with how many
+    /// records of the writer are durable: `Store::durable_of`. So a writer may answer its own
+    /// client.
     fn durable(&self, _writer: usize, _count: u64) {}
 }
 
@@ -26,7 +27,7 @@ impl Gate for OpenGate {
     fn after(&self, _writer: usize, _index: u64) {}
 }
 
-/// Tells whether all writers ran at once. No clause speaks of it: another thread may change a flag
+/// Says whether all writers ran at once. No clause speaks of it: another thread may change a flag
 /// at any time.
 #[derive(Drop)]
 pub struct MeetGate {

@@ -2,8 +2,8 @@
 //! leaves, and each feed accepted a beginning of its script.
 //!
 //! `drive` starts a thread for each writer, and its caller's thread owns the store meanwhile: it
-//! turns, flushes and cleans until they have ended. Writers and store meet in the rings alone. The
-//! flags by which the writers are told to stop, and tell that they have ended, are in no proof:
+//! turns, flushes and cleans until they have ended. Writers and store meet only in the rings. The
+//! flags that ask the writers to stop, and by which they say that they have ended, are in no proof:
 //! what holds, holds whenever anybody looks at them.
 //!
 //! That is enough, since a ring keeps what was put into it whatever its other end does, and the

@@ -22,7 +22,7 @@ impl Pace {
         Pace { turns: 0 }
     }
 
-    /// A turn. Where it took nothing, another thread may go first.
+    /// A turn. If it took nothing, another thread may go first.
     pub(crate) fn turn(&mut self, store: &mut Store, limit: u32) -> Result<(), StoreFault>
         requires few { self.old.turns < u64.MAX }
         requires sound { IsSound store.old holding }

@@ -7,8 +7,8 @@ pub struct Plan {
     pub limit: u32,
     /// A flush follows each so many turns, at least 1.
     pub flush_every: u32,
-    /// After a flush the oldest segment is given up where so many are live or more; 0 for never.
+    /// After a flush the oldest segment is given up if so many are live or more; 0 for never.
     pub clean_at: u32,
-    /// Whether the history leaves memory behind each flush, as far as readers have it.
+    /// Whether the history leaves memory after each flush, as far as readers have it.
     pub forgets: bool,
 }

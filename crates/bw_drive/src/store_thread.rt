@@ -13,7 +13,7 @@ use crate::plan::Plan;
 use bw_store::{Store, StoreFault};
 use std::sync::Wait;
 
-// Flushes, and cleans where many segments are live.
+// Flushes, and cleans if many segments are live.
 fn flush_and_clean<R: Wait>(rt: &R, store: &mut Store, clean_at: u32) -> Result<(), StoreFault>
     requires { IsSound store.old holding }
     ensures sound { IsSound store.new holding }
@@ -33,7 +33,7 @@ fn flush_and_clean<R: Wait>(rt: &R, store: &mut Store, clean_at: u32) -> Result<
     Ok(())
 }
 
-// One turn, and what follows it where a flush is due.
+// One turn, and what follows it if a flush is due.
 fn turn_and_tend<R: Wait>(
     rt: &R,
     store: &mut Store,
@@ -61,8 +61,8 @@ fn turn_and_tend<R: Wait>(
     flush_and_clean(rt, store, plan.clean_at)
 }
 
-/// Tells each writer's gate how much of it is durable, and lets go of what readers have of the
-/// history where the plan wants it. A store has at most 64 writers.
+/// Says to each writer's gate how much of it is durable, and lets go of what readers have of the
+/// history if the plan wants it. A store has at most 64 writers.
 pub(crate) fn tell<G: Gate>(store: &mut Store, gate: &G, writers: u64, forgets: bool)
     requires sound { IsSound store.old holding }
     ensures sound { IsSound store.new holding }
@@ -76,7 +76,7 @@ pub(crate) fn tell<G: Gate>(store: &mut Store, gate: &G, writers: u64, forgets: 
     }
 }
 
-// The same behind a turn, where a flush was due.
+// After a turn: says to each writer's gate how much of it is durable, if a flush was due.
 fn tell_due<G: Gate>(store: &mut Store, gate: &G, writers: u64, is_due: bool, plan: Plan)
     requires sound { IsSound store.old holding }
     ensures sound { IsSound store.new holding }
@@ -88,8 +88,8 @@ fn tell_due<G: Gate>(store: &mut Store, gate: &G, writers: u64, is_due: bool, pl
 }
 
 /// Turns, flushes and cleans by the plan until so many writers have ended, at most `max_turns`
-/// turns, and answers what the flags told last. Where not each of them has a thread, the store is
-/// left alone.
+/// turns, and answers what the flags said last. If not each of them has a thread, the store is left
+/// as it is.
 pub(crate) fn tend<R: Wait, G: Gate>(
     rt: &R,
     store: &mut Store,
@@ -109,10 +109,10 @@ pub(crate) fn tend<R: Wait, G: Gate>(
     ensures refused { IfErr result (λ cause.
         Stops plan.clean_at (kept_by store.old holding) cause (kept_by store.new holding)) }
 
-    // So many turns were made as are counted, each with what the plan wants behind it.
+    // So many turns were made as are counted, each with what the plan wants after it.
     ensures paced { OnOk result (Paces plan pace.new.turns (kept_by store.old holding)
         (kept_by store.new holding)) }
-    // They are as many as there may be, unless the flags told that all writers have ended.
+    // They are as many as there may be, unless the flags said that all writers have ended.
     ensures until { IfOk result (λ ended. MatchOption ended (pace.new.turns ≡ max_turns)
         (λ e. writers ≤ e.count)) }
     ensures stopped { IfErr result (λ cause. (IsFalse are_all × (cause ≡ StoreFault.NoMemory)

@@ -21,7 +21,7 @@ fn here(job: Snapshot<Job>, written: Written) -> Writer
     Writer::Here(Ended { job, written })
 }
 
-// Starts a writer; `false` where no thread could be made. Then all are told to stop, and this one
+// Starts a writer; `false` if no thread could be made. Then all are asked to stop, and this one
 // ends here, before its first put.
 fn start_one<'s, E, G: Gate>(
     scope: &Scope<'s, E>,
@@ -48,7 +48,7 @@ fn start_one<'s, E, G: Gate>(
     }
 }
 
-/// Starts a writer for each feed, by the script of its place; `false` where not each has a thread.
+/// Starts a writer for each feed, by the script of its place; `false` if not each has a thread.
 pub(crate) fn start_all<'s, E, G: Gate>(
     scope: &Scope<'s, E>,
     feeds: Vec<Feed>,

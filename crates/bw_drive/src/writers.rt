@@ -90,7 +90,7 @@ fn put_script<G: Gate>(
         let Some(more) = done.checked_add(group.len() as u64) else {
             return done;
         };
-        // A writer that is told to stop does not wait at the gate.
+        // A writer that is asked to stop does not wait at the gate.
         if flags.is_stopped() {
             return done;
         }
@@ -105,7 +105,7 @@ fn put_script<G: Gate>(
     done
 }
 
-/// Puts the script's groups, and tells at the end that one writer more has ended.
+/// Puts the script's groups, and says at the end that one writer more has ended.
 pub(crate) fn put_all<G: Gate>(
     job: Job,
     writer: usize,

@@ -7,7 +7,7 @@ use Rattle.bw_file.specs.declared.refusals.FolderFault.{FolderFault}
 use Rattle.bw_file.specs.declared.refusals.FolderFault.TheVariants.{Damaged, Missing}
 use Rattle.bw_digest.specs.declared.checking.Damage.{Damage}
 
--- what is told of a lease's file whose bytes do not fit its sums
+-- what is said of a lease's file whose bytes do not fit its sums
 abbrev pub fault_of : ℕ → Damage → FolderFault
 fault_of lease (Changed at) = Damaged lease at
 fault_of lease (damage.Missing from to) = Missing lease from to

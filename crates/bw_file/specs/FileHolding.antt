@@ -9,8 +9,8 @@ use Rattle.bw_file.specs.declared.segment.FileSegment.{FileSegment}
 abbrev pub file_holding : {F : Type 0} → FileSegment F → Holding
 file_holding s = record (memory_holding s.copy) { failed = s.failed }
 
--- it has this lease, room for so many bytes or for those of its file where they are more, and no
--- call of it has failed; which bytes it holds is open
+-- it has this lease, room for so many bytes or for those of its file if they are more, and no call
+-- of it has failed; which bytes it holds is open
 pub record IsOpened (lease capacity : ℕ) (held : Holding) : Type 0 where
   pub same_lease : held.lease ≡ lease
   pub room : held.room ≡ max capacity (length held.bytes)

@@ -15,10 +15,10 @@ use std::os::unix::fs::FileExt;
 
 /// An open file as a folder and its segments use it: `File`, or a type of a test in its place.
 pub trait SegmentFile: FileExt + OpenFile + Drop {
-    /// Takes the lock of the file, where nobody has it. It goes with the open file.
+    /// Takes the lock of the file, if nobody has it. It goes with the open file.
     fn lock_alone(&self) -> Result<(), TryLockError>;
 
-    /// Takes the lock of the file beside others who read, where nobody has it alone.
+    /// Takes the lock of the file beside others who read, if nobody has it exclusively.
     fn lock_to_read(&self) -> Result<(), TryLockError>;
 }
 
@@ -76,7 +76,7 @@ pub(crate) fn bytes_of<F: SegmentFile>(
     Ok(bytes)
 }
 
-/// The lease again, where a segment may have this capacity.
+/// The lease again, if a segment may have this capacity.
 pub(crate) fn with_capacity(lease: Lease, capacity: u64) -> Result<Lease, NotOpened>
     ensures fits { IsOk result ↔ ((1 ≤ capacity) × (capacity ≤ MAX_CAPACITY)) }
     ensures kept { IfOk result (λ l. l ≡ lease) }

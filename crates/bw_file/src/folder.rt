@@ -37,8 +37,8 @@ pub struct Folder<F = File> {
     pub(crate) waiting: Vec<Unsettled<F>>,
 }
 
-// Makes the folder where it is missing, and then waits until its name stands in its parent. The
-// parent of a folder that is there may be one that nobody may read.
+// Makes the folder if it is missing, and then waits until its name stands in its parent. The parent
+// of a folder that is there may be one that nobody may read.
 fn make_folder<R: AllocGlobal + Files<File = F>, F: SegmentFile>(
     rt: &R,
     path: &str,
@@ -63,7 +63,7 @@ fn placed<F: SegmentFile>(alloc: Global, files: Pair<F>) -> Result<Place<F>, Fol
     Ok(place)
 }
 
-// The file of this name, made where it is missing, to be read and written.
+// The file of this name, made if it is missing, to be read and written.
 fn opened<R: AllocGlobal + Files<File = F>, F: SegmentFile>(rt: &R, name: &str) -> io::Result<F> {
     OpenOptions::new()
         .read(true)
@@ -79,17 +79,17 @@ fn cut_to_nothing<F: SegmentFile>(file: &F) -> io::Result<()> {
 }
 
 impl<F: SegmentFile> Folder<F> {
-    /// The folder of this path, which is made where it is missing; the folder that it lies in has to
+    /// The folder of this path, which is made if it is missing; the folder that it lies in has to
     /// be there.
     ///
-    /// `InUse` where another process has it open, or a `Folder`, a segment or a `FolderReader` of
-    /// this one; `NotPlain` where `lock` is no plain file.
+    /// `InUse` if another process has it open, or a `Folder`, a segment or a `FolderReader` of this
+    /// one; `NotPlain` if `lock` is no plain file.
     pub fn open<R: AllocGlobal + Files<File = F>>(
         rt: &R,
         path: &str,
     ) -> Result<Folder<F>, FolderFault> {
         make_folder(rt, path)?;
-        // Where the path is no folder, as a pipe, this tells it, and that is not opened either.
+        // If the path is no folder, as a pipe, this finds it, and that is not opened either.
         let name = lock_path(rt, path)?;
         let itself = fs::open(rt, path)?;
         let lock = OpenOptions::new()
@@ -119,7 +119,7 @@ impl<F: SegmentFile> Folder<F> {
         })
     }
 
-    /// The numbers of the leases that have a file in the folder, be it empty, or sums alone,
+    /// The numbers of the leases that have a file in the folder, be it empty, or only sums,
     /// ascending.
     pub fn leases<R: AllocGlobal + Files<File = F> + Clone + Drop>(
         &self,
@@ -131,7 +131,7 @@ impl<F: SegmentFile> Folder<F> {
         leases_in(rt, self.path.as_str())
     }
 
-    // The files of this lease, made where they are missing, on which no segment stands. The lock of
+    // The files of this lease, made if they are missing, on which no segment stands. The lock of
     // the first is that of both.
     fn taken<R: AllocGlobal + Files<File = F>>(
         &self,
@@ -164,11 +164,11 @@ impl<F: SegmentFile> Folder<F> {
         Ok((placed(rt.alloc(), files)?, self.shared.clone()?))
     }
 
-    /// A new segment of this lease and capacity, in bytes, over an empty file: what the file held is
-    /// gone, maybe also where this is refused for another reason than `BadConfig`, `InUse` and
+    /// A new segment of this lease and capacity, in bytes, over an empty file: what the file held
+    /// is gone, maybe also if this is refused for another reason than `BadConfig`, `InUse` and
     /// `NotPlain`.
     ///
-    /// `InUse` where a segment stands on the file, `NotPlain` where it is no plain file.
+    /// `InUse` if a segment stands on the file, `NotPlain` if it is no plain file.
     pub fn spare<R: AllocGlobal + Files<File = F>>(
         &self,
         rt: &R,
@@ -253,10 +253,10 @@ impl<F: SegmentFile> Folder<F> {
     }
 
     /// Empties the file of a lease whose segment was given up and dropped, and waits until that
-    /// stands. `InUse` where a segment stands on it, `NotPlain` where it is no plain file.
+    /// stands. `InUse` if a segment stands on it, `NotPlain` if it is no plain file.
     ///
     /// It is done at once, before the next segment is given up: a stop must never show a later
-    /// segment gone and an earlier one still there. Where it fails, no other file may be emptied
+    /// segment gone and an earlier one still there. If it fails, no other file may be emptied
     /// before this one is.
     pub fn empty<R: AllocGlobal + Files<File = F>>(
         &self,
@@ -284,8 +284,8 @@ pub struct HeldBack<F = File> {
 }
 
 impl<F: SegmentFile> HeldBack<F> {
-    /// Writes the first byte, and waits until it stands; then the sums. What the file holds behind a
-    /// refusal is not known of that byte alone.
+    /// Writes the first byte, and waits until it stands; then the sums. After a refusal only that
+    /// byte of the file is not known.
     pub fn end(self) -> Result<(), FolderFault> {
         let HeldBack { files, last } = self;
         if let Some((first, rows)) = last {

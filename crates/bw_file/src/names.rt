@@ -10,14 +10,14 @@ use std::fs;
 use std::io::ErrorKind;
 use std::rt::Files;
 
-/// The path of the file by which a folder is open once, which is plain where it is there.
+/// The path of the file by which a folder is open once, which is plain if it is there.
 pub(crate) fn lock_path<R: AllocGlobal + Files>(rt: &R, folder: &str) -> Result<String, FolderFault>
     ensures cause { IfErr result (λ cause. cause ≢ BadConfig) }
 {
     plain(rt, format!(in rt.alloc(); "{folder}/lock")?)
 }
 
-/// The path of the file of a lease, which is plain where it is there.
+/// The path of the file of a lease, which is plain if it is there.
 pub(crate) fn segment_path<R: AllocGlobal + Files>(
     rt: &R,
     folder: &str,
@@ -31,7 +31,7 @@ pub(crate) fn segment_path<R: AllocGlobal + Files>(
     )
 }
 
-/// The path of the file with the sums of a lease's, which is plain where it is there.
+/// The path of the file with the sums of a lease's, which is plain if it is there.
 pub(crate) fn sums_path<R: AllocGlobal + Files>(
     rt: &R,
     folder: &str,

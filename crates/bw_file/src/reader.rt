@@ -29,7 +29,7 @@ pub struct FolderReader<F = File> {
     lock: Option<F>,
 }
 
-/// How much of a file its sums tell of, all of which fits them. Behind these bytes stands what was
+/// How much of a file its sums speak of, all of which fits them. After these bytes stands what was
 /// appended last before a crash, or all of a file of an older folder.
 #[derive(Clone, Copy, Debug, PartialEq, Eq)]
 pub struct Sound {
@@ -60,8 +60,8 @@ fn reading_lock<R: AllocGlobal + Files<File = F>, F: SegmentFile>(
 impl<F: SegmentFile> FolderReader<F> {
     /// The folder of this path, which has to be there.
     ///
-    /// `InUse` where a `Folder` or a segment of it stands, in this process or another. Other readers
-    /// are no hindrance. `NotPlain` where `lock` is no plain file.
+    /// `InUse` if a `Folder` or a segment of it stands, in this process or another. Other readers
+    /// are no hindrance. `NotPlain` if `lock` is no plain file.
     pub fn open<R: AllocGlobal + Files<File = F>>(
         rt: &R,
         path: &str,
@@ -72,7 +72,7 @@ impl<F: SegmentFile> FolderReader<F> {
         Ok(FolderReader { path, lock })
     }
 
-    /// The numbers of the leases that have a file in the folder, be it empty, or sums alone,
+    /// The numbers of the leases that have a file in the folder, be it empty, or only sums,
     /// ascending.
     pub fn leases<R: AllocGlobal + Files<File = F> + Clone + Drop>(
         &self,
@@ -154,9 +154,9 @@ impl<F: SegmentFile> FolderReader<F> {
         Ok((bytes, row))
     }
 
-    /// The bytes of the file of this lease, if they fit the sums beside it. `Damaged` if they do not,
-    /// `Missing` if the sums say that there were more, `TooLong` where the file is longer than any segment may be,
-    /// `NotPlain` where one of the two files is none.
+    /// The bytes of the file of this lease, if they fit the sums beside it. `Damaged` if they do
+    /// not, `Missing` if the sums say that there were more, `TooLong` if the file is longer than
+    /// any segment may be, `NotPlain` if one of the two files is none.
     pub fn sound_bytes<R: AllocGlobal + Files<File = F>>(
         &self,
         rt: &R,
@@ -169,8 +169,8 @@ impl<F: SegmentFile> FolderReader<F> {
         Ok(bytes)
     }
 
-    /// Reads the file of this lease, and tells how much of it has a digest,
-    /// where all of that fits. It is refused as `sound_bytes` is.
+    /// Reads the file of this lease, and says how much of it has a digest, if all of that fits. It
+    /// is refused as `sound_bytes` is.
     pub fn verify<R: AllocGlobal + Files<File = F>>(
         &self,
         rt: &R,
@@ -191,10 +191,10 @@ impl<F: SegmentFile> FolderReader<F> {
 
     /// A segment in memory with the bytes of the file of this lease, which fit the sums beside it.
     ///
-    /// Its capacity is the greater of this one, in bytes, and the file's length. What is appended to
-    /// it stands in memory alone. `Damaged` if the bytes do not fit, `Missing` if the sums say that
-    /// there were more, `TooLong` where the file is
-    /// longer than any segment may be, `NotPlain` where one of the two files is none.
+    /// Its capacity is the greater of this one, in bytes, and the file's length. What is appended
+    /// to it stands only in memory. `Damaged` if the bytes do not fit, `Missing` if the sums say
+    /// that there were more, `TooLong` if the file is longer than any segment may be, `NotPlain` if
+    /// one of the two files is none.
     pub fn copy<R: AllocGlobal + Files<File = F>>(
         &self,
         rt: &R,

@@ -60,15 +60,15 @@ pub(crate) type Place<F> = Arc<OnceLock<Pair<F>>>;
 /// A segment in a file, and a copy of its bytes in memory, by which reads are answered.
 ///
 /// An append is done when the system says that the file has it. After one that failed the file may
-/// hold some beginning of the piece that the copy has not, so every later append to a segment of
-/// that folder fails too, until the folder is opened again and the files are read: no segment may go
-/// on from the copies where a file went on from the piece. A drop closes the file and leaves its
+/// hold some beginning of the piece that the copy has not. So every later append to a segment of
+/// that folder fails too, until the folder is opened again and the files are read. No segment may
+/// go on from the copies while a file went on from the piece. A drop closes the file and leaves its
 /// bytes.
 #[derive(Drop)]
 pub struct FileSegment<F = File> {
     copy: MemSegment,
     files: Place<F>,
-    /// The sums that stand, once the folder is settled: they tell of each byte that is held.
+    /// The sums that stand, once the folder is settled: they speak of each byte that is held.
     row: Row,
     /// Shared with the folder and its other segments.
     shared: Arc<Shared<F>>,
@@ -80,7 +80,7 @@ pub struct FileSegment<F = File> {
 impl<F: SegmentFile> FileSegment<F> {
     ghost use Rattle.bw_file.specs.FileHolding.{file_holding};
 
-    /// Over a file that holds what the copy has, of which this row of sums tells.
+    /// Over a file that holds what the copy has, of which this row of sums speaks.
     pub(crate) fn over(
         copy: MemSegment,
         files: Place<F>,
@@ -99,7 +99,7 @@ impl<F: SegmentFile> FileSegment<F> {
         }
     }
 
-    // Writes the piece behind what the file holds, waits until the system says it is there, and then
+    // Writes the piece after what the file holds, waits until the system says it is there, and then
     // writes its sum, for which nobody waits. No clause sees what this does to the files: it is the
     // one function to be read with care.
     fn write_through(&self, piece: &[u8]) -> io::Result<Row>
@@ -124,11 +124,11 @@ impl<F: SegmentFile + Send + Sync> Segment for FileSegment<F> {
     ghost holding = { file_holding };
 
     /// Adds the piece, and waits until the system says that the file has it; its sum is written
-    /// behind it. Where one of these fails, the held bytes stay, and every later append in this
-    /// folder fails. It fails without a call of the system if a segment of the folder was opened
-    /// and is not settled.
+    /// after it. If one of these fails, the held bytes stay, and every later append in this folder
+    /// fails. It fails without a call of the system if a segment of the folder was opened and is
+    /// not settled.
     ///
-    /// A piece is at most 262,168 bytes where the files are to be opened again after a sync that
+    /// A piece is at most 262,168 bytes if the files are to be opened again after a sync that
     /// failed: so many the next opening writes once more.
     fn append(&mut self, piece: &[u8]) -> Result<(), Fault>
         requires fits { length (file_holding self.old).bytes + length piece.now ≤

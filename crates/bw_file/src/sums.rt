@@ -14,7 +14,7 @@ use std::alloc::{AllocError, Global};
 use std::io;
 
 /// The bytes of an open file of sums. Of a long one as many are read as a segment may have: what
-/// stands behind them is as good as lost.
+/// stands after them is as good as lost.
 pub(crate) fn sums_of<F: SegmentFile>(alloc: Global, sums: &F) -> Result<Vec<u8>, FolderFault>
     ensures cause { IfErr result (λ cause. cause ≢ BadConfig) }
 {
@@ -41,7 +41,7 @@ pub(crate) fn checked(lease: u32, bytes: &[u8], sums: &[u8]) -> Result<Row, Fold
     }
 }
 
-/// Writes the sum of a piece behind those of the row, and answers the row with it. A piece of no
+/// Writes the sum of a piece after those of the row, and answers the row with it. A piece of no
 /// bytes has no sum. The piece has to stand on the disk: a sum is never there without its bytes.
 pub(crate) fn note<F: SegmentFile>(sums: &F, row: Row, piece: &[u8]) -> io::Result<Row>
     requires { (reach row).end + length piece.now ≤ MAX_CAPACITY }
@@ -55,7 +55,7 @@ pub(crate) fn note<F: SegmentFile>(sums: &F, row: Row, piece: &[u8]) -> io::Resu
     Ok(row.with(sum))
 }
 
-/// The row with one sum for the bytes behind its last piece, and that sum; none if there are no such
+/// The row with one sum for the bytes after its last piece, and that sum; none if there are no such
 /// bytes. Nothing is written.
 pub(crate) fn filled_up(row: Row, bytes: &[u8]) -> (Row, Option<Sum>)
     requires end { (reach row).end ≤ length bytes.now }

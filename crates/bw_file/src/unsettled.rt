@@ -50,7 +50,7 @@ pub(crate) struct Unsettled<F> {
 struct Owed {
     /// Where the end begins that is written again, in bytes.
     from: u64,
-    /// That end: bytes that no sum tells of, so maybe nobody has waited for them.
+    /// That end: bytes that no sum speaks of, so maybe nobody has waited for them.
     end: Vec<u8>,
     /// How many bytes of sums there are.
     held: u64,
@@ -156,8 +156,8 @@ fn rows_in<F: SegmentFile>(alloc: Global, sums: &Option<F>) -> Result<Vec<u8>, F
 // What is owed to a segment of these bytes, which fit so many bytes of sums, of which those of the row
 // count; and the row once it is paid.
 //
-// A sum is written after its bytes were waited for. So only those without one may be in the system's
-// memory alone, and of these only what was appended last: a folder without sums is an older one.
+// A sum is written after its bytes were waited for. So only those without one may be only in the
+// system's memory, and of these only what was appended last: a folder without sums is an older one.
 fn owed_to(alloc: Global, bytes: &[u8], held: u64, row: Row) -> Result<(Owed, Row), FolderFault>
     requires end { (reach row).end ≤ length bytes.now }
     requires within { length bytes.now ≤ MAX_CAPACITY }
@@ -354,10 +354,10 @@ impl<F: SegmentFile> Folder<F> {
         self.settle_names()
     }
 
-    /// Settles all segments that were opened, once recovery has taken them: makes the files that are
-    /// missing, writes each end that has no sum once more and waits until it stands, and then gives it
-    /// one; sums that do not count are taken off. Then it waits until the names stand, and from there on
-    /// each segment may be appended to.
+    /// Settles all segments that were opened, once recovery has taken them. It makes the files that
+    /// are missing. It writes each end that has no sum once more, waits until it stands, and then
+    /// gives it one. Sums that do not count are taken off. Then it waits until the names stand, and
+    /// from there on each segment may be appended to.
     ///
     /// Refused, no segment of the folder is ever appended to: it is to be dropped, and opened again.
     pub fn settle<R: AllocGlobal + Files<File = F>>(&mut self, rt: &R) -> Result<(), FolderFault> {

@@ -11,7 +11,7 @@ use std::fs::{self, File, OpenFile};
 use std::io::ErrorKind;
 use std::os::unix::fs::FileExt;
 
-/// How far the sums of a file tell of its bytes.
+/// How far the sums of a file speak of its bytes.
 #[derive(Clone, Copy)]
 pub(crate) struct Told {
     pub(crate) row: Row,
@@ -19,7 +19,7 @@ pub(crate) struct Told {
     pub(crate) last: Option<Sum>,
 }
 
-/// The files of a folder: the bytes of each, and how far its sums tell of them.
+/// The files of a folder: the bytes of each, and how far its sums speak of them.
 #[derive(Drop)]
 pub(crate) struct Files {
     pub(crate) images: Vec<Image>,
@@ -51,7 +51,7 @@ fn bytes_of(alloc: Global, file: &File) -> Result<Vec<u8>, FolderFault> {
     Ok(bytes)
 }
 
-/// The bytes of the file of this path, which is plain; none where it is missing.
+/// The bytes of the file of this path, which is plain; none if it is missing.
 pub(crate) fn read<R: Host>(rt: &R, path: &str) -> Result<Vec<u8>, FolderFault> {
     match fs::symlink_metadata(rt, path) {
         Ok(found) if found.is_file() => bytes_of(rt.alloc(), &fs::open(rt, path)?),
@@ -61,7 +61,7 @@ pub(crate) fn read<R: Host>(rt: &R, path: &str) -> Result<Vec<u8>, FolderFault> 
     }
 }
 
-/// How many bytes the file of this path has; 0 where it is missing.
+/// How many bytes the file of this path has; 0 if it is missing.
 pub(crate) fn length_of<R: Host>(rt: &R, path: &str) -> Result<u64, FolderFault> {
     match fs::symlink_metadata(rt, path) {
         Ok(found) => Ok(found.len()),

@@ -122,7 +122,7 @@ enum Way {
     Copy,
 }
 
-/// How a round goes on; refused where this folder has a segment that the other one has not yet.
+/// How a round goes on; refused if this folder has a segment that the other one has not yet.
 fn way_of(target: &Target, live: &[Live]) -> Result<Way, Halt> {
     let (Some(oldest), Some(newest)) = (live.first(), live.last()) else {
         return Err(Halt::Moved);
@@ -139,10 +139,10 @@ fn way_of(target: &Target, live: &[Live]) -> Result<Way, Halt> {
 }
 
 impl Follower {
-    /// A follower of the folder FROM, which is TO: that is opened and read where it is there, and made
-    /// by the first round where it is not. What a stop left between two renames is mended before.
+    /// A follower of the folder FROM, which is TO: that is opened and read if it is there, and made
+    /// by the first round if it is not. What a stop left between two renames is mended before.
     ///
-    /// `NoStore` where TO is no store that a follower made, `Target` where it is in use or damaged. It
+    /// `NoStore` if TO is no store that a follower made, `Target` if it is in use or damaged. It
     /// stays as it is then.
     pub fn open<R: Host, W: Watch>(
         rt: &R,
@@ -170,9 +170,9 @@ impl Follower {
     /// What is here is brought up to what was durable in the followed folder when this began, or to
     /// some later frame.
     ///
-    /// `Source` with `InUse` where somebody writes the followed folder and ten readings did not give
-    /// that: a later round may. After any refusal this folder is a store as of some frame of the other
-    /// one, not of an earlier one than before; what was appended before it stays.
+    /// `Source` with `InUse` if somebody writes the followed folder and ten readings did not give
+    /// that: a later round may. After any refusal this folder is a store as of some frame of the
+    /// other one, not of an earlier one than before; what was appended before it stays.
     pub fn round<R: Host, W: Watch>(
         &mut self,
         rt: &R,

@@ -12,13 +12,13 @@ use std::alloc::{AllocError, Global};
 /// What a segment has more.
 #[derive(Drop)]
 pub(crate) struct Growth {
-    /// The bytes behind those that the follower has.
+    /// The bytes after those that the follower has.
     pub(crate) bytes: Vec<u8>,
     /// Where their pieces end in the segment, ascending; the last one with the bytes.
     pub(crate) ends: Vec<u64>,
 }
 
-/// Where these sums say that pieces end, behind an offset.
+/// Where these sums say that pieces end, after an offset.
 fn ends_of(alloc: Global, sums: &[Sum], behind: u64) -> Result<Vec<u64>, AllocError> {
     let mut ends = Vec::new(alloc);
     for sum in sums {
@@ -51,7 +51,7 @@ pub(crate) fn still<R: Host>(rt: &R, folder: &str, live: Live) -> Result<Header,
     }
 }
 
-/// What stands behind the follower's last sum, where that stands at its place.
+/// What stands after the follower's last sum, if that stands at its place.
 fn behind_sum<R: Host>(
     rt: &R,
     folder: &str,
@@ -79,7 +79,7 @@ fn ours_of<R: Host>(rt: &R, own: &str, held: &Held) -> Result<Vec<u8>, FollowFau
     Ok(bytes)
 }
 
-/// What stands behind the follower's bytes, where its sums are others: the bytes themselves are
+/// What stands after the follower's bytes, if its sums are others: the bytes themselves are
 /// compared then.
 fn behind_bytes<R: Host>(
     rt: &R,
@@ -110,8 +110,8 @@ fn behind_bytes<R: Host>(
     Ok(Growth { bytes: more, ends })
 }
 
-/// Whether the follower's last sum stands at its place among those of the segment that was seen; and
-/// what stands behind it.
+/// Whether the follower's last sum stands at its place among those of the segment that was seen;
+/// and what stands after it.
 fn sums_behind_last<R: Host>(
     rt: &R,
     folder: &str,
@@ -130,7 +130,7 @@ fn sums_behind_last<R: Host>(
     Ok(Some(rest))
 }
 
-/// What a segment that was seen has more than the follower, whose own folder is read where bytes have
+/// What a segment that was seen has more than the follower, whose own folder is read if bytes have
 /// to be compared. Only what has a sum counts: that is durable there.
 pub(crate) fn growth_of<R: Host>(
     rt: &R,
@@ -145,8 +145,8 @@ pub(crate) fn growth_of<R: Host>(
     }
 }
 
-/// Compares the bytes of a segment to which nothing is added any more with the follower's. What stands
-/// behind these is not looked at: it is a tail, since later segments go on from them.
+/// Compares the bytes of a segment to which nothing is added any more with the follower's. What
+/// stands after these is not looked at: it is a tail, since later segments go on from them.
 pub(crate) fn compare<R: Host>(
     rt: &R,
     folder: &str,

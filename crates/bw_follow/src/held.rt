@@ -10,11 +10,11 @@ use std::alloc::{AllocError, Global};
 pub(crate) struct Held {
     pub(crate) lease: u32,
     pub(crate) header: Header,
-    /// How far its sums have come: what stands behind is not counted.
+    /// How far its sums have come: what stands after that is not counted.
     pub(crate) row: Row,
     /// The last of these.
     pub(crate) last: Option<Sum>,
-    /// The last sum of the followed folder's file, where its sums are others and its bytes were found
+    /// The last sum of the followed folder's file, if its sums are others and its bytes were found
     /// to be the same.
     pub(crate) other: Option<Sum>,
 }
@@ -40,7 +40,7 @@ impl Held {
         self.row.end()
     }
 
-    /// Where the last sum stands in the file of sums, in bytes; 0 where there is none.
+    /// Where the last sum stands in the file of sums, in bytes; 0 if there is none.
     pub(crate) fn last_at(&self) -> u64 {
         self.row
             .count()
@@ -63,7 +63,7 @@ impl Held {
         Ok(())
     }
 
-    /// Counts these bytes, which stand behind it in pieces that end here; their sums as bytes.
+    /// Counts these bytes, which stand after it in pieces that end here; their sums as bytes.
     pub(crate) fn count(
         &mut self,
         alloc: Global,
@@ -105,7 +105,7 @@ pub(crate) fn front_of(bytes: &[u8], at: usize) -> &[u8] {
     }
 }
 
-/// The row with the sum of this piece, and that sum; none where the piece is empty, or longer than any
+/// The row with the sum of this piece, and that sum; none if the piece is empty, or longer than any
 /// segment.
 pub(crate) fn noted(row: Row, piece: &[u8]) -> Option<(Row, Sum)> {
     if row.end() > MAX_CAPACITY || piece.len() as u64 > MAX_CAPACITY {
@@ -119,7 +119,7 @@ pub(crate) fn noted(row: Row, piece: &[u8]) -> Option<(Row, Sum)> {
     }
 }
 
-/// The sums that count, in these bytes, behind a row.
+/// The sums that count, in these bytes, after a row.
 pub(crate) fn sums_behind(alloc: Global, row: Row, sums: &[u8]) -> Result<Vec<Sum>, AllocError> {
     let mut found = Vec::new(alloc);
     let mut row = row;
@@ -143,9 +143,9 @@ pub(crate) fn sum_in(sums: &[u8]) -> Option<Sum> {
     }
 }
 
-/// The number of the frame that follows these bytes, which stand behind whole frames of a segment, and
-/// before which this number is the next; none where they are no frames that go on from there. A tail
-/// may follow them.
+/// The number of the frame that follows these bytes, which stand after whole frames of a segment,
+/// and before which this number is the next; none if they are no frames that go on from there. A
+/// tail may follow them.
 pub(crate) fn next_behind(header: &Header, bytes: &[u8], next: u64) -> Option<u64> {
     let mut at = 0usize;
     let mut next = next;

@@ -8,7 +8,7 @@ use std::alloc::Global;
 use std::fs::{File, OpenFile, OpenOptions};
 use std::os::unix::fs::FileExt;
 
-/// So many bytes are written before they are synced, where no piece is longer: an opening writes so
+/// So many bytes are written before they are synced, if no piece is longer: an opening writes so
 /// many at the end of a file once more.
 const MOST: u64 = 262_168;
 
@@ -19,7 +19,7 @@ pub(crate) struct Pen {
     sums: File,
 }
 
-/// Some pieces behind the row of a segment: where they begin and end in it, and their sums as bytes.
+/// Some pieces after the row of a segment: where they begin and end in it, and their sums as bytes.
 #[derive(Drop)]
 struct Chunk {
     from: u64,
@@ -27,7 +27,7 @@ struct Chunk {
     sums: Vec<u8>,
 }
 
-/// The file of this path, made where it is missing.
+/// The file of this path, made if it is missing.
 fn opened<R: Host>(rt: &R, path: &str) -> Result<File, FolderFault> {
     Ok(
         OpenOptions::new()
@@ -54,7 +54,7 @@ impl Chunk {
 }
 
 impl Pen {
-    /// Over the files of a lease, which are made where they are missing.
+    /// Over the files of a lease, which are made if they are missing.
     pub(crate) fn open<R: Host>(rt: &R, folder: &str, lease: u32) -> Result<Pen, FolderFault> {
         Ok(Pen {
             file: opened(rt, segment_path(rt, folder, lease)?.as_str())?,
@@ -70,14 +70,14 @@ impl Pen {
         Ok(bytes)
     }
 
-    /// Takes away what stands from an offset on, of which no sum tells.
+    /// Takes away what stands from an offset on, of which no sum speaks.
     pub(crate) fn cut(&self, at: u64) -> Result<(), FolderFault> {
         self.file.set_len(at)?;
         self.file.sync_all()?;
         Ok(())
     }
 
-    /// Has these sums stand from an offset on, and none behind them, and waits until they do.
+    /// Has these sums stand from an offset on, and none after them, and waits until they do.
     pub(crate) fn set_sums(&self, at: u64, sums: &[u8]) -> Result<(), FolderFault> {
         self.sums.set_len(at)?;
         self.sums.write_all_at(sums, at)?;
@@ -104,8 +104,8 @@ impl Pen {
         Ok(again.as_slice() == bytes)
     }
 
-    /// Writes these bytes behind those of a segment, in pieces that end here, and gives how far it has
-    /// come. What is read again afterwards has to be what was written.
+    /// Writes these bytes after those of a segment, in pieces that end here, and gives how far it
+    /// has come. What is read again afterwards has to be what was written.
     pub(crate) fn write(
         &self,
         alloc: Global,

@@ -68,7 +68,7 @@ fn newest_of(images: &[Image]) -> u64 {
 }
 
 /// Where the pieces end that have no sum yet: the whole frames, and in an older segment what stands
-/// behind them. Of the newest one that is the beginning of a frame that a stop left, and no piece.
+/// after them. Of the newest one that is the beginning of a frame that a stop left, and no piece.
 fn ends_behind(
     alloc: Global,
     bytes: &[u8],
@@ -166,9 +166,9 @@ fn begins(bytes: &[u8], header: &Header) -> bool {
 }
 
 impl Target {
-    /// Opens the folder of this path, which is there, and asks recovery of what is in it. Nothing is
-    /// written yet. Behind its pieces the newest segment may have the beginning of a frame, which the
-    /// next round writes again, whole.
+    /// Opens the folder of this path, which is there, and asks recovery of what is in it. Nothing
+    /// is written yet. After its pieces the newest segment may have the beginning of a frame, which
+    /// the next round writes again, whole.
     pub(crate) fn open<R: Host, W: Watch>(
         rt: &R,
         path: &str,
@@ -255,7 +255,8 @@ impl Target {
         }
     }
 
-    /// The number of the next frame behind what a segment has more, if that goes on from what is here.
+    /// The number of the next frame after what a segment has more, if that goes on from what is
+    /// here.
     fn next_after(&self, held: &Held, growth: &Growth) -> Option<u64> {
         let bytes = growth.bytes.as_slice();
         if held.end() > 0 {
@@ -280,8 +281,8 @@ impl Target {
         Ok(())
     }
 
-    /// Makes the file of a segment ready for what it has more: what stands behind its sums has to be
-    /// the beginning of that, and is taken away where it is not.
+    /// Makes the file of a segment ready for what it has more: what stands after its sums has to be
+    /// the beginning of that, and is taken away if it is not.
     fn ready<R: Host>(
         &self,
         rt: &R,
@@ -300,7 +301,7 @@ impl Target {
         Ok(true)
     }
 
-    /// Writes what a segment has more, and gives how far it has come; none where more stands here than
+    /// Writes what a segment has more, and gives how far it has come; none if more stands here than
     /// there.
     fn written<R: Host>(
         &self,

@@ -1,9 +1,9 @@
-//! A whole copy of the followed folder, which takes the follower's place where it has one.
+//! A whole copy of the followed folder, which takes the follower's place if it has one.
 //!
-//! It is made as `TO.partial` (`bw_beside::begin`). Where `TO` is there, it becomes `TO.old`, with a file
-//! `superseded` in it, and then `TO.partial` becomes `TO`. A stop between the two leaves no `TO`: the
-//! next follower gives `TO.old` its name again (`mend`), and goes on. A `TO.old` stays until the next
-//! whole copy, or until somebody removes it.
+//! It is made as `TO.partial` (`bw_beside::begin`). If `TO` is there, it becomes `TO.old`, with a
+//! file `superseded` in it, and then `TO.partial` becomes `TO`. A stop between the two leaves no
+//! `TO`: the next follower gives `TO.old` its name again (`mend`), and goes on. A `TO.old` stays
+//! until the next whole copy, or until somebody removes it.
 
 use crate::fault::FollowFault;
 use crate::held::sums_behind;
@@ -73,7 +73,7 @@ fn files_alone<R: Host, W: Watch>(
     Ok(parts)
 }
 
-/// The number of the segment with these bytes; 0 where they are none.
+/// The number of the segment with these bytes; 0 if they are none.
 fn number_of(bytes: &[u8]) -> u64 {
     match read_header(bytes) {
         HeaderRead::Whole(header) => header.number,
@@ -90,7 +90,7 @@ fn newest_of(parts: &[Part]) -> u64 {
     newest
 }
 
-/// How much of a segment that is written has a sum, in bytes, and so is durable; all of it where the
+/// How much of a segment that is written has a sum, in bytes, and so is durable; all of it if the
 /// segment is gone meanwhile.
 fn durable_of<R: Host>(rt: &R, from: &str, part: &Part) -> Result<u64, Miss> {
     let sums = sums_in(rt, from, part.lease)?;

@@ -276,7 +276,7 @@ pub fn links_back(lines: &BTreeMap<u32, Touched>, first: u64, page: u32, back: P
     }
 }
 
-// The page, where a block of it may not link back so.
+// The page, if a block of it may not link back so.
 fn wrong_back(lines: &BTreeMap<u32, Touched>, first: u64, page: u32, back: Place) -> Option<u32>
     ensures { (done : List (PlaceValue × BlockValue)) → IsRead first done lines.now
         → result ≡ fault_at first done page back }

@@ -160,7 +160,7 @@ pub fn lows_of(alloc: Global, pages: &[(u32, Found)]) -> Result<BTreeMap<Key, u3
     Ok(lows)
 }
 
-// One page more, from behind.
+// One page more, from the last one down.
 fn add_low(lows: &mut BTreeMap<Key, u32>, page: u32, line: &Found) -> Result<(), AllocError>
     ensures { (k : Bytes) → IsKey k → OnOk result (tree.get order lows.new k
         ≡ (if has_low k line.now.leaf then Some page else tree.get order lows.old k)) }

@@ -57,13 +57,13 @@ entered_grouped before after w g was more = ap is_grouped more ∙ grouped_more 
 
 -- ---- cuts
 
--- a cut where the history ends stands behind a whole group
+-- a cut where the history ends stands after a whole group
 pub whole_cut : (cuts : List ℕ) (es : List Entry) (end : ℕ) → are_whole cuts es ≡ true → is_grouped es ≡ true → end ≡ length es
     → are_whole (cuts ++ end ∷ []) es ≡ true
 whole_cut [] es end h g is = both (is_grouped (take end es)) true (ap (λ n. is_grouped (take n es)) is ∙ ap is_grouped (take-length es) ∙ g) refl
 whole_cut (c ∷ cs) es end h g is = keep (is_grouped (take c es)) (are_whole cs es) (are_whole (cs ++ end ∷ []) es) h (λ k. whole_cut cs es end k g is)
 
--- what is entered behind cuts leaves them whole
+-- what is entered after cuts leaves them whole
 pub whole_more : (cuts : List ℕ) (es more : List Entry) → All (λ c. c ≤ length es) cuts → are_whole cuts es ≡ true → are_whole cuts (es ++ more) ≡ true
 whole_more [] es more inside h = refl
 whole_more (c ∷ cs) es more inside h =
@@ -101,7 +101,7 @@ pub cuts_inside : (from : ℕ) (cs : List ℕ) (n : ℕ) → AreCuts from cs n �
 cuts_inside from [] n h = tt
 cuts_inside from (c ∷ cs) n h = (from_low c cs n h.1, cuts_inside c cs n h.1)
 
--- a group is entered behind cuts
+-- a group is entered after cuts
 pub whole_entered : (cuts : List ℕ) (before after : List Entry) (w : ℕ) (g : List Record) → AreCuts 0 cuts (length before) → are_whole cuts before ≡ true
     → after ≡ before ++ entered w (marked g) → are_whole cuts after ≡ true
 whole_entered cuts before after w g ordered was is =

@@ -61,7 +61,7 @@ streams_more w (suc n) (suc i) v es ms is lt =
     ap (λ (l : List Marked). l ∷ streams (suc w) n (es ++ entered v ms)) (of_same w v es ms (λ same. absurd (omega arith)))
     ∙ ap (λ (l : List (List Marked)). of_writer w es ∷ l) (streams_more (suc w) n i v es ms (omega arith) (omega arith))
 
--- one field of elements, where one element changed
+-- one field of elements, if one element changed
 pub map_set : {X Y : Type 0} (f : X → Y) (xs : List X) (i : ℕ) (x : X) → map f (set xs i x) ≡ set (map f xs) i (f x)
 map_set f [] i x = refl
 map_set f (y ∷ ys) zero x = refl
@@ -128,12 +128,12 @@ entered_streams old new before after i g lt was count took more =
     ∙ ap (λ (l : List (List Marked)). set l i (get_or l i [] ++ marked g)) was
     ∙ sym took
 
--- where each lane is dry, all are
+-- if each lane is dry, all are
 pub all_dry : (xs : List Lane) → ((i : ℕ) → i < length xs → IsDry xs i) → AreDry xs
 all_dry [] h = tt
 all_dry (x ∷ xs) h = (h zero (omega arith), all_dry xs (λ i lt. h (suc i) (omega arith)))
 
--- one lane further, where no group was taken since the round began
+-- one lane further, if no group was taken since the round began
 pub dry_further : (old new : List Lane) (at begun was now : ℕ) → begun ≤ was → was ≤ now → (was ≡ begun → (i : ℕ) → i < at → IsDry old i)
     → (now ≡ was → Dries at old new) → now ≡ begun → (i : ℕ) → i < at + 1 → IsDry new i
 dry_further old new at begun was now low le before dries none i lt =
@@ -184,7 +184,7 @@ pub took_fewer : (at : ℕ) (old new : List Lane) → TookKnown at old new → 0
 took_fewer at old new took some =
     subst (λ (ks : List (List (List Record))). length (get_or ks at []) < length (known_at old at)) (sym took) (set_fewer (map known old) at some)
 
--- where no lane knows of a group, what was given is what was taken
+-- if no lane knows of a group, what was given is what was taken
 pub given_all : (xs : List Lane) → ((i : ℕ) → i < length xs → known_at xs i ≡ []) → map taken xs ≡ map given xs
 given_all [] dry = refl
 given_all (x ∷ xs) dry =
@@ -375,13 +375,13 @@ rest_grouped zero es h = h
 rest_grouped (suc n) [] h = refl
 rest_grouped (suc n) (e ∷ es) h = rest_grouped n es (drop_grouped e es h)
 
--- behind the first of two lists the second goes on
+-- after the first of two lists the second goes on
 pub drop_over : {A : Type 0} (xs ys : List A) (n k : ℕ) → n ≡ length xs + k → drop n (xs ++ ys) ≡ drop k ys
 drop_over [] ys n k e = (let is : n ≡ k = omega arith in ap (λ m. drop m ys) is)
 drop_over (x ∷ xs) ys zero k e = absurd (omega arith)
 drop_over (x ∷ xs) ys (suc n) k e = drop_over xs ys n k (omega arith)
 
--- what a writer has up to a cut, and what of it waits behind the cut
+-- what a writer has up to a cut, and what of it waits after the cut
 pub durable_and_waiting : (w n : ℕ) (es : List Entry) (end waiting : ℕ) → w < n → waiting ≡ length (of_writer w (drop end es))
     → get_or (counts_of n es) w 0 ≡ length (of_writer w (take end es)) + waiting
 durable_and_waiting w n es end waiting lt is =
@@ -405,7 +405,7 @@ none_durable w n es end le h =
     let count = ap length parts ∙ length-append (of_writer w (take end es)) (of_writer w (drop end es)) in
     omega arith
 
--- a list that would be told, and is not, is empty
+-- a list that would be answered, and is not, is empty
 pub none_waits : {A : Type 0} (ks : List A) (b : Bool) → (0 < length ks → b ≡ true) → b ≡ false → ks ≡ []
 none_waits [] b told e = refl
 none_waits (k ∷ ks) b told e = (let some : 0 < length (k ∷ ks) = omega arith in absurd (let both = sym (told some) ∙ e in cc))

@@ -15,7 +15,8 @@ pub record Machine : Type 0 where
   pub entries : List Entry
   -- how many of them are durable: every stop leaves them
   pub durable : ℕ
-  -- how many of them a stop may leave: more than are durable only where an append failed, of which all may have been written
+  -- how many of them a stop may leave: more than are durable only if an append failed, of which all
+  -- may have been written
   pub written : ℕ
   -- how many of them readers see
   pub shown : ℕ
@@ -34,7 +35,7 @@ now m = after m.start m.entries
 abbrev pub IsGroup : List Entry → Type 0
 IsGroup group = (is_grouped group ≡ true) × (ends_in group ≡ 1)
 
--- a group is taken: it goes behind all that was taken before
+-- a group is taken: it goes after all that was taken before
 abbrev pub takes : List Entry → Machine → Machine
 takes group m = record m { entries = m.entries ++ group }
 

@@ -1,6 +1,6 @@
 //! The history, of which a beginning may have left memory.
 //!
-//! What was forgotten is known to the proof alone: a snapshot has no bytes, and so a `Vec` of them
+//! What was forgotten is known only to the proof: a snapshot has no bytes, and so a `Vec` of them
 //! takes no memory either. All clauses go on speaking of the whole list.
 
 ghost use Rattle.std.specs.Prelude.{◌≡◌, ◌≤◌, ◌+◌, ◌-◌, ◌++◌, ◌∷◌, [], drop, take, length, map, vec_len, OnOk};
@@ -107,7 +107,7 @@ impl History {
         append(&mut self.kept, entries);
     }
 
-    /// Lets go of the entries up to this index of the whole history, from memory alone.
+    /// Lets go of the entries up to this index of the whole history: they leave only memory.
     pub(crate) fn forget(&mut self, end: usize)
         requires kept { self.old.gone ≤ end }
         requires within { end ≤ length self.old.items }

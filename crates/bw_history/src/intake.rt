@@ -95,7 +95,7 @@ impl Intake {
         self.history.kept()
     }
 
-    /// Lets go of the entries up to this index of the whole history, from memory alone.
+    /// Lets go of the entries up to this index of the whole history: they leave only memory.
     pub fn forget(&mut self, end: usize)
         requires kept { self.old.history.gone ≤ end }
         requires within { end ≤ length self.old.history.items }
@@ -107,7 +107,7 @@ impl Intake {
     }
 
     /// How many records of a writer stand before this index of the history, which is not forgotten.
-    /// It costs a step for each entry behind it.
+    /// It costs a step for each entry after it.
     pub fn count_upto(&self, writer: u16, from: usize) -> u64
         requires kept { self.now.history.gone ≤ from }
         requires within { from ≤ length self.now.history.items }
@@ -124,7 +124,7 @@ impl Intake {
         self.counts[lane] - waiting
     }
 
-    /// Whether a lane has a group to give. Where it knows of none, its ring is asked once. Nothing is
+    /// Whether a lane has a group to give. If it knows of none, its ring is asked once. Nothing is
     /// taken or copied.
     pub fn finds(&mut self, lane: usize) -> bool
         requires { lane < length self.old.lanes.items }
@@ -175,7 +175,7 @@ impl Intake {
         self.lanes[lane].peek_known()
     }
 
-    /// A copy of the record that a lane gives next, where the lane knows of a group and it has one
+    /// A copy of the record that a lane gives next, if the lane knows of a group and it has one
     /// record. Its ring is not looked at.
     pub fn alone(&self, lane: usize) -> Option<Record>
         requires { lane < length self.now.lanes.items }
@@ -249,8 +249,8 @@ impl Intake {
         count_more(counts, lane, records, history.len());
     }
 
-    /// Takes the group that the lane gives next, where it is this record alone, and enters it: no
-    /// room is made for four records on the way.
+    /// Takes the group that the lane gives next, if it is only this record, and enters it: no room
+    /// is made for four records on the way.
     pub fn enter_alone(&mut self, lane: usize, item: &Record, entry: PackedEntry)
         requires inside { lane < length self.old.lanes.items }
         requires next { IsNext self.old.lanes.items lane (item.now ∷ []) }

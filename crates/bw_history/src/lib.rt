@@ -1,12 +1,12 @@
 //! What was taken: records with their writers, in groups, as a history keeps them, and the lanes from
 //! which they come.
 //!
-//! `PackedEntry` is a record that was taken, with its writer; its bytes are shared with the pages that
-//! have them. `Intake` is the lanes and the history together: what is taken from a lane stands in the
-//! history at once, so each writer's records in the history are always those that its lane gave, in
-//! order. `specs/History.antt` has what a history tells: streams of writers, groups, cuts and shares.
-//! `specs/Machine.antt` has the machine that a store is, `specs/Lives.antt` its lives, and `laws`
-//! what holds of them.
+//! `PackedEntry` is a record that was taken, with its writer; its bytes are shared with the pages
+//! that have them. `Intake` is the lanes and the history together: what is taken from a lane stands
+//! in the history at once, so each writer's records in the history are always those that its lane
+//! gave, in order. `specs/History.antt` has what a history says: streams of writers, groups, cuts
+//! and shares. `specs/Machine.antt` has the machine that a store is, `specs/Lives.antt` its lives,
+//! and `laws` what holds of them.
 #![tactic(auto)]
 
 mod beside;

@@ -9,7 +9,7 @@ use std::alloc::{AllocError, Global};
 use std::marker::Model;
 
 /// An entry as a history keeps it: it shares the bytes of its record with the pages that have them,
-/// where a `Record` has room for the longest key and the longest value.
+/// whereas a `Record` has room for the longest key and the longest value.
 #[derive(Drop)]
 pub struct PackedEntry {
     writer: u16,
@@ -62,8 +62,8 @@ impl PackedEntry {
         })
     }
 
-    /// The same entry, with a guess of the page at which its record is directed: what looks there
-    /// first need not search where it is right. No memory is taken.
+    /// This entry, with a guess of the page at which its record is directed: what looks there first
+    /// need not search if it is right. No memory is taken.
     pub fn on(self, page: u32) -> PackedEntry
         ensures { result ≡ self }
     {
@@ -72,8 +72,8 @@ impl PackedEntry {
         entry
     }
 
-    /// The same entry with its guess, which shares the bytes of this one. No memory is taken; it is
-    /// refused alone where the count of those that share is full.
+    /// A copy of this entry with its guess, which shares the bytes of this one. No memory is taken;
+    /// it is refused only if the count of those that share is full.
     pub fn copy(&self) -> Result<PackedEntry, AllocError>
         ensures { IfOk result (λ e. e ≡ self.now) }
     {

@@ -66,7 +66,7 @@ closed_behind (x ∷ []) [] c = refl
 closed_behind (x ∷ []) (y ∷ ys) c = c
 closed_behind (x ∷ z ∷ xs) ys c = closed_behind (z ∷ xs) ys c
 
--- a map that is one of those after this one, and those behind it
+-- a map that is one of those after this one, and those after it
 abbrev Ends : List Map → Map → List Map → Type 0
 Ends maps m behind = (j : ℕ) × (j < length maps) × (m ∷ behind ≡ drop j maps)
 

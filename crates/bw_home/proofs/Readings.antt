@@ -55,7 +55,7 @@ module _ {H : Kind → Type 0} where
       → Says m n w → AreReadyBeside s ends (by_kind m n) → AreReadyBeside s ends w
   ready_from_kind {s = s} {ends = ends} {m = m} {n = n} {w = w} says ready = subst (AreReadyBeside s ends) (sym (alike m n w says)) ready
 
-  -- the same where the store has readers
+  -- a home with readers is ready by the one reading if it is by the other
   pub shared_by_kind : {s : Store Kind H} {ends : Vec Feed Global} {m : First H} {n : Second H} {w : DynBox Kind Global H → Holding}
       → Says m n w → AreSharedBeside s ends w → AreSharedBeside s ends (by_kind m n)
   shared_by_kind {s = s} {ends = ends} {m = m} {n = n} {w = w} says ready = subst (AreSharedBeside s ends) (alike m n w says) ready

@@ -1,4 +1,4 @@
--- Why a put was refused, told of the store as it was before the call.
+-- Why a put was refused, said of the store as it was before the call.
 
 use Rattle.std.proofs.Common.{◌≡◌, ℕ, Bool, List, subst}
 use Rattle.bw_ring.specs.declared.lane.Lane.{Lane}

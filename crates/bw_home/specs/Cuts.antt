@@ -19,7 +19,7 @@ abbrev pub maps_after : Map → List Marked → List Map
 maps_after map [] = []
 maps_after map (m ∷ ms) = with_end m.more (changed_map map m.item) (maps_after (changed_map map m.item) ms)
 
--- the kept map, and those that the groups behind the kept ones make of it
+-- the kept map, and those that the groups after the kept ones make of it
 abbrev pub cuts_from : Map → ℕ → List Marked → List Map
 cuts_from kept durable put = kept ∷ maps_after kept (drop durable put)
 

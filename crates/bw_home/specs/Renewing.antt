@@ -20,7 +20,8 @@ pub record StoreCleans (old : Kept) (was : Noted) (result : Result Cleaned Store
   pub gone : now.gone ≡ was.gone
   pub counts : CountsClean old was.tally result new now.tally
 
--- a cleaning of a home; where it is refused, the store is as it was, or it was refused too, or it was cleaned
+-- a cleaning of a home; if it is refused, the store is as it was, or it was refused too, or it was
+-- cleaned
 abbrev pub HomeCleans : Kept → Noted → Result Cleaned HomeFault → Kept → Noted → Type 0
 HomeCleans old was (Ok cleaned) new now = StoreCleans old was (Ok cleaned) new now
 HomeCleans old was (Err fault) new now =

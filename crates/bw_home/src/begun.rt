@@ -1,5 +1,5 @@
-//! A store begins over boxes: a new one, or the one that they hold. A folder that has the beginning
-//! of a first frame alone has none: that beginning is cleared, and the store begins anew.
+//! A store begins over boxes: a new one, or the one that they hold. A folder that has only the
+//! beginning of a first frame has no store: that beginning is cleared, and the store begins anew.
 
 ghost use Rattle.std.specs.Prelude.{IfOk};
 ghost use Rattle.bw_home.specs.Ready.{IsReadyBeside};

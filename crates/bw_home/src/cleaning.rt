@@ -31,10 +31,9 @@ impl Home {
     /// stands in its place: a spare from the next leg on, or once the folder is opened again.
     ///
     /// Refused `Store`, and `NoMemory`, as `Core::clean` is, which says what stands then. What the
-    /// store says of its cleaning holds here, word for word.
-    /// `Folder`, and `NoMemory` too, where the file was not emptied or the new segment not made:
-    /// the old one is given up all the same. The next call does that first, and gives up no other
-    /// before.
+    /// store says of its cleaning holds here, word for word. `Folder`, and `NoMemory` too, if the
+    /// file was not emptied or the new segment not made: the old one is given up all the same. The
+    /// next call does that first, and gives up no other before.
     pub fn clean<R: System>(&mut self, rt: &R) -> Result<Cleaned, HomeFault>
         requires { IsReady self.old holding }
         ensures ready { IsReady self.new holding }
@@ -54,9 +53,9 @@ impl Home {
 
     /// Gives up the oldest segment as `clean` does, but its file keeps what it has, up to a call of
     /// `empty` or `make_spare`, and nothing stands in its place. So its file stands as long as
-    /// something is told before.
+    /// something is said before.
     ///
-    /// Refused as `clean` is; `Folder` where the file of the one that was given up before was not
+    /// Refused as `clean` is; `Folder` if the file of the one that was given up before was not
     /// emptied: no other is given up then.
     pub fn give_up<R: System>(&mut self, rt: &R) -> Result<Cleaned, HomeFault>
         requires { IsReady self.old holding }
@@ -91,10 +90,10 @@ impl Home {
     }
 
     /// Makes a further segment, with the least lease that is free: a spare from the next leg on, as
-    /// `added` then tells, or once the folder is opened again. The file of the segment that was given
-    /// up last is emptied before.
+    /// `added` then says, or once the folder is opened again. The file of the segment that was
+    /// given up last is emptied before.
     ///
-    /// Refused `Lease`, where none is free; `Folder`, and `NoMemory`. The store is as it was.
+    /// Refused `Lease` if none is free; `Folder`, and `NoMemory`. The store is as it was.
     pub fn make_spare<R: System>(&mut self, rt: &R) -> Result<(), HomeFault>
         requires { IsReady self.old holding }
         ensures ready { IsReady self.new holding }
@@ -140,9 +139,9 @@ impl Home {
         self.stock.leases(*self.feeds.allocator())
     }
 
-    /// The same leases in the order in which their segments are given up: those of the live ones,
-    /// the oldest first, and then those of the spares, which are begun as they were handed in, by
-    /// their leases.
+    /// The leases that are out, in the order in which their segments are given up: those of the
+    /// live ones, the oldest first, and then those of the spares, which are begun as they were
+    /// handed in, by their leases.
     pub fn row(&mut self) -> Result<Vec<u32>, AllocError>
         requires { IsReady self.old holding }
         ensures ready { IsReady self.new holding }
@@ -155,9 +154,10 @@ impl Home {
         self.stock.row(*self.feeds.allocator(), live)
     }
 
-    /// Empties the files of those of these leases whose segments were given up, in this order, where
-    /// the store was cleaned by itself: by `row` before, a stop never shows a later segment gone and
-    /// an earlier one still there. No spare may have been made since.
+    /// Empties the files of those of these leases whose segments were given up, in this order, if
+    /// the store was cleaned by itself. If the leases are those that `row` gave before, a stop
+    /// never shows a later segment gone and an earlier one still there. No spare may have been made
+    /// since.
     pub fn empty_row<R: System>(&mut self, rt: &R, row: &[u32]) -> Result<(), FolderFault>
         requires { IsReady self.old holding }
         ensures ready { IsReady self.new holding }
@@ -172,9 +172,9 @@ impl Home {
     /// Gives up all segments of format 1, and empties their files, the oldest first: a stop must
     /// never show a later segment gone and an earlier one still there.
     ///
-    /// Refused `Store`, and `NoMemory`, as `Core::upgrade` is, which says what stands then; `Folder`
-    /// where a file was not emptied. The home is of no further use then: the next opening of the
-    /// folder finds these segments there, and gives them up.
+    /// Refused `Store`, and `NoMemory`, as `Core::upgrade` is, which says what stands then;
+    /// `Folder` if a file was not emptied. The home is of no further use then: the next opening of
+    /// the folder finds these segments there, and gives them up.
     pub(crate) fn upgrade<R: System>(&mut self, rt: &R) -> Result<Upgraded, HomeFault>
         requires { IsReady self.old holding }
         ensures ready { IsReady self.new holding }
@@ -186,7 +186,7 @@ impl Home {
         Ok(upgraded)
     }
 
-    /// The number of the next frame; 0 where there is none.
+    /// The number of the next frame; 0 if there is none.
     pub(crate) fn next_frame(&self) -> u64
         requires { IsReady self.now holding }
     {
@@ -201,7 +201,7 @@ impl Home {
         self.stock.next_made()
     }
 
-    /// Adds a spare. Where that is refused, there is one fewer until the folder is opened again.
+    /// Adds a spare. If that is refused, there is one fewer until the folder is opened again.
     pub(crate) fn add(&mut self, spare: Box<dyn Segment>)
         requires { IsReadyBeside self.old holding }
         ensures { IsReadyBeside self.new holding }

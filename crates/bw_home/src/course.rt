@@ -13,7 +13,7 @@ pub trait Course<R>: Drop {
     /// What it answers.
     type Answer;
 
-    // What a course says of its answer: nothing, where it does not tell.
+    // What a course says of its answer: nothing by default.
     ghost says: { Self → Self.Answer → Type 0 } = { λ _ _. Unit {0} };
 
     /// Does it.
@@ -23,13 +23,14 @@ pub trait Course<R>: Drop {
         ensures answer { says self result };
 }
 
-/// The same in legs. Between two of them the segments that were made become spares: a box is made by
-/// nobody who is lent the store.
+/// What is done with a store in legs. The home that each leg is handed is ready, and the leg leaves
+/// it so. Between two legs the segments that were made become spares: nobody who is lent the store
+/// makes a box.
 pub trait Legs<R>: Drop {
     /// What it answers.
     type Answer;
 
-    // What it says of its answer: nothing, where it does not tell. A leg adds nothing to that.
+    // What it says of its answer: nothing by default. A leg adds nothing to that.
     ghost says: { Self → Self.Answer → Type 0 } = { λ _ _. Unit {0} };
 
     /// Goes on, up to the answer; `None` asks for another leg.

@@ -7,7 +7,7 @@ use std::fmt::{self, Display, Formatter};
 use thiserror::Error;
 
 /// A record was not put, and here it is: the queue is full, and what waits there was not taken for
-/// this reason. There is none where the queue is full all the same, or there is no writer.
+/// this reason. There is none if the queue is full all the same, or there is no writer.
 #[derive(Debug, Drop, Error)]
 #[error("the queue is full")]
 pub struct NotPut {
@@ -15,7 +15,8 @@ pub struct NotPut {
     pub cause: Option<StoreFault>,
 }
 
-/// The same of a group.
+/// A group was not put, and here it is: the queue is full, and what waits there was not taken for
+/// this reason. There is none if the queue is full all the same, or there is no such writer.
 #[derive(Debug, Drop, Error)]
 #[error("the queue is full")]
 pub struct GroupNotPut {
@@ -28,8 +29,8 @@ pub struct GroupNotPut {
 pub enum MapFault {
     /// The home has not one writer.
     Writers,
-    /// The queue is full, and what waits there was not taken for this reason; there is none where
-    /// the queue is full all the same. Nothing was put.
+    /// The queue is full, and what waits there was not taken for this reason; there is none if the
+    /// queue is full all the same. Nothing was put.
     NotPut(Option<StoreFault>),
     /// The change was put and not taken: it waits, and the next call takes it first.
     Waits(StoreFault),

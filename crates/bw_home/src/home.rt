@@ -88,7 +88,7 @@ impl Home {
         }
     }
 
-    /// A new store over these boxes, whose leases are the site's. It may stand where something was
+    /// A new store over these boxes, whose leases are the site's. It may have something that was
     /// found before.
     pub(crate) fn open<R: System>(
         rt: &R,
@@ -134,19 +134,18 @@ impl Home {
     }
 
     /// What recovery found in the segments, or that the beginning of a first frame was all that
-    /// there was; `None` where all segments were new.
+    /// there was; `None` if all segments were new.
     pub fn found(&self) -> Option<Found>
         ensures { result ≡ self.now.stock.found }
     {
         self.stock.found
     }
 
-    /// Puts a record into the queue of the first writer. Where that is full, the store takes all
-    /// that waits before.
+    /// Puts a record into the queue of the first writer. If that is full, the store takes all that
+    /// waits before.
     ///
-    /// Where the store is refused that, or the queue is full all the same, or there is no writer,
-    /// the record comes back, and no queue has more than before. It costs a turn where the queue
-    /// is full.
+    /// If the store is refused that, the queue is full all the same, or there is no writer, the
+    /// record comes back, and no queue has more than before. It costs a turn if the queue is full.
     pub fn put(&mut self, item: Record) -> Result<(), NotPut>
         requires { IsReady self.old holding }
         ensures ready { IsReady self.new holding }
@@ -169,7 +168,8 @@ impl Home {
         }
     }
 
-    /// The same of a group, and into the queue of this writer, of which the first is 0.
+    /// Puts a group into the queue of this writer, of which the first is 0. If that is full, the
+    /// store takes all that waits before. It is refused as `put` is, and the group comes back.
     pub fn put_group(&mut self, writer: usize, group: Group) -> Result<(), GroupNotPut>
         requires { IsReady self.old holding }
         ensures ready { IsReady self.new holding }
@@ -200,8 +200,8 @@ impl Home {
         }
     }
 
-    /// Puts a group into the queue of this writer, of which the first is 0, and takes nothing.
-    /// Where the queue is full, or there is no such writer, the group comes back.
+    /// Puts a group into the queue of this writer, of which the first is 0, and takes nothing. If
+    /// the queue is full, or there is no such writer, the group comes back.
     pub fn offer(&mut self, writer: usize, group: Group) -> Result<(), FullGroup>
         requires { IsReady self.old holding }
         ensures ready { IsReady self.new holding }
@@ -221,7 +221,7 @@ impl Home {
     }
 
     /// Takes so many of the groups that wait into the pages; answers how many records they have. A
-    /// refusal tells how many were taken before it. As `Core::turn`.
+    /// refusal says how many were taken before it. As `Core::turn`.
     pub fn turn(&mut self, limit: u32) -> Result<u64, TurnFault>
         requires { IsReady self.old holding }
         ensures ready { IsReady self.new holding }
@@ -251,8 +251,8 @@ impl Home {
         self.store.turn(limit)
     }
 
-    /// Appends what was taken as a frame, and publishes it; answers its number, or `None` where
-    /// nothing was taken. What waits in the queues stays there. As `Core::flush`.
+    /// Appends what was taken as a frame, and publishes it. It answers the frame's number, or
+    /// `None` if nothing was taken. What waits in the queues stays there. As `Core::flush`.
     pub fn flush(&mut self) -> Result<Option<u64>, StoreFault>
         requires { IsReady self.old holding }
         ensures ready { IsReady self.new holding }
@@ -322,7 +322,7 @@ impl Home {
     }
 
     /// The pair with the least key at or above this one, as all that was taken leaves it, flushed
-    /// or not; `None` behind the last pair. As `Core::next_at`.
+    /// or not; `None` after the last pair. As `Core::next_at`.
     pub fn next_at(&mut self, key: &Key) -> Result<Option<(Key, Value)>, StoreFault>
         requires { IsReady self.old holding }
         ensures ready { IsReady self.new holding }
@@ -355,7 +355,8 @@ impl Home {
         self.store.prev_at(key)
     }
 
-    /// The same, but of the keys below this one alone. As `Core::prev_below`.
+    /// The pair with the greatest key below this one, as all that was taken leaves it; `None`
+    /// before the first pair. As `Core::prev_below`.
     pub fn prev_below(&mut self, key: &Key) -> Result<Option<(Key, Value)>, StoreFault>
         requires { IsReady self.old holding }
         ensures ready { IsReady self.new holding }

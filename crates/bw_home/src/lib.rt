@@ -2,13 +2,13 @@
 //! its writers, and ends it.
 //!
 //! `with_store` looks before it writes anything: what recovery refuses of the folder is refused,
-//! and the folder stays as it is. Then it locks the folder, which is made where it is missing,
-//! goes on from the store there or begins a new one, and runs the course. `with_store_in_memory`
-//! and `with_segments` do the same over segments in memory. A `Course` is handed a `Home`: the
-//! store, its feeds, and where its segments stand. The store is sound and the rings are those of
-//! the feeds (`specs/Ready.antt`), and the course has to leave them so: each call of `Home` does.
-//! With one writer a home is a map: `set`, `delete`, `get`, `next_at`, `scan`, and `keep`, which makes
-//! it durable (`specs/Maps.antt`). A stop leaves one of its *cuts*: the map that is kept, or one that
+//! and the folder stays as it is. Then it locks the folder, which is made if it is missing, goes on
+//! from the store there or begins a new one, and runs the course. `with_store_in_memory` and
+//! `with_segments` do the same over segments in memory. A `Course` is handed a `Home`: the store,
+//! its feeds, and where its segments stand. The store is sound and the rings are those of the feeds
+//! (`specs/Ready.antt`), and the course has to leave them so: each call of `Home` does. With one
+//! writer a home is a map: `set`, `delete`, `get`, `next_at`, `scan`, and `keep`, which makes it
+//! durable (`specs/Maps.antt`). A stop leaves one of its *cuts*: the map that is kept, or one that
 //! a later group made, and a store that begins over its segments has that map (`specs/Cuts.antt`,
 //! `specs/Laws.antt`).
 #![tactic(auto)]

@@ -58,10 +58,10 @@ impl Home {
     /// Sets the value of a key. From then on `get`, `next_at` and `scan` see it; `keep` makes it
     /// durable.
     ///
-    /// Refused `Writers` where there is not one writer, and `NotPut`, where the queue is full and
-    /// the store was refused to take what waits there: the map is as it was. Refused `Waits`, where
-    /// the store was refused to take it: it waits in the queue, and the next call of this kind
-    /// takes it first.
+    /// Refused `Writers` if there is not exactly one writer, and `NotPut` if the queue is full and
+    /// the store was refused to take what waits there: the map is as it was. Refused `Waits` if the
+    /// store was refused to take it: it waits in the queue, and the next call of this kind takes it
+    /// first.
     pub fn set(&mut self, key: Key, value: Value) -> Result<(), MapFault>
         requires { IsReady self.old holding }
         ensures ready { IsReady self.new holding }
@@ -84,7 +84,7 @@ impl Home {
         self.change(Group::one(Record::Put(key, value)))
     }
 
-    /// Drops the value of a key, if it has one. As `set` else.
+    /// Drops the value of a key, if it has one. Otherwise as `set`.
     pub fn delete(&mut self, key: Key) -> Result<(), MapFault>
         requires { IsReady self.old holding }
         ensures ready { IsReady self.new holding }
@@ -106,8 +106,8 @@ impl Home {
         self.change(Group::one(Record::Del(key)))
     }
 
-    /// Makes the changes of a group, one after the other: all of them, or none, also where the
-    /// store is stopped. As `set` else.
+    /// Makes the changes of a group, one after the other: all of them, or none, also if the store
+    /// is stopped. Otherwise as `set`.
     pub fn change(&mut self, group: Group) -> Result<(), MapFault>
         requires { IsReady self.old holding }
         ensures ready { IsReady self.new holding }

@@ -15,8 +15,8 @@ pub(crate) enum Way {
     /// Over the files that are there, of which each is read once: nothing is made or written before
     /// recovery has taken them. Only a folder that was open before is opened so.
     Again,
-    /// A copy of it is looked at before. So why the other way failed is told, and a folder that was
-    /// never open stays as it is if it is refused.
+    /// A copy of it is looked at before. So the caller learns why the other way failed, and a
+    /// folder that was never open stays as it is if it is refused.
     Anew,
 }
 
@@ -165,10 +165,10 @@ fn go<R: System, L: Legs<R>>(
     unreachable!()
 }
 
-/// Opens the folder of this path, or begins a store in memory where there is none, goes leg by leg
-/// over the store, and ends it: what was not flushed is gone then, and what stands in memory too.
-/// There are so many leases, 1 to 4,096 (`Made` else): `Lease` where more segments are wanted, or
-/// where a file is that of another one. As `with_store` else.
+/// Opens the folder of this path, or begins a store in memory if there is none, goes leg by leg
+/// over the store, and ends it. What was not flushed is gone then, and what stands in memory too.
+/// There are so many leases, 1 to 4,096 (`Made` else): `Lease` if more segments are wanted, or if a
+/// file is that of another one. Otherwise as `with_store`.
 pub fn with_store_at<R: System, L: Legs<R>>(
     rt: &R,
     dir: Option<&str>,
@@ -193,7 +193,7 @@ pub fn with_store_at<R: System, L: Legs<R>>(
 }
 
 /// Opens the folder of this path, goes leg by leg over the store in it, and ends the store: what
-/// was not flushed is gone then. As `with_store` else.
+/// was not flushed is gone then. Otherwise as `with_store`.
 pub fn with_store_in_legs<R: System, L: Legs<R>>(
     rt: &R,
     path: &str,
@@ -208,16 +208,15 @@ pub fn with_store_in_legs<R: System, L: Legs<R>>(
 /// Opens the folder of this path, runs the course over the store in it, and ends the store: what
 /// was not flushed is gone then.
 ///
-/// What recovery refuses of the folder is refused, `Recovery`, and stays as it is. It is locked, and
-/// made if it is missing. A folder without bytes has a
-/// new store, and so has one with nothing but the beginning of a first frame, which was never
-/// durable; any other goes on with what it holds, whatever the limits of pages and frames in the
-/// options are. Its new segments have room for as many bytes as the longest one has, at least, in
-/// whole MiB.
+/// What recovery refuses of the folder is refused, `Recovery`, and stays as it is. It is locked,
+/// and made if it is missing. A folder without bytes has a new store, and so has one with nothing
+/// but the beginning of a first frame, which was never durable. Any other goes on with what it
+/// holds, whatever the limits of pages and frames in the options are. Its new segments have room
+/// for as many bytes as the longest one has, at least, in whole MiB.
 ///
 /// `Folder`: it, or a file in it, was not listed, opened or made, `InUse` among the reasons.
-/// `Store`: `BadConfig`, where a number of the options is out of its range. `Lease`: more than
-/// 4,096 segments. Files without bytes may have been made then, and no other is written.
+/// `Store`: `BadConfig` if a number of the options is out of its range. `Lease`: more than 4,096
+/// segments. Files without bytes may have been made then, and no other is written.
 ///
 /// A folder that was open before is read once: it takes the time of a recovery, and memory for its
 /// files, for one of them twice for a moment. Any other is looked at before anything is made in it:
@@ -237,8 +236,8 @@ pub fn with_store<R: System, C: Course<R>>(
     with_store_in_legs(rt, path, options, &mut whole)
 }
 
-/// Begins a store in memory, runs the course over it, and drops it. As `with_store` else, but that
-/// there is no folder.
+/// Begins a store in memory, runs the course over it, and drops it. Otherwise as `with_store`, but
+/// that there is no folder.
 pub fn with_store_in_memory<R: System, C: Course<R>>(
     rt: &R,
     options: &Options,

@@ -31,10 +31,10 @@ fn go_on<R: System, C: Course<R>>(
 /// Goes on from what these segments hold, whose leases are the desk's, runs the course over the
 /// store, and ends it: its segments are dropped.
 ///
-/// Refused `Recovery`, where they hold no store, also where none of them has a byte; `Store`:
-/// `BadConfig`, where a number of the options is out of its range. A spare that the course makes
-/// has a lease of the desk. Of the options the limits of pages and frames and the number of
-/// segments are not asked. It takes the time of a recovery.
+/// Refused `Recovery` if they hold no store, also if none of them has a byte; `Store`: `BadConfig`
+/// if a number of the options is out of its range. A spare that the course makes has a lease of the
+/// desk. Of the options the limits of pages and frames and the number of segments are not asked. It
+/// takes the time of a recovery.
 pub fn with_segments<R: System, C: Course<R>>(
     rt: &R,
     desk: Desk,
@@ -44,7 +44,7 @@ pub fn with_segments<R: System, C: Course<R>>(
 ) -> Result<C::Answer, HomeFault>
     ensures answer { IfOk result (λ answer. C.says course answer) }
 {
-    // Boxes are made here alone: a function that takes or gives a box, or a home, makes none.
+    // Boxes are made here only: a function that takes or gives a box, or a home, makes none.
     let mut boxes: Vec<Box<dyn Segment>> = Vec::new(rt.alloc());
     for segment in segments {
         boxes.push(Box::new(rt.alloc(), segment)?)?;

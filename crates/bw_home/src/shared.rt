@@ -19,19 +19,20 @@ use bw_site::{Found, HomeFault, Made, NotHeld, Site, Stock, System, held_in};
 use bw_store::{Cleaned, Config, Store};
 use std::alloc::{AllocError, Global};
 
-/// A store with readers, the feeds of its writers, and where its segments stand. As `Home` else.
+/// A store with readers, the feeds of its writers, and where its segments stand. Otherwise as
+/// `Home`.
 pub struct SharedHome {
     pub store: Store,
     pub feeds: Vec<Feed>,
     stock: Stock,
 }
 
-/// What is done with a store that has readers, in legs. As `Legs` else.
+/// What is done with a store that has readers, in legs. Otherwise as `Legs`.
 pub trait SharedLegs<R>: Drop {
     /// What it answers.
     type Answer;
 
-    // What it says of its answer: nothing, where it does not tell. A leg adds nothing to that.
+    // What it says of its answer: nothing by default. A leg adds nothing to that.
     ghost says: { Self → Self.Answer → Type 0 } = { λ _ _. Unit {0} };
 
     /// Goes on, up to the answer; `None` asks for another leg.

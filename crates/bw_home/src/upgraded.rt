@@ -7,7 +7,7 @@ use crate::options::Options;
 use bw_core::{StoreFault, Upgraded};
 use bw_site::{HomeFault, Old, System, look_for_old};
 
-/// An upgrade, one try a leg: where the spares do not suffice, a further one is asked for.
+/// An upgrade, one try a leg: if the spares do not suffice, a further one is asked for.
 #[derive(Drop)]
 struct Upgrades {
     old: Old,
@@ -36,16 +36,15 @@ impl<R: System> Legs<R> for Upgrades {
 
 /// Upgrades the store in the folder of this path, which has to be there: each page that was last
 /// set in a segment of format 1 is written again in format 2, and then the files of these segments
-/// are emptied, the oldest first. It has a desk of so many leases, and adds spares where they run
-/// out: a new segment has room for the longest frame, and for as many bytes as the longest file
-/// has.
+/// are emptied, the oldest first. It has a desk of so many leases, and adds spares if they run out:
+/// a new segment has room for the longest frame, and for as many bytes as the longest file has.
 ///
 /// A stop at any point leaves a folder with the same pages, and the next call finishes what it
 /// left.
 ///
-/// The folder is looked at first, and what recovery refuses of it is refused, `Recovery`; and then
-/// `Store`: `NothingOld`, where no segment has format 1. It stays as it is then. `Folder`: it, or a
-/// file in it, was not opened, made or emptied. `Lease`: there are fewer leases than segments.
+/// The folder is looked at first. What recovery refuses of it is refused, `Recovery`. Then it is
+/// refused `Store`: `NothingOld`, if no segment has format 1. It stays as it is then. `Folder`: it,
+/// or a file in it, was not opened, made or emptied. `Lease`: there are fewer leases than segments.
 ///
 /// It takes memory for all files twice for a moment, and three times the time of a recovery, beside
 /// what `Core::upgrade` costs, at most once for each spare that is added.

@@ -239,7 +239,7 @@ fn pairs_of<R: System, I: Read + Drop>(
 }
 
 /// Does with the pairs of an input what is wanted. Those that come in the order of their keys fill
-/// their pages. A store is made where it is missing, but for deletes.
+/// their pages. A store is made if it is missing, but for deletes.
 fn load_pairs<R: System, I: Read, W: Watch>(
     rt: &R,
     dir: &str,

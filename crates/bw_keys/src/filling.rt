@@ -94,7 +94,7 @@ impl<S: Records> Filling<S> {
         }
     }
 
-    /// Keeps a record that ascends, if its place says that it waits, and gives it back else.
+    /// Keeps a record that ascends, if its place says that it waits, and otherwise gives it back.
     fn sort(&mut self, record: Record) -> Result<Option<Record>, AllocError> {
         if self.place % 2 == 1 {
             self.waiting.push_back(Waiting {

@@ -32,7 +32,7 @@ pub enum Admission {
     No,
 }
 
-/// How many bytes a group adds to the log, at most, where it only deletes; `None` of any other.
+/// How many bytes a group adds to the log, at most, if it only deletes; `None` of any other.
 fn bytes_of_deletes(group: &Group) -> Option<u64> {
     let mut bytes = 0u64;
     for item in group.as_slice() {

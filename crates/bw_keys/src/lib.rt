@@ -1,9 +1,10 @@
 //! Keys and values of a folder for people and for pipes: one is put, some are got or deleted, all are
 //! listed and counted, and whole sets come in and go out as `bw_pairs` spells them.
 //!
-//! `perform` does one `Task` over a folder. What reads opens the folder beside other readers, or beside
-//! whoever writes it (`bw_beside`), looks at it as recovery does, and changes nothing; what writes
-//! opens it alone, by `bw_home`, makes room by itself (`Tending`), and ends with a flush.
+//! `perform` does one `Task` over a folder. What reads opens the folder beside other readers, or
+//! beside whoever writes it (`bw_beside`), looks at it as recovery does, and changes nothing; what
+//! writes opens it for itself, by `bw_home`, makes room by itself (`Tending`), and ends with a
+//! flush.
 #![tactic(auto)]
 
 mod ahead;

@@ -27,7 +27,7 @@ pub enum Style {
     Json(Parts),
     /// A line of CSV.
     Csv(Parts),
-    /// A dump, with the size of the other store's map where that is given.
+    /// A dump, with the size of the other store's map if that is given.
     Dump(Letters, Option<u64>),
 }
 

@@ -1,5 +1,5 @@
 //! Records that go into a store, in bounded memory: what is durable leaves the history, and room is
-//! made where there is too little.
+//! made if there is too little.
 
 ghost use Rattle.bw_home.specs.Ready.{IsReady};
 
@@ -42,7 +42,7 @@ pub enum Wanted {
 pub struct Load<'a, S, W> {
     records: &'a mut S,
     wanted: Wanted,
-    /// How many bytes the input of the records has; 0 where that is not known.
+    /// How many bytes the input of the records has; 0 if that is not known.
     all: u64,
     watch: &'a mut W,
     tending: Tending,
@@ -148,7 +148,7 @@ impl<'a, S: Records, W: Watch> Load<'a, S, W> {
         Ok(Step::On)
     }
 
-    /// Tells of a segment that was added.
+    /// Reports a segment that was added.
     fn tell_added(&mut self, home: &Home)
         requires { IsReady home.now holding }
     {
@@ -169,7 +169,7 @@ impl<'a, S: Records, W: Watch> Load<'a, S, W> {
         Ok(self.take(rt, home)? == Step::Room)
     }
 
-    /// Puts a record into the queue, where the log has room for it.
+    /// Puts a record into the queue, if the log has room for it.
     fn put<R: System>(&mut self, rt: &R, home: &mut Home, group: Group) -> Result<Step, KeysFault>
         requires { IsReady home.old holding }
         ensures { IsReady home.new holding }
@@ -192,7 +192,7 @@ impl<'a, S: Records, W: Watch> Load<'a, S, W> {
         }
     }
 
-    /// Puts a record into the queue; where that is full, what waits is taken first.
+    /// Puts a record into the queue; if that is full, what waits is taken first.
     fn queue<R: System>(&mut self, rt: &R, home: &mut Home, group: Group) -> Result<Step, KeysFault>
         requires { IsReady home.old holding }
         ensures { IsReady home.new holding }

@@ -21,7 +21,7 @@ pub struct Measure {
     pub frame: u64,
 }
 
-/// The number of the newest segment and its length; 0 and 0 where there is none.
+/// The number of the newest segment and its length; 0 and 0 if there is none.
 pub fn newest(home: &Home) -> (u64, u64)
     requires { IsReady home.now holding }
 {
@@ -47,7 +47,7 @@ pub fn taken(home: &Home) -> u64 {
     home.store.forgotten().saturating_add(kept)
 }
 
-/// How many bytes a cleaning of the oldest segment writes again of pages; `None` where there is no
+/// How many bytes a cleaning of the oldest segment writes again of pages; `None` if there is no
 /// other segment.
 pub fn needed_of_oldest(home: &Home) -> Option<u64>
     requires { IsReady home.now holding }
@@ -71,8 +71,8 @@ fn needed_of_all(home: &Home) -> u64
 }
 
 impl Measure {
-    /// How many spares are kept for a flush and a cleaning where there are as many segments as may be,
-    /// or nearly so: one, and up to three where a segment has room for fewer than eight frames.
+    /// How many spares are kept for a flush and a cleaning if there are as many segments as may be,
+    /// or nearly so: one, and up to three if a segment has room for fewer than eight frames.
     fn kept_at_last(&self, most: u32) -> u32 {
         if self.capacity / 8 >= self.frame {
             1
@@ -81,7 +81,7 @@ impl Measure {
         }
     }
 
-    /// Where so many spares are left, or fewer, room is made. Up to so many segments are added.
+    /// If so many spares are left, or fewer, room is made. Up to so many segments are added.
     pub fn kept(&self, home: &Home, most: u32) -> u32
         requires { IsReady home.now holding }
     {
@@ -104,12 +104,12 @@ impl Measure {
         self.capacity.saturating_sub(self.capacity / 8)
     }
 
-    /// The bytes of a segment behind its header.
+    /// The bytes of a segment after its header.
     pub fn room(&self) -> u64 {
         self.capacity.saturating_sub(HEADER_LEN as u64)
     }
 
-    /// How many frames surely fit so many bytes, where a frame goes whole into a segment.
+    /// How many frames surely fit so many bytes, if a frame goes whole into a segment.
     fn frames_in(&self, bytes: u64) -> u64 {
         bytes / self.frame.max(1)
     }
@@ -138,8 +138,8 @@ impl Measure {
             .saturating_mul(self.frame)
     }
 
-    /// How many spares are wanted so that blocks with so many bytes surely find room, where so many are
-    /// left of the newest segment, and what was taken behind the last frame goes before them.
+    /// How many spares are wanted so that blocks with so many bytes surely find room, if so many
+    /// are left of the newest segment, and what was taken after the last frame goes before them.
     pub fn spares_for(&self, rest: u64, bytes: u64) -> u64 {
         let each = self.frames_in(self.room()).max(1);
         let wanted = self.frames_of(bytes).saturating_add(1);
@@ -149,10 +149,10 @@ impl Measure {
             / each
     }
 
-    /// Whether a cleaning surely finds room: so many bytes of pages are written again, and what waits
-    /// before them, where something does, into what is left of the newest segment and the spares.
-    /// Where neither what waits nor a further record finds room without it, it is tried at the last
-    /// spare all the same.
+    /// Whether a cleaning surely finds room: so many bytes of pages are written again, and what
+    /// waits before them, if something does, into what is left of the newest segment and the
+    /// spares. If neither what waits nor a further record finds room without it, it is tried at the
+    /// last spare all the same.
     pub fn fits(&self, home: &Home, rest: u64, waits: bool, needed: u64) -> bool
         requires { IsReady home.now holding }
     {
@@ -165,15 +165,15 @@ impl Measure {
         moved <= room && (is_last || !waits || moved < room)
     }
 
-    /// Whether a cleaning takes no more than what is left of the newest segment and one spare, so that
-    /// as many spares are left behind it.
+    /// Whether a cleaning takes no more than what is left of the newest segment and one spare, so
+    /// that as many spares are left after it.
     pub fn takes_one(&self, rest: u64, needed: u64) -> bool {
         let each = self.frames_in(self.room()).max(1);
         self.frames_of(needed) <= each.saturating_add(self.frames_in(rest))
     }
 
     /// Whether a cleaning writes at most half of what it gives back: the whole room of a segment,
-    /// also where the oldest was closed before it was full.
+    /// also if the oldest was closed before it was full.
     pub fn wins_half(&self, needed: u64) -> bool {
         needed < self.half().saturating_sub(LOST)
     }

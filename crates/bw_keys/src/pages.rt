@@ -38,8 +38,8 @@ pub fn check_store<R: System>(rt: &R, path: &str) -> Result<(), KeysFault> {
     }
 }
 
-/// Copies of all segments of a folder, by a desk of so many leases. Each is the one of its lease, so
-/// what is told of one names it. The files have so many bytes.
+/// Copies of all segments of a folder, by a desk of so many leases. Each is the one of its lease,
+/// so what is said of one names it. The files have so many bytes.
 fn copies_of<R: System, W: Watch>(
     rt: &R,
     reader: &FolderReader,
@@ -61,7 +61,7 @@ fn copies_of<R: System, W: Watch>(
     Ok(copies)
 }
 
-/// Asks the pages in these boxes; `None` where nothing was ever durable in them: whoever writes there
+/// Asks the pages in these boxes; `None` if nothing was ever durable in them: whoever writes there
 /// begins anew.
 fn ask_boxes<W, A: Ask<W>>(
     alloc: Global,
@@ -113,8 +113,8 @@ fn ask_alone<R: System, W: Watch, A: Ask<W>>(
     Ok(ask_copies(rt.alloc(), copies, ask, watch)?)
 }
 
-/// Asks the pages of the store in a folder, which has to be there, and stays as it is; `None` where
-/// nothing was ever durable there. Other readers are no hindrance. Where somebody writes it, they are
+/// Asks the pages of the store in a folder, which has to be there, and stays as it is; `None` if
+/// nothing was ever durable there. Other readers are no hindrance. If somebody writes it, they are
 /// those of one of its frames, as `bw_beside::open` has it.
 ///
 /// What recovery refuses is refused, a file above so many leases, and a folder without the file of
@@ -145,8 +145,8 @@ fn is_missing(fault: &KeysFault) -> bool {
     }
 }
 
-/// Asks the pages of the store in a folder; `None` where nothing was ever durable there, and also if it
-/// is missing, or has no store. It is refused as `ask_in` is.
+/// Asks the pages of the store in a folder; `None` if nothing was ever durable there, and also if
+/// it is missing, or has no store. It is refused as `ask_in` is.
 pub(crate) fn ask_if_there<R: System, W: Watch, A: Ask<W>>(
     rt: &R,
     path: &str,

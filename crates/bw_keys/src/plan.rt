@@ -21,7 +21,7 @@ pub struct Plan {
     pub effect: Effect,
     /// How many have a key without a value there.
     pub absent: u64,
-    /// How many have a key with another value there; where keys are deleted, with any.
+    /// How many have a key with another value there; if keys are deleted, with any.
     pub other: u64,
     /// How many are there already.
     pub equal: u64,

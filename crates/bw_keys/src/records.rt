@@ -10,15 +10,15 @@ use std::io::Read;
 
 /// Records, one after another.
 pub trait Records: Drop {
-    /// Looks into the store for the next ones, where it is that which says what they are.
+    /// Looks into the store for the next ones, if it is that which says what they are.
     fn look(&mut self, home: &mut Home) -> Result<(), KeysFault>
         requires { IsReady home.old holding }
         ensures ready { IsReady home.new holding };
 
-    /// The next one; `None` behind the last.
+    /// The next one; `None` after the last.
     fn next_record(&mut self) -> Result<Option<Record>, KeysFault>;
 
-    /// How many bytes of an input were read for those so far; 0 where there is none.
+    /// How many bytes of an input were read for those so far; 0 if there is none.
     fn bytes(&self) -> u64;
 }
 

@@ -103,7 +103,7 @@ fn prefix_by(word: Option<&str>) -> Result<Option<Key>, KeysFault> {
     }
 }
 
-/// The key of a word where there may be none.
+/// The key of a word, if there is one.
 fn some_key_by(name: &'static str, word: Option<&str>) -> Result<Option<Key>, KeysFault> {
     match word {
         Some(word) => Ok(Some(key_by(name, word)?)),
@@ -114,7 +114,7 @@ fn some_key_by(name: &'static str, word: Option<&str>) -> Result<Option<Key>, Ke
 /// All bytes of the input, as a value.
 fn value_in<I: Read>(alloc: Global, input: &mut I) -> Result<Value, KeysFault> {
     let mut bytes = Vec::new(alloc);
-    // One more than the longest tells that there are too many.
+    // One more than the longest shows that there are too many.
     let mut front = input.take(MAX_VALUE as u64 + 1);
     let _ = front.read_to_end(&mut bytes).map_err(PairsFault::of_read)?;
     value_from(bytes.as_slice()).map_err(|fault| KeysFault::Word("VALUE", fault))
@@ -148,7 +148,7 @@ fn keys_by(alloc: Global, words: &[&str]) -> Result<VecDeque<Key>, KeysFault> {
     Ok(keys)
 }
 
-/// Writes a value, alone.
+/// Writes a value, and nothing else.
 fn write_value<O: Write>(
     value: &Value,
     spelling: Spelling,
@@ -224,7 +224,7 @@ fn get_all<R: System, O: Write, W: Watch>(
     Ok(Told::NoValues(missing))
 }
 
-/// Writes the values of the keys of these words. One alone is written as it is.
+/// Writes the values of the keys of these words. A single one is written as it is.
 fn get_words<R: System, O: Write, W: Watch>(
     rt: &R,
     dir: &str,
@@ -241,7 +241,7 @@ fn get_words<R: System, O: Write, W: Watch>(
     }
 }
 
-/// Deletes the keys of these words. Of one alone it is not told whether it was there.
+/// Deletes the keys of these words. Of a single one it is not said whether it was there.
 fn del_words<R: System, W: Watch>(
     rt: &R,
     dir: &str,
@@ -344,7 +344,7 @@ fn ascending(style: Style) -> Order {
 }
 
 /// Does a task over the keys of a folder, by so many leases at most. What it reads and prints comes
-/// from this input and goes to this output, and how far it is, is told to a watch.
+/// from this input and goes to this output, and a watch hears how far it is.
 pub fn perform<R: System, I: Read, O: Write, W: Watch>(
     rt: &R,
     dir: &str,

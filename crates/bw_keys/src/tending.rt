@@ -1,8 +1,8 @@
-//! A store that makes room by itself. Where few spares are left, its oldest segment is given up if
-//! that writes at most half of a segment again, and else a segment is added. Where none can be added,
+//! A store that makes room by itself. If few spares are left, its oldest segment is given up if
+//! that writes at most half of a segment again, and else a segment is added. If none can be added,
 //! the oldest is given up as long as that wins an eighth of a segment, or as an eighth of all bytes
-//! is not needed, wherever it stands. Each spare is only made here: it is added before the next leg,
-//! and what wants it is asked again then.
+//! is not needed, wherever it stands. Each spare is only made here: it is added before the next
+//! leg, and what wants it is asked again then.
 
 ghost use Rattle.bw_home.specs.Ready.{IsReady};
 
@@ -17,7 +17,7 @@ use bw_ring::Group;
 /// More than the blocks of one group have with a frame of their own.
 const GROUP: u64 = 65_536;
 
-/// More than a record adds to the log beside its own bytes, but where it splits a page of long pairs.
+/// More than a record adds to the log beside its own bytes, unless it splits a page of long pairs.
 const RECORD: u64 = 2_048;
 
 /// Cleanings of a log to which no segment can be added.
@@ -40,18 +40,18 @@ pub struct Tending {
     pub(crate) most: u32,
     /// The newest segment when the spares were looked at last; 0 before.
     seen: u64,
-    /// The newest segment and its length at the first look, where a tail may have closed it.
+    /// The newest segment and its length at the first look, if a tail may have closed it.
     closed: Option<(u64, u64)>,
     /// Whether a cleaning came since, so that the next segment may have to go too.
     has_cleaned: bool,
-    /// Whether something was made durable that `take_told_flush` did not tell yet.
+    /// Whether something was made durable that `take_told_flush` did not report yet.
     pub(crate) has_flushed: bool,
-    /// Whether a further segment was made that `take_told_segment` did not tell yet.
+    /// Whether a further segment was made that `take_told_segment` did not report yet.
     has_added: bool,
-    /// The last cleaning, if `take_told_cleaning` did not tell it yet.
+    /// The last cleaning, if `take_told_cleaning` did not report it yet.
     cleaned: Option<Cleaned>,
     circle: Circle,
-    /// What is known of the log where no room can be made.
+    /// What is known of the log if no room can be made.
     pub(crate) full: Option<Full>,
     /// How many bytes wait in the queues at most, as they were put at once.
     queued: u64,
@@ -62,7 +62,7 @@ fn is_full(fault: &HomeFault) -> bool {
     matches!(fault, HomeFault::Store(StoreFault::NoSegment))
 }
 
-/// Whether records were taken behind the last frame.
+/// Whether records were taken after the last frame.
 fn has_unflushed(home: &Home) -> bool {
     let length = taken(home);
     match home.store.cuts().last() {
@@ -133,8 +133,9 @@ impl Tending {
         }
     }
 
-    /// How many groups are taken before the spares are looked at: one, or as many as surely fit half
-    /// of a segment. So what is taken behind the last frame leaves room for a cleaning that pays.
+    /// How many groups are taken before the spares are looked at: one, or as many as surely fit
+    /// half of a segment. So what is taken after the last frame leaves room for a cleaning that
+    /// pays.
     fn part(&self) -> u32 {
         let groups = self.measure.half() / GROUP;
         u32::try_from(groups).unwrap_or(u32::MAX).max(1)
@@ -161,7 +162,7 @@ impl Tending {
         self.measure.fits(home, self.rest(home), waits, needed)
     }
 
-    /// Whether a cleaning that is asked for surely finds room; also where there is nothing to clean.
+    /// Whether a cleaning that is asked for surely finds room; also if there is nothing to clean.
     pub fn may_clean(&self, home: &Home) -> bool
         requires { IsReady home.now holding }
     {
@@ -181,7 +182,7 @@ impl Tending {
         }
     }
 
-    /// Whether the cleanings of all segments in turn are worth it, as one look at all of them tells
+    /// Whether the cleanings of all segments in turn are worth it, as one look at all of them shows
     /// for as many cleanings as there are.
     fn circle_wins(&mut self, home: &Home) -> bool
         requires { IsReady home.now holding }
@@ -196,7 +197,7 @@ impl Tending {
         true
     }
 
-    /// Whether a cleaning is worth it where no segment can be added.
+    /// Whether a cleaning is worth it if no segment can be added.
     fn wins_at_last(&mut self, home: &Home, needed: Option<u64>) -> bool
         requires { IsReady home.now holding }
     {
@@ -310,7 +311,7 @@ impl Tending {
         is_so
     }
 
-    /// Notes that no room can be made, where there is more than one segment to make it of.
+    /// Notes that no room can be made, if there is more than one segment to make it of.
     fn note_full(&mut self, home: &Home)
         requires { IsReady home.now holding }
     {
@@ -509,8 +510,8 @@ impl Tending {
         has_added
     }
 
-    /// Forgets the last cleaning, if there was one since this was called last, and tells it. One that
-    /// was refused behind what it gave up is not told.
+    /// Forgets the last cleaning, if there was one since this was called last, and answers it. One
+    /// that was refused after it gave something up is not answered.
     pub fn take_told_cleaning(&mut self) -> Option<Cleaned> {
         self.cleaned.take()
     }

@@ -59,7 +59,7 @@ flushed-under : (r : Record) (x : Option (List Link × Place)) → is_some (unde
 flushed-under r None = refl
 flushed-under r (Some x) = refl
 
--- there is a mark exactly where a flushed link stands
+-- there is a mark exactly if a flushed link stands
 pub flushed-trimmed : (links : List Link) → list_any is_flushed links ≡ is_some (trimmed links)
 flushed-trimmed [] = refl
 flushed-trimmed (Delta r ∷ links) = flushed-trimmed links ∙ sym (flushed-under r (trimmed links))
@@ -105,7 +105,7 @@ stays c e = (sym (flushed-trimmed c.links ∙ ap is_some e), ap (option_map (λ 
 
 -- ---- a consolidation
 
--- the newest link alone, of links that stand oldest first
+-- only the newest link, of links that stand oldest first
 pub newest_left : (links : List Link) (newest : Link) → true ≡ ltb 0 (length links) → newest ≡ get_or links (length links - 1) newest
     → drop (length links - 1) links ≡ newest ∷ []
 newest_left [] newest some is = absurd (false≢true (sym some))
@@ -113,7 +113,7 @@ newest_left (x ∷ links) newest some is =
     let n = length (x ∷ links) - 1 in
     drop_more (x ∷ links) n newest (omega arith) ∙ (λ i. sym is i ∷ drop_all (n + 1) (x ∷ links) (omega arith) i)
 
--- the newest link comes first, where links stand newest first
+-- the newest link comes first, if links stand newest first
 pub newest_first : (links : List Link) (newest : Link) → true ≡ ltb 0 (length links) → newest ≡ get_or links (length links - 1) newest
     → reverse links ≡ newest ∷ reverse (take (length links - 1) links)
 newest_first links newest some is =

@@ -1,4 +1,4 @@
--- What changes a page changes its keys and the lengths of its values alone by those of the records.
+-- What changes a page changes its keys and the lengths of its values only by those of the records.
 
 use Rattle.std.proofs.Common.{◌≡◌, ◌<◌, ℕ, arith, length-append, subst, true, false, cond, [], ◌∷◌, ◌++◌, length, refl, ap, sym, ◌∙◌}
 use Rattle.std.specs.Prelude.{slice_index_or, Result, Ok, Err, IfOk}

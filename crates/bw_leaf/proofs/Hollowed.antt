@@ -16,7 +16,7 @@ use Rattle.bw_leaf.specs.declared.hollow.Item.{Item}
 use Rattle.bw_leaf.specs.Hollow.{blank, key_in, pair_in, IsIn, is_kept}
 use Rattle.bw_leaf.proofs.Sorted.{all-map, all-push, all-take, all-drop}
 
--- ---- more bytes behind the keys
+-- ---- more bytes after the keys
 
 still_in : (keys more : List ℕ) (item : Item) → IsIn keys item → IsIn (keys ++ more) item
 still_in keys more item h = let e = length-append keys more in omega (arith, e, h)

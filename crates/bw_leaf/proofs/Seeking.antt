@@ -37,7 +37,7 @@ sought key (p ∷ ps) =
       | Greater ↦ λ e. further key p ps (λ v. put order key v ps) (without key ps) (seek_of key ps) (sought key ps)
     ] refl
 
--- the same at what a search answered
+-- what a put and a delete make at what a search answered
 pub sought_at : (key : Bytes) (ps : Pairs) (s : Result ℕ ℕ) → s ≡ seek_of key ps → Sought key ps (λ v. put order key v ps) (without key ps) s
 sought_at key ps s e = subst (λ (t : Result ℕ ℕ). Sought key ps (λ v. put order key v ps) (without key ps) t) (sym e) (sought key ps)
 

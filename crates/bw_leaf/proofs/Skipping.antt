@@ -1,4 +1,4 @@
--- A search that begins behind pairs whose keys are below ends where one from the front does.
+-- A search that begins after pairs whose keys are below ends where one from the front does.
 
 use Rattle.std.proofs.Common.{◌≡◌, ℕ, zero, suc, ◌+◌, ◌≤◌, true, Result, Ok, Err, [], ◌∷◌, length, take, drop, refl, sym, ap, ◌∙◌, arith, zero-add}
 use Rattle.std.proofs.Common.{◌-◌, take_all, length-drop}
@@ -24,7 +24,7 @@ passed_again : (n : ℕ) (r : Result ℕ ℕ) → passed (suc n) r ≡ passed 1 
 passed_again n (Ok at) = let e : suc n + at ≡ 1 + (n + at) = omega arith in ap Ok e
 passed_again n (Err at) = let e : suc n + at ≡ 1 + (n + at) = omega arith in ap Err e
 
--- what is behind the first n
+-- what is after the first n
 pub all_behind : (n : ℕ) (pairs : Pairs) → take (length pairs - n) (drop n pairs) ≡ drop n pairs
 all_behind n pairs = take_all (length pairs - n) (drop n pairs) (omega (arith, length-drop n pairs))
 
@@ -41,7 +41,7 @@ first_above : (key : Bytes) (pairs : Pairs) → BeginAbove key pairs → seek_of
 first_above key [] above = absurd above
 first_above key (p ∷ ps) above = ap (λ (o : Ordering). by_order o (Err 0) (Ok 0) (passed 1 (seek_of key ps))) (is_less (order key p.0) above)
 
--- where the first pair that is not skipped is above the key, the key stands before it
+-- if the first pair that is not skipped is above the key, the key stands before it
 pub above_search : (key : Bytes) (pairs : Pairs) (n : ℕ) → n ≤ length pairs → AreBelow key (take n pairs) → BeginAbove key (drop n pairs)
     → Err n ≡ seek_of key pairs
 above_search key pairs n within below above =

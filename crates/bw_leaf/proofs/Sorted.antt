@@ -128,7 +128,7 @@ dropped zero (p ∷ ps) h = omega arith
 dropped (suc n) [] h = absurd (omega arith)
 dropped (suc n) (p ∷ ps) h = dropped n ps (omega arith)
 
--- the keys in front of a split are below the first one behind it
+-- the keys in front of a split are below the first one after it
 pub lower_below : (n : ℕ) (ps : Pairs) → n < length ps → Rises ps → All (λ p. Below p.0 (first_key (drop n ps))) (take n ps)
 lower_below zero ps h r = tt
 lower_below (suc n) [] h r = tt
@@ -139,7 +139,7 @@ from_first : (ps : Pairs) → Rises ps → All (λ p. UpTo (first_key ps) p.0) p
 from_first [] r = tt
 from_first (p ∷ ps) r = (upto-refl p.0, all-map (λ q. Below p.0 q.0) (λ q. UpTo p.0 q.0) (λ q b. below_upto p.0 q.0 b) ps r.0)
 
--- the keys behind a split are not below the first of them
+-- the keys after a split are not below the first of them
 pub upper_from : (n : ℕ) (ps : Pairs) → Rises ps → All (λ p. UpTo (first_key (drop n ps)) p.0) (drop n ps)
 upper_from n ps r = from_first (drop n ps) (rises-drop n ps r)
 

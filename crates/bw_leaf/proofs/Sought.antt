@@ -1,4 +1,5 @@
--- The first pair of a page at or above a key, and those behind it, stand where a search for the key ends.
+-- The first pair of a page at or above a key, and those after it, stand where a search for the key
+-- ends.
 
 use Rattle.std.proofs.Common.{◌≡◌, ℕ, suc, ◌+◌, ◌-◌, true, false, cond, if◌then◌else◌, Some, None, [], ◌∷◌, take, drop, length, Result, Ok, Err}
 use Rattle.std.proofs.Common.{refl, sym, ap, ◌∙◌, subst, arith, one-add}
@@ -77,7 +78,7 @@ above_between key (x ∷ xs) p r e q u b =
           )
     ] refl e
 
--- where there is none, no key from this one on has a value there
+-- if there is none, no key from this one on has a value there
 pub above_none : (key : Bytes) (ps : Pairs) → pair_above key ps ≡ None → (q : Bytes) → UpTo key q → find order q ps ≡ None
 above_none key [] e q u = refl
 above_none key (x ∷ xs) e q u =

@@ -31,7 +31,7 @@ reads_all key (p ∷ ps) r =
       | Greater ↦ λ e. further (find order key ps) p ps (seek_of key ps) (reads_all key ps r.1)
     ] refl
 
--- the same at what a search answered
+-- what is found there, at what a search answered
 pub reads : (key : Bytes) (ps : Pairs) (s : Result ℕ ℕ) → Rises ps → s ≡ seek_of key ps → Reads (find order key ps) ps s
 reads key ps s r e = subst (Reads (find order key ps) ps) (sym e) (reads_all key ps r)
 
@@ -57,7 +57,7 @@ has_key key (p ∷ ps) =
 pub sought_key : (key : Bytes) (ps : Pairs) (at : ℕ) → Ok at ≡ seek_of key ps → (d : Bytes × Bytes) → (get_or ps at d).0 ≡ key
 sought_key key ps at e = subst (HasKey key ps) (sym e) (has_key key ps)
 
--- ---- a delete removes a pair exactly where the key is found
+-- ---- a delete removes a pair exactly if the key is found
 
 pub removed : (key : Bytes) (ps : Pairs) (s : Result ℕ ℕ) → Rises ps → s ≡ seek_of key ps → is_ok s ≡ is_none (back_of (Del key) (find order key ps))
 removed key ps (Ok at) r e = sym (ap (λ (o : Option Bytes). is_none (back_of (Del key) o)) (reads key ps (Ok at) r e ([], [])))

@@ -171,7 +171,7 @@ blocks_step p k (b ∷ bs) leaf rises h =
       rest.3 ∙ ap (λ (u : Option Bytes). fold (λ u b. told_by (block_word p k b) u) u bs) one.2.value,
     )
 
--- where the page was known before some blocks, their newest word decides
+-- if the page was known before some blocks, their newest word decides
 pub blocks_tell : (p : ℕ) (k : Bytes) (bs : List Block) (leaf : Leaf) → Rises leaf.pairs → All HasOrder bs
     → value_on k (fold (after p) (Some leaf) bs) ≡ told_by (blocks_word p k bs) (find order k leaf.pairs)
 blocks_tell p k bs leaf rises h =

@@ -19,7 +19,7 @@ pub record Chained : Type 0 where
   -- how many more links fit without a growth
   pub room : ℕ
 
--- the leaf under the links, where the log has `below`
+-- the leaf under the links, if the log has `below`
 abbrev pub ground_of : End → Leaf → Leaf
 ground_of (Whole leaf) below = leaf
 ground_of (OnLog place) below = below
@@ -42,7 +42,7 @@ count_deltas [] = 0
 count_deltas (Delta r ∷ links) = count_deltas links + 1
 count_deltas (Flushed place ∷ links) = count_deltas links
 
--- the page, where the log has `below`
+-- the page, if the log has `below`
 abbrev pub content_of : Chained → Leaf → Leaf
 content_of c below = told c.links (ground_of c.end below)
 

@@ -6,7 +6,7 @@ use Rattle.bw_record.specs.declared.record.Record.{Record}
 use Rattle.bw_record.specs.declared.record.Record.TheVariants.{Put, Del}
 use Rattle.bw_leaf.specs.Changed.{Bytes, Pairs, order}
 
--- the end of a search behind n other pairs
+-- the end of a search after n other pairs
 abbrev pub passed : ℕ → Result ℕ ℕ → Result ℕ ℕ
 passed n (Ok at) = Ok (n + at)
 passed n (Err at) = Err (n + at)
@@ -31,19 +31,20 @@ abbrev pub IsBetween : ℕ → Result ℕ ℕ → Type 0
 IsBetween n (Ok at) = Unit {0}
 IsBetween n (Err at) = (1 ≤ at) × (at < n)
 
--- a record adds no pair where the search for its key ended so
+-- a record adds no pair if the search for its key ended so
 abbrev pub AddsNone : Record → Result ℕ ℕ → Type 0
 AddsNone (Put key value) (Ok at) = Unit {0}
 AddsNone (Put key value) (Err at) = ⊥
 AddsNone (Del key) found = Unit {0}
 
--- a record adds a pair where the search for its key ended so
+-- a record adds a pair if the search for its key ended so
 abbrev pub AddsOne : Record → Result ℕ ℕ → Type 0
 AddsOne (Put key value) (Ok at) = ⊥
 AddsOne (Put key value) (Err at) = Unit {0}
 AddsOne (Del key) found = ⊥
 
--- the record that takes a record back, where its key had this value; there is none that would add a pair
+-- the record that takes a record back, if its key had this value; there is none that would add a
+-- pair
 abbrev pub back_of : Record → Option Bytes → Option Record
 back_of (Put key value) (Some old) = Some (Put key old)
 back_of (Put key value) None = Some (Del key)

@@ -21,7 +21,7 @@ newer was Silent = was
 newer was Gone = Gone
 newer was (Holds value) = Holds value
 
--- the value, where there was this one before the word
+-- the value, if there was this one before the word
 abbrev pub told_by : Word → Option Bytes → Option Bytes
 told_by Silent was = was
 told_by Gone was = None

@@ -205,8 +205,8 @@ impl Chain {
         self.end = End::OnLog(place);
     }
 
-    /// Puts the whole page in the place of what stands below the newest link, where that is a
-    /// flushed one. It answers whether it was; if not, nothing changes, nor does it on a refusal.
+    /// Puts the whole page in the place of what stands below the newest link, if that is a flushed
+    /// one. It answers whether it was; if not, nothing changes, nor does it on a refusal.
     pub fn consolidate(&mut self, below: &Leaf) -> Result<bool, AllocError>
         ensures acts { IfOk result (λ b. b ≡ is_some (consolidated self.old below.now)) }
         ensures links { OnOk result (self.new.links

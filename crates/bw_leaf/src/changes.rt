@@ -13,9 +13,9 @@ use bw_codec::{Key, Leaf, Low, Packed, Pair, Pairs, Record, Value, compare};
 use std::alloc::{AllocError, Global};
 use std::cmp::Ordering;
 
-/// The index of a key, or where it would stand. Eight bytes of keys, behind those that all of them
+/// The index of a key, or where it would stand. Eight bytes of keys, after those that all of them
 /// share, are compared as numbers, and whole keys as bytes from the first pair on that these do not
-/// tell apart: a search for a key that is not there mostly looks at no pair, whose bytes stand
+/// set apart. A search for a key that is not there mostly looks at no pair, whose bytes stand
 /// elsewhere in memory.
 pub fn find_key(pairs: &Pairs, key: &[u8]) -> Result<usize, usize>
     ensures found { result ≡ seek_of key.now pairs.now }
@@ -31,7 +31,7 @@ pub fn find_key(pairs: &Pairs, key: &[u8]) -> Result<usize, usize>
     }
 }
 
-// The same among pairs whose whole keys are compared.
+// The index of a key among pairs whose whole keys are compared, or where it would stand.
 fn find_whole(pairs: &[Pair], key: &[u8]) -> Result<usize, usize>
     ensures found { result ≡ seek_of key.now pairs.now }
     ensures within { IsWithin (length pairs.now) result }
@@ -58,7 +58,7 @@ pub fn count_after(leaf: &Leaf, change: &Record) -> usize
     )
 }
 
-/// How many pairs there are after a record, where the search for its key ended so.
+/// How many pairs there are after a record, if the search for its key ended so.
 pub fn count_found(pairs: &[Pair], found: Result<usize, usize>, change: &Record) -> usize
     requires found { found ≡ seek_of (key_of change.now) pairs.now }
     requires within { IsWithin (length pairs.now) found }
@@ -76,7 +76,7 @@ pub fn count_found(pairs: &[Pair], found: Result<usize, usize>, change: &Record)
     }
 }
 
-/// The same of a packed record.
+/// How many pairs there are after a packed record, if the search for its key ended so.
 pub fn count_packed(pairs: &[Pair], found: Result<usize, usize>, change: &Packed) -> usize
     requires found { found ≡ seek_of (key_of change.now) pairs.now }
     requires within { IsWithin (length pairs.now) found }
@@ -106,7 +106,7 @@ pub fn change(leaf: &mut Leaf, change: &Record) -> Result<(), AllocError>
     change_packed(leaf, &packed)
 }
 
-/// The same by a packed record, whose bytes the leaf then shares.
+/// Changes a leaf by a packed record, whose bytes the leaf then shares. As `change` otherwise.
 pub fn change_packed(leaf: &mut Leaf, change: &Packed) -> Result<(), AllocError>
     ensures ok { OnOk result (leaf.new ≡ changed change.now leaf.old) }
     ensures unchanged { OnErr result (leaf.new ≡ leaf.old) }
@@ -116,9 +116,9 @@ pub fn change_packed(leaf: &mut Leaf, change: &Packed) -> Result<(), AllocError>
     Ok(())
 }
 
-/// The same, where the search for the record's key ended so. It gives the record that takes this
-/// one back; there is none for a record that removes a pair, since to put that one back may take
-/// memory.
+/// Changes a leaf by a packed record, if the search for its key ended so. It gives the record that
+/// takes this one back; there is none for a record that removes a pair, since to put that one back
+/// may take memory.
 pub fn change_found(
     leaf: &mut Leaf,
     found: Result<usize, usize>,
@@ -156,8 +156,8 @@ pub fn change_found(
     }
 }
 
-/// Changes a leaf by a record that adds no pair and has its memory, where the search for its key
-/// ended so. No memory is taken.
+/// Changes a leaf by a record that adds no pair and has its memory, if the search for its key ended
+/// so. No memory is taken.
 pub fn take_back(leaf: &mut Leaf, found: Result<usize, usize>, back: Packed)
     requires found { found ≡ seek_of (key_of back) leaf.old.pairs }
     requires within { IsWithin (length leaf.old.pairs) found }
@@ -174,7 +174,7 @@ pub fn take_back(leaf: &mut Leaf, found: Result<usize, usize>, back: Packed)
     }
 }
 
-/// Whether a record removes a pair, where the search for its key ended so.
+/// Whether a record removes a pair, if the search for its key ended so.
 pub fn removes(found: Result<usize, usize>, change: &Packed) -> bool
     ensures { (pairs : PairList) → IsTrue (ascends pairs) → found ≡ seek_of (key_of change.now) pairs
         → result ≡ is_none (back_of change.now (find order (key_of change.now) pairs)) }

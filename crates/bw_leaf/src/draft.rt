@@ -27,7 +27,7 @@ const FEW: usize = 64;
 /// A page that is read forwards, however many pairs it has.
 #[derive(Drop)]
 pub struct Draft {
-    /// The page; its pairs stand here where there is no tree.
+    /// The page; its pairs stand here if there is no tree.
     leaf: Leaf,
     /// All of its pairs, once they were too many for a row.
     tree: Option<BTreeMap<Key, Value>>,
@@ -43,7 +43,7 @@ impl Model for Draft {
     ghost view = { leaf_of };
 }
 
-// The records of a Delta, where the page was set.
+// The records of a Delta, if the page was set.
 fn change_some(was: Option<Draft>, records: &[Packed]) -> Result<Option<Draft>, AllocError>
     ensures { IfOk result (λ draft. draft ≡ option_map (all_changed records.now) was) }
 {
@@ -61,7 +61,7 @@ impl Draft {
         Draft { leaf, tree: None }
     }
 
-    /// The page as a leaf, in no more room than its pairs take. It takes memory where there are many
+    /// The page as a leaf, in no more room than its pairs take. It takes memory if there are many
     /// pairs, whose refusal is the only error.
     pub fn into_leaf(self) -> Result<Leaf, AllocError>
         ensures { IfOk result (λ leaf. leaf ≡ self) }
@@ -83,8 +83,8 @@ impl Draft {
         }
     }
 
-    // The same page, in a tree where one more pair would be too many for a row. A row whose keys do
-    // not ascend is no lawful page's, and stays.
+    // This page, in a tree if one more pair would be too many for a row. A row whose keys do not
+    // ascend is no lawful page's, and stays.
     fn spread(self) -> Result<Draft, AllocError>
         ensures { IfOk result (λ draft. draft ≡ self) }
     {
@@ -142,8 +142,8 @@ impl Draft {
         Ok(draft)
     }
 
-    /// The same, where the page stands: a page is large, and a row of pairs is nowhere moved to. Of a
-    /// page at which memory was refused nothing is said.
+    /// Changes the page by records, one after the other, where it stands: a page is large, and a
+    /// row of pairs is nowhere moved to. Of a page at which memory was refused nothing is said.
     pub fn apply_all(&mut self, records: &[Packed]) -> Result<(), AllocError>
         ensures { OnOk result (self.new ≡ all_changed records.now self.old) }
     {
@@ -169,7 +169,7 @@ impl Draft {
         }
     }
 
-    // The same, where the pairs stand in a tree or may have to.
+    // The page after a record, if the pairs stand in a tree or may have to.
     fn apply_spread(&mut self, change: &Packed) -> Result<(), AllocError>
         ensures { OnOk result (self.new ≡ changed change.now self.old) }
     {
@@ -200,8 +200,8 @@ impl Draft {
         }
     }
 
-    /// What a page is after one more block, where it was `was` before; `None` where it was never
-    /// set. A refused growth is the only error; page and block are then dropped.
+    /// What a page is after one more block, if it was `was` before; `None` if it was never set. A
+    /// refused growth is the only error; page and block are then dropped.
     pub fn after(page: u32, was: Option<Draft>, block: Block) -> Result<Option<Draft>, AllocError>
         ensures { IfOk result (λ draft. draft ≡ after page was block) }
     {
@@ -240,7 +240,8 @@ impl Draft {
         }
     }
 
-    /// The same after blocks, one after the other.
+    /// What a page is after blocks, one after the other, if it was `was` before; `None` if it was
+    /// never set. A refused growth is the only error.
     pub fn after_all(
         page: u32,
         was: Option<Draft>,

@@ -57,7 +57,7 @@ fn key_of(keys: &[u8], item: Item) -> &[u8]
     &keys[at..at + item.len as usize]
 }
 
-// Puts a key behind those that there are.
+// Puts a key after those that there are.
 fn add_key(keys: &mut Vec<u8>, key: &[u8], size: usize) -> Result<Item, AllocError>
     ensures keys { OnOk result (keys.new.items ≡ keys.old.items ++ key.now) }
     ensures unchanged { OnErr result (keys.new.items ≡ keys.old.items) }

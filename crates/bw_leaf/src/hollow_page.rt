@@ -128,7 +128,7 @@ fn hollow_of(alloc: Global, pairs: &[Pair]) -> Result<Hollow, AllocError>
 }
 
 impl Row {
-    // The pairs in a tree, where one more would be too many for a row.
+    // The pairs in a tree, if one more would be too many for a row.
     fn spread(&mut self, alloc: Global) -> Result<(), AllocError>
         ensures { hollow (row_pairs self.new) ≡ hollow (row_pairs self.old) }
     {

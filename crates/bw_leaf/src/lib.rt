@@ -6,9 +6,9 @@
 //! page (`specs/Forwards.antt`), and read from the newest back they give the value of one key
 //! (`specs/Words.antt`).
 //!
-//! A search compares eight bytes of keys as numbers, behind those that a page's keys share, and
-//! whole keys only where these do not tell them apart. `find_key` gives the place; what changes a
-//! page there takes the place too, so that a record is searched for once.
+//! A search compares eight bytes of keys as numbers, after those that a page's keys share, and
+//! whole keys only if these do not set them apart. `find_key` gives the place; what changes a page
+//! there takes the place too, so that a record is searched for once.
 #![tactic(auto)]
 
 mod chain;

@@ -18,7 +18,7 @@ pub fn change_all(leaf: Leaf, records: &[Packed]) -> Result<Leaf, AllocError>
 }
 
 /// The leaf without its pairs from a key on, in no more room than the others take. It is never
-/// refused; where memory is wanting it keeps its room, or has no row of heads.
+/// refused; if memory is wanting, it keeps its room, or has no row of heads.
 pub fn keep_below(leaf: Leaf, separator: &[u8]) -> Leaf
     ensures { result ≡ kept_below separator.now leaf }
 {
@@ -54,16 +54,16 @@ fn closed(draft: Option<Draft>) -> Result<Option<Leaf>, AllocError>
     }
 }
 
-/// What a page is after one more block, where it was `was` before; `None` where it was never set.
-/// A block that does not touch the page costs a look at its numbers. A refused growth is the only
-/// error; leaf and block are then dropped.
+/// What a page is after one more block, if it was `was` before; `None` if it was never set. A block
+/// that does not touch the page costs a look at its numbers. A refused growth is the only error;
+/// leaf and block are then dropped.
 pub fn read_block(page: u32, was: Option<Leaf>, block: Block) -> Result<Option<Leaf>, AllocError>
     ensures { IfOk result (λ leaf. leaf ≡ after page was block) }
 {
     closed(Draft::after(page, opened(was), block)?)
 }
 
-/// What a page is after blocks, one after the other, where it was `was` before. A refused growth is
+/// What a page is after blocks, one after the other, if it was `was` before. A refused growth is
 /// the only error; leaf and blocks are then dropped.
 pub fn read_blocks(
     page: u32,

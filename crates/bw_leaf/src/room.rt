@@ -6,8 +6,8 @@ ghost use Rattle.std.specs.Prelude.{◌≡◌, IfOk};
 use bw_codec::{Leaf, Pair, Pairs};
 use std::alloc::{AllocError, Global};
 
-/// The same leaf in no more room than it needs. It is never refused; where memory is wanting it
-/// keeps what it has, or has no row of heads.
+/// This leaf in no more room than it needs. It is never refused; if memory is wanting, it keeps
+/// what it has, or has no row of heads.
 pub(crate) fn fitted(leaf: Leaf) -> Leaf
     ensures { result ≡ leaf }
 {
@@ -22,8 +22,8 @@ pub(crate) fn fitted(leaf: Leaf) -> Leaf
     }
 }
 
-/// The same leaf in memory of its own, and in no more than it needs. A refused growth is the only
-/// error.
+/// A copy of this leaf in memory of its own, and in no more than it needs. A refused growth is the
+/// only error.
 pub fn fitted_copy(alloc: Global, leaf: &Leaf) -> Result<Leaf, AllocError>
     ensures { IfOk result (λ copy. copy ≡ leaf.now) }
 {
@@ -36,7 +36,7 @@ pub fn fitted_copy(alloc: Global, leaf: &Leaf) -> Result<Leaf, AllocError>
     })
 }
 
-// The same pairs in no more room than they need.
+// A copy of these pairs in no more room than they need.
 fn same_pairs(alloc: Global, pairs: &[Pair]) -> Result<Vec<Pair>, AllocError>
     ensures { IfOk result (λ copy. copy.items ≡ pairs.now) }
 {

@@ -53,8 +53,8 @@ fn take_upper(alloc: Global, m: u16, leaf: &mut Leaf, page: u32) -> Result<Leaf,
     })
 }
 
-/// Where the pair goes that a record adds, and that pair, which shares the record's bytes: where the
-/// search for its key ended. It is refused alone where the count of those that share is full.
+/// Where the pair goes that a record adds, and that pair, which shares the record's bytes: where
+/// the search for its key ended. It is refused only if the count of those that share is full.
 pub fn new_pair(found: Result<usize, usize>, item: &Packed) -> Result<(usize, Pair), AllocError>
     requires adds { AddsOne item.now found }
     ensures at { IfOk result (λ r. found ≡ Err r.0) }

@@ -9,7 +9,7 @@ use bw_codec::{Key, Packed, Pair, Value, is_before};
 use std::alloc::AllocError;
 use std::collections::BTreeMap;
 
-/// The same pairs in a tree. They are taken from the last one down, so each key is the least so far.
+/// These pairs in a tree. They are taken from the last one down, so each key is the least so far.
 pub(crate) fn tree_of(pairs: Vec<Pair>) -> Result<BTreeMap<Key, Value>, AllocError>
     requires { IsTrue (ascends pairs.items) }
     ensures { IfOk result (λ tree. tree.entries ≡ pairs.items) }
@@ -43,7 +43,7 @@ pub(crate) fn change_tree(
 ) -> Result<(), AllocError>
     ensures { OnOk result (tree.new.entries ≡ changed_pairs change.now tree.old.entries) }
 {
-    // Tells the proof that the keys ascend; so below.
+    // Shows the proof that the keys ascend; so below.
     let _ = tree.len();
     match change.pair() {
         Ok(pair) => {

@@ -25,7 +25,7 @@ pub enum Word {
 }
 
 impl Word {
-    /// The value of the key, where it had this one before.
+    /// The value of the key, if it had this one before.
     pub fn over(self, was: Option<Value>) -> Option<Value>
         ensures { result ≡ told_by self was }
     {

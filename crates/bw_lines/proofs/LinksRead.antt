@@ -105,7 +105,7 @@ blocks_wrong first number k done rest bs more all b lines fault is split read wr
     wrong_as (bad_link first [] (done ++ (placed number 0 all ++ rest))) (fault_of first (done ++ placed number 0 bs) b) fault
     (λ q e. ap (bad_link first []) whole ∙ wrong_here first (done ++ placed number 0 bs) here (placed number (k + 1) more ++ rest) q read.linked e) wrong
 
--- the items so far, the next one and those behind it
+-- the items so far, the next one and those after it
 pub split_there : {X : Type 0} (xs yielded : List X) (x : X) → xs ≡ yielded ++ x ∷ drop (length yielded + 1) xs
     → xs ≡ yielded ++ x ∷ drop (length yielded + 1) xs
 split_there xs yielded x e = e
@@ -133,7 +133,7 @@ next_of all now later i b is front =
     let n = next_of_by all i b later (sym is ∙ front) in
     record { front = ap (λ (k : ℕ). take k all) (sym one) ∙ n.0; beyond = ap (λ (k : ℕ). drop k all) (sym one) ∙ n.1; split = n.2; index = n.3 }
 
--- an item, and those behind it
+-- an item, and those after it
 item_there : (all : List Block) (i : ℕ) (b : Block) → i < length all → b ≡ get_or all i b → drop i all ≡ b ∷ drop (suc i) all
 item_there [] i b inside is = absurd (omega arith)
 item_there (x ∷ xs) zero b inside is = ap (λ (y : Block). y ∷ xs) (sym is)

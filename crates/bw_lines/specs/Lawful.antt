@@ -1,4 +1,4 @@
--- Which page of a forward reading is at fault, and the leaves where none is.
+-- Which page of a forward reading is at fault, and the leaves if none is.
 
 use Rattle.std.specs.Prelude.{ℕ, zero, suc, ◌+◌, ◌≤◌, ◌==◌, ◌&&◌, ◌||◌, not, nat_lt, nat_eq, Bool, true, if◌then◌else◌, Option, Some, None, List, [], ◌∷◌}
 use Rattle.std.specs.Prelude.{length}
@@ -19,7 +19,7 @@ as_list (Some x) = x ∷ []
 
 -- ---- frames
 
--- a frame from number 1 on, with a block, all of them lawful where pages have at most so many pairs
+-- a frame from number 1 on, with a block, all of them lawful if pages have at most so many pairs
 abbrev pub HasLawful : ℕ → Frame → Type 0
 HasLawful m f = (1 ≤ f.number) × (1 ≤ length f.blocks) × AllByRecursion (IsBlock m) f.blocks
 
@@ -31,7 +31,7 @@ page_set (Delta page back ops) = None
 page_set (Base leaf) = Some leaf.page
 page_set (Split page back upper) = Some upper.page
 
--- each page that is set, as it is in the end; where a page is set twice it stands here twice
+-- each page that is set, as it is in the end; if a page is set twice, it stands here twice
 abbrev pub set_by : List Block → Option ℕ → List Leaf
 set_by blocks None = []
 set_by blocks (Some p) = as_list (content p blocks)
@@ -52,7 +52,7 @@ has_low_before set leaf = list_any (λ l. nat_lt l.page leaf.page && is_same l.l
 abbrev pub is_astray : List Leaf → Leaf → Bytes → Bool
 is_astray set leaf key = is_below key leaf.low || list_any (λ l. is_below leaf.low l.low && not (is_below key l.low)) set
 
--- page 1 alone has the empty low
+-- only page 1 has the empty low
 abbrev pub has_wrong_low : Leaf → Bool
 has_wrong_low leaf = if leaf.page == 1 then not (is_same leaf.low []) else is_same leaf.low []
 

@@ -63,7 +63,7 @@ abbrev pub taken_before : Option ℕ → ℕ → Bool
 taken_before None page = false
 taken_before (Some first) page = nat_lt first page
 
--- an index tells the lows of these leaves, and the least page of each
+-- an index gives the lows of these leaves, and the least page of each
 pub record IsLows (set : List Leaf) (got : Bytes → Option ℕ) : Type 0 where
   pub from : AllByRecursion (λ l. 1 ≤ l.page) set
   pub short : AllByRecursion (λ l. length l.low ≤ 128) set
@@ -105,7 +105,7 @@ line_at p (e ∷ es) = if p == e.0 then Some e.1 else line_at p es
 abbrev pub AreOf : List Frame → List Paged → Type 0
 AreOf frames es = (p : ℕ) → line_at p es ≡ line_of p None (all_placed frames)
 
--- the same of a map
+-- a map has the lines of all pages that frames touch
 abbrev pub IsMapOf : List Frame → tree.BTreeMap ℕ Line → Type 0
 IsMapOf frames lines = (p : ℕ) → tree.get nat_cmp lines p ≡ line_of p None (all_placed frames)
 
@@ -121,7 +121,7 @@ at_line e = e.1.at
 abbrev pub HasFrames : ℕ → tree.BTreeMap ℕ Line → Type 0
 HasFrames m lines = (frames : List Frame) × AllByRecursion (HasLawful m) frames × (1 ≤ length frames) × IsMapOf frames lines
 
--- the pages of frames, where none is at fault
+-- the pages of frames, if none is at fault
 pub record IsRight (m : ℕ) (frames : List Frame) (r : Pages) : Type 0 where
   pub none : fault_among m frames ≡ None
   pub limit : r.leaves.m ≡ m

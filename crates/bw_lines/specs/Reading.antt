@@ -62,7 +62,8 @@ abbrev pub LinkFaultIs : Option ℕ → ReadFault → Type 0
 LinkFaultIs page NoMemory = Unit {0}
 LinkFaultIs page (BadLink p) = page ≡ Some p
 
--- a block of a page links back wrongly, where this is the last one that touches it; unless memory ran out
+-- a block of a page links back wrongly, if this is the last one that touches it; unless memory ran
+-- out
 abbrev pub IsUnlinked : ℕ → ℕ → Option Place → Place → ReadFault → Type 0
 IsUnlinked first page last back NoMemory = Unit {0}
 IsUnlinked first page last back (BadLink p) = (p ≡ page) × (is_back first last back ≡ false)

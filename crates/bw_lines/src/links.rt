@@ -62,7 +62,7 @@ impl DraftLine {
     }
 }
 
-// The records of a Delta, where the page was set: it stays where it is.
+// The records of a Delta, if the page was set: it stays where it is.
 fn change_some(draft: &mut Option<Draft>, records: &[Packed]) -> Result<(), AllocError>
     ensures { OnOk result (draft.new ≡ option_map (all_changed records.now) draft.old) }
 {
@@ -110,7 +110,7 @@ fn put_line(
     Ok(())
 }
 
-// Changes the line of a page by the records of a Delta, where the map has one; whether it does. The
+// Changes the line of a page by the records of a Delta, if the map has one; whether it does. The
 // line is looked for once, for its link and for its change.
 fn change_there(
     lines: &mut BTreeMap<u32, DraftLine>,
@@ -239,7 +239,7 @@ impl From<AllocError> for ReadFault {
     }
 }
 
-// The page, where a block of it may not link back so.
+// The page, if a block of it may not link back so.
 fn wrong_back(lines: &BTreeMap<u32, DraftLine>, first: u64, page: u32, back: Place) -> Option<u32>
     ensures { (done : List (PlaceValue × BlockValue)) → IsRead first done lines.now
         → result ≡ fault_at first done page back }

@@ -14,7 +14,7 @@ use Rattle.bw_core.specs.declared.store.Core.{Core}
 use Rattle.bw_lives.specs.declared.fault.ReliveFault.{ReliveFault}
 use Rattle.bw_lives.specs.declared.fault.ReliveFault.TheVariants.{NoMemory, Recovery, Reopening}
 
--- its boxes are recovered, but for want of memory, a read that failed, or where nothing was ever kept
+-- its boxes are recovered, but for want of memory, a read that failed, or if nothing was ever kept
 abbrev pub IsUnfound : Kept → RecoverCause → Type 0
 IsUnfound old Wanting = Unit {0}
 IsUnfound old (Device lease) = Unit {0}

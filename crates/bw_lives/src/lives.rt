@@ -33,12 +33,12 @@ fn add_all(boxes: &mut Vec<Box<dyn Segment>>, more: Vec<Box<dyn Segment>>)
 /// writers, 1 to 64, with rings of `places` places, 1 to 4,096. What was not flushed is gone, and
 /// what was not taken.
 ///
-/// The store goes on with the pages up to the last durable cut. Where an append failed it may be
-/// those up to the cut of that frame: all of it may have been written. So each record of which
-/// `durable_of` told that it is durable is there.
+/// The store goes on with the pages up to the last durable cut. If an append failed, it may be
+/// those up to the cut of that frame: all of it may have been written. So each record that
+/// `durable_of` said to be durable is there.
 ///
-/// Refused `NoMemory`, where nothing was begun: the store comes back. Refused `Recovery`, for want
-/// of memory, if a box could not be read, and if nothing was ever kept. Refused `Reopening`, as
+/// Refused `NoMemory` if nothing was begun: the store comes back. Refused `Recovery`, for want of
+/// memory, if a box could not be read, and if nothing was ever kept. Refused `Reopening`, as
 /// `Core::reopen` is. It costs a recovery.
 pub fn relive(
     alloc: Global,

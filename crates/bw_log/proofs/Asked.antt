@@ -11,7 +11,7 @@ use Rattle.bw_codec.specs.Reading.{version_in}
 use Rattle.bw_log.proofs.Reread.{live_version}
 use Rattle.bw_log.specs.declared.places.PageAt.{PageAt}
 
--- ---- one box, as a question tells it
+-- ---- one box, as a question answers it
 
 pub found : {X : Type 0} (v : X → Holding) (xs : List X) (i : ℕ) → i < length xs → (h : Holding) × (slice_get (map v xs) i ≡ Some h)
 found v [] i inside = absurd (omega arith)
@@ -34,7 +34,7 @@ live_number l number [] i are inside = absurd (omega arith)
 live_number l number (b ∷ bs) zero are inside = let law = are.0.whole.lawful.number in omega arith
 live_number l number (b ∷ bs) (suc i) are inside = let more = live_number l (number + 1) bs i are.1 (omega arith) in omega arith
 
--- the same of boxes
+-- each live box has a number below the limit
 pub box_number : {X : Type 0} (v : X → Holding) (l : Limits) (number : ℕ) (xs : List X) (i : ℕ) → AreLive l number (map (λ h. h.bytes) (map v xs))
     → i < length xs
     → number + i < 2 ^ 64

@@ -38,7 +38,7 @@ left_same i j next m counts frames (inr one) =
 abbrev pub header_in : Image → Header
 header_in i = header_with (i.number + length i.bytes) i.m i.f
 
--- the image with a segment of a header alone
+-- the image with a segment of only a header
 abbrev pub with_segment : Image → Image
 with_segment i = record i { bytes = i.bytes ++ header_bytes (header_in i) ∷ []; is_open = true }
 

@@ -183,7 +183,7 @@ lawful_block : (v m f : ℕ) (frame : Frame) (front : List Block) (b : Block) (b
 lawful_block v m f frame front b back law split =
     all_between (IsBlockIn v m) front b back (subst (AllByRecursion (IsBlockIn v m)) split law.blocks)
 
--- the block of a span, alone
+-- only the block of a span
 pub alone_at : {c : Contents} {i index : ℕ} {b : Block} {spot : Spot} {line : FrameAt} (span : ℕ × ℕ) (starts : List ℕ) (s : Spotted c i spot line)
     → BlockAt (counted c) i index b → starts ≡ line.starts → IsSpan starts spot.len index span
     → (span.0 ≤ span.1) × (spot.from + span.1 ≤ spot.from + spot.len)
@@ -238,7 +238,7 @@ first_at {c} {i} {index} {b} {spot} {line} span starts bytes s x known is read =
       },
     )
 
--- the same by the spot's own line
+-- what stands in a counted frame, by the spot's own line
 pub spotted_own : {c : Contents} {i : ℕ} {spot : Spot} → IsSound c → i < length c.frames → (s : IsSpot c i spot) → Spotted c i spot s.line
 spotted_own {c} {i} {spot} sound inside s = spotted sound inside s s.line (sym (get_or_from_slice_get c.frames i s.line s.line s.told))
 
@@ -294,7 +294,7 @@ some_start {c} {i} {index} {b} {spot} {line} s starts x known none =
     ∙ starts_here spot.version 20 x.front b x.back in
     (let e : None ≡ Some (20 + length (body_bytes_in spot.version x.front)) = sym none ∙ here in cc)
 
--- all that stands behind an offset
+-- all that stands after an offset
 pub rest_all : (n : ℕ) (bytes : List ℕ) → take (length bytes - n) (drop n bytes) ≡ drop n bytes
 rest_all n bytes = take_all (length bytes - n) (drop n bytes) (omega (arith, length-drop n bytes))
 
@@ -356,7 +356,7 @@ pub placed_spot : {c : Contents} {place : Place} {b : Block} {spot : Spot} (firs
     → first ≡ get_or c.frames 0 first → (s : IsSpot c (place.frame - first.number) spot) → Spotted c (place.frame - first.number) spot s.line
 placed_spot first sound x is s = spotted_own sound (numbered_at first sound x is).inside s
 
--- the block alone, by the span that its frame's line has for it
+-- only the block, by the span that its frame's line has for it
 pub placed_alone : {c : Contents} {place : Place} {b : Block} {spot : Spot} (first line : FrameAt) (span : ℕ × ℕ) → IsSound c
     → PlacedAt (all_placed (counted c)) place b → first ≡ get_or c.frames 0 first → IsSpot c (place.frame - first.number) spot
     → line ≡ get_or c.frames (place.frame - first.number) line → IsSpan line.starts spot.len place.index span

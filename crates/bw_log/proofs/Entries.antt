@@ -101,7 +101,7 @@ in_segment v m f segment bytes front (x ∷ xs) torn parts lawful =
           (in_segment v m f segment bytes (front ++ frame_bytes_in v x) xs torn next lawful.1),
     )
 
--- the same in a segment of a log
+-- a line says where its frame stands in a segment of a log
 abbrev pub InLive : Limits → ℕ → List ℕ → FrameAt × Frame → Type 0
 InLive l number bytes e = InSegment (version_at l.old_to number) l.m (limit_at l number) number bytes e
 

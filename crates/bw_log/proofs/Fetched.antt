@@ -23,7 +23,7 @@ use Rattle.bw_log.specs.Segments.{version_at, limit_at}
 use Rattle.bw_record.specs.declared.block.Frame.{Frame}
 use Rattle.bw_log.proofs.Entries.{line_at}
 
--- the list of live segments alone changed
+-- only the list of live segments changed
 abbrev pub with_live : Contents → List Holding → Contents
 with_live c live = record c { live = live }
 
@@ -46,7 +46,7 @@ failed_read old live at lease changed named =
       is = ap (with_live old) (changed.is ∙ ap (set old.live at) changed.steps);
     }
 
--- the same of boxes
+-- what a failed read leaves, of boxes
 pub failed_box : {X : Type 0} (v : X → Holding) (old : Contents) (ys zs : List X) (at lease : ℕ)
     → ChangedAt (λ h k. k ≡ failed_once h) at old.live (map v ys) → zs ≡ ys
     → IfSome (slice_get (map v zs) at) (λ h. lease ≡ h.lease) → FailedRead (λ i. i ≡ at) lease old (with_live old (map v ys))
@@ -211,7 +211,7 @@ stops_as reads others old new Spent more stops =
     (stops.0, let worn = stops.1 in record { at = worn.at; read = more worn.at worn.read; segment = worn.segment; is = worn.is; greatest = worn.greatest })
 stops_as reads others old new NoPage more stops = stops
 
--- the same where the log had not changed before
+-- what a refused read leaves, if the log had not changed before
 pub stops_since : (reads others : ℕ → Type 0) (old now new : Contents) (fault : LogFault) → now ≡ old → ((i : ℕ) → reads i → others i)
     → StopsAt reads now fault new → StopsAt others old fault new
 stops_since reads others old now new fault same more stops =

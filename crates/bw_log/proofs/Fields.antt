@@ -62,7 +62,7 @@ pub spares_roomy : (f : ℕ) (hs : List Holding) → AllByRecursion (IsSpare f) 
 spares_roomy f [] all = tt
 spares_roomy f (h ∷ hs) all = (all.0.1, spares_roomy f hs all.1)
 
--- one more box behind them
+-- one more box after them
 pub roomy_more : (f : ℕ) (spares : List Holding) (h : Holding) → AllByRecursion (IsRoomy f) spares → IsRoomy f h → AllByRecursion (IsRoomy f) (spares ++ h ∷ [])
 roomy_more f [] h all one = (one, tt)
 roomy_more f (s ∷ ss) h all one = (all.0, roomy_more f ss h all.1 one)
@@ -84,12 +84,12 @@ pub spares_push : (f : ℕ) (spares : List Holding) (h : Holding) → AllByRecur
 spares_push f [] h all one = (one, tt)
 spares_push f (s ∷ ss) h all one = (all.0, spares_push f ss h all.1 one)
 
--- one more box behind them
+-- one more box after them
 pub torn_more : (number m f : ℕ) (spares : List Holding) (h : Holding) → AreTorn number m f spares → IsSpare f h → AreTorn number m f (spares ++ h ∷ [])
 torn_more number m f [] h all one = (inl one.0, tt)
 torn_more number m f (s ∷ ss) h all one = (all.0, spares_push f ss h all.1 one)
 
--- a log of spares alone
+-- a log of spares only
 fresh_sound : (m f : ℕ) (spares : List Holding) → IsFit m f spares → IsSound (fresh m f spares)
 fresh_sound m f spares fit =
     let few = fit.few in

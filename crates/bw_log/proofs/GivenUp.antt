@@ -307,7 +307,7 @@ any_touched p (b ∷ bs) none =
     let two = or_parts (touches p b) (list_any (touches p) bs) none in
     or_from (sets p b) (list_any (sets p) bs) (sets_touches p b two.0) (any_touched p bs two.1)
 
--- the last place in all frames is that in what is left, where the table has the page, or nothing
+-- the last place in all frames is that in what is left, if the table has the page, or nothing
 table_by : (field : PageAt → Place) (test : Block → Bool) (pages : List PageAt) (p n : ℕ) (gone kept : List Frame) (in_kept : Option Place) → 1 ≤ p
     → AreFrom n kept → last_place test (all_placed kept) ≡ in_kept
     → (p ≤ length pages → list_any test (blocks_of kept) ≡ true) → place_in field pages p ≡ last_place test (all_placed (gone ++ kept))
@@ -354,7 +354,7 @@ pub walk_forgets : (p : ℕ) (v w : ℕ × ℕ) (xs : List (Place × Block)) (pl
 walk_forgets p v w [] place some = absurd cc
 walk_forgets p v w (x ∷ xs) place some = forgets_by p v w x xs place (sets p x.1) refl some (λ a b. walk_forgets p a b xs place)
 
--- the walk over all frames is that over what is left, where the table has the page, or nothing
+-- the walk over all frames is that over what is left, if the table has the page, or nothing
 walk_by : (pages : List PageAt) (p n : ℕ) (gone kept : List Frame) (in_kept : Option Place) → 1 ≤ p → AreFrom n kept
     → last_place (sets p) (all_placed kept) ≡ in_kept → (p ≤ length pages → list_any (sets p) (blocks_of kept) ≡ true)
     → place_in (λ e. e.place) pages p ≡ last_place (touches p) (all_placed kept) → walk_in pages p ≡ walk_to p (gone ++ kept)

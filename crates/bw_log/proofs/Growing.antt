@@ -1,4 +1,4 @@
--- A frame in the making, behind those that stand: one block more.
+-- A frame in the making, after those that stand: one block more.
 
 use Rattle.std.proofs.Common.{◌≡◌, ℕ, ◌+◌, Bool, Option, None, List, [], ◌∷◌, ◌++◌, length, refl, sym, ap, ◌∙◌, append_assoc, append-nil, arith}
 use Rattle.std.proofs.lemmas.Grind.{fold-append}

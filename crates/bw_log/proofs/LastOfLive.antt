@@ -236,7 +236,7 @@ pub none_told : {c : Contents} {lines : List FrameAt} {segment n : ℕ} → Sear
     → MatchOption (slice_get c.live (segment - c.number)) (◌≡◌ {A = ℕ} 0 0) (λ h. 0 ≡ last_number c h)
 none_told s none = told_by 0 s (sym (none_last (search_parts s).2 s.found no_line none))
 
--- the number of the line before the end, where it stands in the segment, and else 0
+-- the number of the line before the end, if it stands in the segment, and else 0
 pub own_told : {c : Contents} {lines : List FrameAt} {segment n : ℕ} (line : FrameAt) → Search c lines segment n → line ≡ get_or lines (n - 1) line → 0 < n
     → line.segment ≡ segment
     → MatchOption (slice_get c.live (segment - c.number)) (line.number ≡ 0) (λ h. line.number ≡ last_number c h)

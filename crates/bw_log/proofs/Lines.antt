@@ -93,7 +93,7 @@ few_new (suc k) n bs set =
     let rest = few_new k n top.others (λ p above within. top.set p (λ e. absurd (omega arith)) (set p above (omega arith))) in
     omega arith
 
--- ---- what standing leaves tell
+-- ---- what standing leaves say
 
 untouched : (p : ℕ) (bs : List Block) → AllByRecursion (λ b. touches p b ≡ false) bs → list_any (touches p) bs ≡ false
 untouched p [] all = refl
@@ -152,7 +152,7 @@ top_within : (n : ℕ) (bs : List Block) → HaveLines bs n → top_page bs ≤ 
 top_within n [] lines = omega arith
 top_within n (b ∷ bs) lines = let a = top_of_line n b lines.0 in let t = top_within n bs lines.1 in omega arith
 
--- what a frame's blocks ask of a table of n lines, where it stands for so many pages
+-- what a frame's blocks ask of a table of n lines, if it stands for so many pages
 pub record NewLines (bs : List Block) (n pages : ℕ) : Type 0 where
   pub lines : HaveLines bs pages
   pub few : pages ≤ n + length bs

@@ -92,7 +92,7 @@ pub neither : {A : Type 0} (x y : Option A) → or_else x y ≡ None → (x ≡ 
 neither None y e = (refl, e)
 neither (Some x) y e = absurd cc
 
--- in lawfully linked frames those of one frame are lawful behind the frames before it
+-- in lawfully linked frames those of one frame are lawful after the frames before it
 pub links_in : (first : ℕ) (xs : List Frame) (frame : Frame) (ys : List Frame) → bad_link first [] (all_placed (xs ++ frame ∷ ys)) ≡ None
     → bad_link first (all_placed xs) (placed frame.number 0 frame.blocks) ≡ None
 links_in first xs frame ys linked =
@@ -104,7 +104,7 @@ links_in first xs frame ys linked =
     (neither (bad_link first (all_placed xs) here) (bad_link first (all_placed xs ++ here) (all_placed ys))
     (sym (bad_link-append first (all_placed xs) here (all_placed ys)) ∙ two.1)).0
 
--- ---- the first block of a frame that touches a page, where none sets it
+-- ---- the first block of a frame that touches a page, if none sets it
 
 abbrev HasBack : ℕ → ℕ → List (Place × Block) → Option Place → Type 0
 HasBack p first before result = (back : Place) × (result ≡ Some back) × (is_back first (last_place (touches p) before) back ≡ true)

@@ -100,7 +100,7 @@ pub outlined_as : {v m : ℕ} {frame : Frame} {bytes rest starts : List ℕ} (n 
     → Some o ≡ Some (outline_of v n.block) → o ≡ outline_of v n.block
 outlined_as n o is = cc
 
--- the length in the outline is within the bytes, and what stands behind it is what the others spell
+-- the length in the outline is within the bytes, and what stands after it is what the others spell
 pub record Behind (v : ℕ) (block : Block) (others : List Block) (rest : List ℕ) (len : ℕ) : Type 0 where
   pub some : 1 ≤ len
   pub within : len ≤ length rest

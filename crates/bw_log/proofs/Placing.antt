@@ -208,7 +208,7 @@ pub last_of : (test : Block → Bool) (was : Option Place) (xs : List (Place × 
 last_of test was [] = inl (refl, refl)
 last_of test was (x ∷ xs) = last_by test was x xs (test x.1) refl (fold (later test) was (x ∷ xs)) (last_of test (if test x.1 then Some x.0 else was) xs)
 
--- ---- the blocks alone
+-- ---- the blocks only
 
 bodies_placed : (n i : ℕ) (bs : List Block) → bodies (placed n i bs) ≡ bs
 bodies_placed n i [] = refl

@@ -96,7 +96,7 @@ segment_read bytes h fs torn w =
 pub no_bytes_are_a_tail : (v f : ℕ) → IsTailIn v f []
 no_bytes_are_a_tail v f = inl (omega arith, refl)
 
--- a header alone
+-- only a header
 pub header_is_clean : (m f number : ℕ) → IsHeader (header_with number m f)
     → (segment_frames (header_bytes (header_with number m f)) ≡ [])
     × IsClean m f number (header_bytes (header_with number m f))
@@ -139,7 +139,7 @@ clean_len m f number bytes clean =
 abbrev pub IsNew : ℕ → ℕ → ℕ → List ℕ → Type 0
 IsNew m f number bytes = (torn : List ℕ) × IsWhole bytes (header_with number m f) (segment_frames bytes) torn
 
--- the header of a segment behind the old ones
+-- the header of a segment after the old ones
 pub header_new : (l : Limits) (number : ℕ) → l.old_to < number → header_in l number ≡ header_with number l.m l.f
 header_new l number new =
     ap (λ (t : Bool). let h : Header = record { version = if t then 1 else latest; number = number; m = l.m; f = if t then l.old_f else l.f } in h)

@@ -102,7 +102,7 @@ all_taken P zero xs all = tt
 all_taken P (suc n) [] all = tt
 all_taken P (suc n) (x ∷ xs) all = (all.0, all_taken P n xs all.1)
 
--- a live segment that is shortened behind its header: live, with a beginning of its frames
+-- a live segment that is shortened after its header: live, with a beginning of its frames
 pub live_shortened : (l : Limits) (number : ℕ) (bytes : List ℕ) (n : ℕ) → IsLive l number bytes → 24 ≤ n
     → (count : ℕ) × (segment_frames (take n bytes) ≡ take count (segment_frames bytes)) × IsLive l number (take n bytes)
 live_shortened l number bytes n live some =

@@ -64,7 +64,7 @@ pub forgets_fold : (p : ℕ) (v w : Option Leaf) (bs : List Block) → list_any 
 forgets_fold p v w [] e = absurd cc
 forgets_fold p v w (b ∷ bs) e = forgets_by p v w b bs (sets p b) refl (λ v w. forgets_fold p v w bs) e
 
--- ---- a page's content depends on its trail alone
+-- ---- a page's content depends only on its trail
 
 abbrev trail_step : ℕ → List Block → Block → List Block
 trail_step p was b = if sets p b then b ∷ [] else if touches p b then was ++ b ∷ [] else was

@@ -46,7 +46,7 @@ pub in_counted : {c : Contents} {place : Place} {b : Block} → IsSound c → Pl
     → InFrames (first_number (counted c)) (counted c) place b
 in_counted {c} {place} {b} sound s = in_frames (first_number (counted c)) (counted c) s.before place b s.beyond sound.holds.numbered s.split
 
--- the same by the index of its line
+-- the frame in which a block stands, by the index of its line
 pub record Numbered (c : Contents) (first : ℕ) (place : Place) (b : Block) : Type 0 where
   pub from_first : first ≤ place.frame
   pub inside : place.frame - first < length c.frames
@@ -82,7 +82,7 @@ some_frames {c} {place} sound s =
     let inside = n.inside in
     omega arith
 
--- the same by the first line
+-- the frame in which a block stands, numbered from the first line
 pub numbered_at : {c : Contents} {place : Place} {b : Block} (first : FrameAt) → IsSound c → PlacedAt (all_placed (counted c)) place b
     → first ≡ get_or c.frames 0 first → Numbered c first.number place b
 numbered_at {c} {place} {b} first sound s is = numbered_by first.number (first_is c first sound (some_frames sound (b, s)) is) sound s
@@ -251,7 +251,7 @@ no_line_by page pages false is none there =
 pub no_line : (page : ℕ) (pages : List PageAt) → None ≡ (if page == 0 then None else slice_get pages (page - 1)) → (1 ≤ page) × (page ≤ length pages) → ⊥
 no_line page pages none = no_line_by page pages (page == 0) refl none
 
--- an answer that is no refusal of the page, where the page is there
+-- an answer that is no refusal of the page, if the page is there
 pub page_answer : {A : Type 0} (pages : List PageAt) (page : ℕ) (result : Result A LogFault) → (result ≡ Err NoPage → ⊥) → (1 ≤ page) × (page ≤ length pages)
     → (result ≡ Err NoPage → (1 ≤ page) × (page ≤ length pages) → ⊥) × (((1 ≤ page) × (page ≤ length pages) → ⊥) → result ≡ Err NoPage)
 page_answer pages page result other there = (λ e. absurd (other e), λ none. absurd (none there))

@@ -451,7 +451,7 @@ tables_of d x older h p =
 
 -- ---- all ends at once
 
--- where nothing was to be refused, these answers are lawful
+-- if nothing was to be refused, these answers are lawful
 unrefused : (c : Contents) (x : Frame) (care : Bool) (r : Result (Unit {0}) LogFault) → Starts c x care → Answers None r
     → Answers (refusal c (length (frame_bytes x)) care) r
 unrefused c x care r st told = subst (λ (o : Option LogFault). Answers o r) (sym st.none) told

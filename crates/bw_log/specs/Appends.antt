@@ -55,7 +55,7 @@ roomy c len = if wants_segment c len then begun c else c
 
 -- ---- refusals, in their order
 
--- how many spares have to stand where a segment is begun, by whether the last one may be taken
+-- how many spares have to stand if a segment is begun, by whether the last one may be taken
 abbrev pub spares_wanted : Bool → ℕ
 spares_wanted false = 2
 spares_wanted true = 1
@@ -79,7 +79,8 @@ refusal c len takes_last =
     else if is_spent c len then Some Spent
     else None
 
--- the answer is that refusal; where there is none, no other than want of memory or a failure of the device
+-- the answer is that refusal; if there is none, no other than want of memory or a failure of the
+-- device
 abbrev pub Answers : Option LogFault → Result (Unit {0}) LogFault → Type 0
 Answers (Some fault) result = result ≡ Err fault
 Answers None (Ok x) = Unit {0}
@@ -91,7 +92,7 @@ Answers None (Err Failed) = ⊥
 Answers None (Err Spent) = ⊥
 Answers None (Err NoPage) = ⊥
 
--- the same of a call that asks no device
+-- the answer of a call that asks no device: that refusal; if there is none, Ok or want of memory
 abbrev pub Checks : Option LogFault → Result (Unit {0}) LogFault → Type 0
 Checks (Some fault) result = result ≡ Err fault
 Checks None result = (result ≡ Ok tt) ⊎ (result ≡ Err NoMemory)
@@ -196,7 +197,7 @@ pub record AfterAppend (old : Contents) (frame : Frame) (takes_last : Bool) (res
   -- after Ok
   pub added : OnOk result (Appended old frame new)
   pub log : IsSameLog old new
-  -- what can be told without the device comes first, in the order of `refusal`
+  -- what can be said without the device comes first, in the order of `refusal`
   pub answers : Answers (refusal old (length (frame_bytes frame)) takes_last) result
   -- after any other refusal the log is what it was
   pub device : OnDevice result (λ lease. Rose lease (boxes old) (boxes new) × Stopped old frame new) (new ≡ old)

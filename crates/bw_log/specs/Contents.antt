@@ -48,7 +48,7 @@ roster c = map (λ h. h.lease) (boxes c)
 abbrev pub rooms_of : Contents → List ℕ
 rooms_of c = map (λ h. h.room) (boxes c)
 
--- ---- the same without rooms, leases and failures
+-- ---- a log without rooms, leases and failures
 
 pub record Image : Type 0 where
   pub m : ℕ
@@ -102,7 +102,7 @@ entry_place field (Some e) = some_place (field e)
 abbrev pub place_in : (PageAt → Place) → List PageAt → ℕ → Option Place
 place_in field pages p = entry_place field (slice_get pages (p - 1))
 
--- the frame of a line's last block, and its walk; none of both where there is no line
+-- the frame of a line's last block, and its walk; none of both if there is no line
 abbrev pub entry_walk : Option PageAt → ℕ × ℕ
 entry_walk None = (0, 0)
 entry_walk (Some e) = (e.place.frame, e.walk)
@@ -146,7 +146,7 @@ pub record CouldFollow (i : Image) (frame : Frame) : Type 0 where
   pub leaves : List Leaf
   pub stands : Stand i.m (counted_in i ++ frame ∷ []) leaves
 
--- behind the counted frames no whole frame stands, or one that could have followed them
+-- after the counted frames no whole frame stands, or one that could have followed them
 abbrev pub IsLeft : Image → Type 0
 IsLeft i =
     (frames_of i.bytes ≡ counted_in i)
@@ -165,7 +165,7 @@ AreTorn number m f (s ∷ ss) = HasBeginning number m f s × AllByRecursion (IsS
 
 -- ---- what every log keeps between calls
 
--- where the frame limit of version 1 is this
+-- if the frame limit of version 1 is this
 abbrev pub limits_of : Image → ℕ → Limits
 limits_of i old_f = record { m = i.m; f = i.f; old_f = old_f; old_to = i.old_to }
 
@@ -204,7 +204,7 @@ pub record IsImage (i : Image) : Type 0 where
 pub record IsSound (c : Contents) : Type 0 where
   -- 14. there are 4,096 boxes at most
   pub few : length c.live + length c.spares ≤ 4096
-  -- 15. no live segment has more room than a box may have; it may have room for its bytes alone
+  -- 15. no live segment has more room than a box may have; it may have room only for its bytes
   pub bounds : AllByRecursion IsBounded c.live
   -- 16. each spare has room for a header and a frame
   pub rooms : AllByRecursion (IsRoomy c.f) c.spares

@@ -10,6 +10,6 @@ use Rattle.bw_leaf.specs.Forwards.{content}
 abbrev pub trail : ℕ → List Block → List Block
 trail p blocks = fold (λ was b. if sets p b then b ∷ [] else if touches p b then was ++ b ∷ [] else was) [] blocks
 
--- a page's content depends on them alone
+-- a page's content depends only on them
 abbrev pub Locality : Type 0
 Locality = (p : ℕ) (a b : List Block) → trail p a ≡ trail p b → content p a ≡ content p b

@@ -5,7 +5,7 @@ use Rattle.std.specs.List.{AllByRecursion}
 use Rattle.bw_device.specs.Holding.{Holding}
 use Rattle.bw_log.specs.Contents.{Contents, IsSpare}
 
--- a log of spares alone
+-- a log of spares only
 abbrev pub fresh : ℕ → ℕ → List Holding → Contents
 fresh m f spares = record {
   live = [];

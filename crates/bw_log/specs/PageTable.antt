@@ -47,7 +47,7 @@ HasLines (Changes page) n = IsInTable page n
 HasLines (Sets page) n = IsInTable page n
 HasLines (Splits page made) n = IsInTable page n × IsInTable made n
 
--- the same for blocks
+-- the table has a line for each page of these blocks
 abbrev pub HaveLines : List Block → ℕ → Type 0
 HaveLines blocks n = AllByRecursion (λ b. HasLines (mark_of b) n) blocks
 

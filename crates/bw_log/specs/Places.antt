@@ -57,8 +57,8 @@ walk_of p frames = (walk_to p frames).1
 abbrev pub is_place : Place → Place → Bool
 is_place a b = (a.frame == b.frame) && (a.index == b.index)
 
--- whether a block may link back so: to the last earlier block of its page, or, where there is none, to a frame before
--- the first
+-- whether a block may link back so: to the last earlier block of its page, or, if there is none, to
+-- a frame before the first
 abbrev pub is_back : ℕ → Option Place → Place → Bool
 is_back first (Some last) back = is_place last back
 is_back first None back = nat_lt 0 back.frame && nat_lt back.frame first
@@ -77,7 +77,7 @@ abbrev pub or_else : {A : Type 0} → Option A → Option A → Option A
 or_else None o = o
 or_else (Some x) o = Some x
 
--- the page of the first block that links back wrongly, behind the blocks before
+-- the page of the first block that links back wrongly, after the blocks before
 abbrev pub bad_link : ℕ → List (Place × Block) → List (Place × Block) → Option ℕ
 bad_link first before [] = None
 bad_link first before (x ∷ xs) = or_else (fault_of first before x.1) (bad_link first (before ++ x ∷ []) xs)

@@ -44,7 +44,7 @@ pub record IsKept (old new : Contents) : Type 0 where
   pub leases : roster new ≡ roster old
   pub rooms : map (λ h. h.room) new.live ≡ map (λ h. h.room) old.live
 
--- what a refused read leaves, where it may have had to read the live segments of these indices
+-- what a refused read leaves, if it may have had to read the live segments of these indices
 abbrev pub StopsAt : (ℕ → Type 0) → Contents → LogFault → Contents → Type 0
 StopsAt reads old NoMemory new = new ≡ old
 StopsAt reads old (Device lease) new = FailedRead reads lease old new

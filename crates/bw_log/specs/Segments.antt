@@ -28,7 +28,7 @@ frames_at (suc n) v m f bytes = elim (front_at v m f bytes) as (λ _. List Frame
   ]
 ]
 
--- the whole frames of a segment, in the format that its header names: none where it has no header
+-- the whole frames of a segment, in the format that its header names: none if it has no header
 unfoldable pub segment_frames : List ℕ → List Frame
 segment_frames bytes = elim (heading_of bytes) as (λ _. List Frame) [
   | heading.Whole h ↦ (frames_at (length bytes) h.version h.m h.f (drop 24 bytes)).0

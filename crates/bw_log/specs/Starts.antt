@@ -1,4 +1,4 @@
--- Where the blocks of a frame begin in it, and what a block alone is.
+-- Where the blocks of a frame begin in it, and what a single block is.
 
 use Rattle.std.specs.Prelude.{ℕ, ◌+◌, ◌≡◌, Option, Some, None, List, [], ◌∷◌, length, slice_get}
 use Rattle.bw_codec.specs.Grammar.{block_bytes_in}
@@ -10,7 +10,7 @@ abbrev pub starts_from : ℕ → ℕ → List Block → List ℕ
 starts_from v at [] = []
 starts_from v at (b ∷ bs) = at ∷ starts_from v (at + length (block_bytes_in v b)) bs
 
--- where those of a frame begin, behind its head of 20 bytes
+-- where those of a frame begin, after its head of 20 bytes
 abbrev pub starts_of : ℕ → Frame → List ℕ
 starts_of v f = starts_from v 20 f.blocks
 

@@ -2,8 +2,8 @@
 //!
 //! Recovery has just read each byte, so nothing is read again: its tables say where frames and
 //! pages stand. They name a segment by its position among the live ones, and get the numbers here.
-//! The newest segment goes on only where it has version 2 and no tail. A frame behind a torn one
-//! would never be found: reading a segment ends at its tail.
+//! The newest segment goes on only if it has version 2 and no tail. A frame after a torn one would
+//! never be found: reading a segment ends at its tail.
 
 ghost use Rattle.std.specs.Prelude.{◌≡◌, ◌+◌, ◌^◌, ◌<◌, Some, map};
 ghost use Rattle.std.specs.List.{AllByRecursion};

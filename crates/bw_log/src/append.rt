@@ -2,11 +2,11 @@
 //! for it.
 //!
 //! A device may fail at any byte, and nobody knows then what it wrote. So all that the log itself
-//! could refuse is asked before (`ready`), and the tables change behind the device's answer, into
+//! could refuse is asked before (`ready`), and the tables change after the device's answer, into
 //! room that was reserved: a log says of no frame that it is there which may not be. One failure
-//! ends it for good, since an append behind a piece of unknown length would stand where no scan
-//! finds it. A header is an append of its own: torn, it is a segment with a part of a header,
-//! which is a spare again.
+//! ends it for good, since an append after a piece of unknown length would stand where no scan
+//! finds it. A header is an append of its own: torn, it is a segment with a part of a header, which
+//! is a spare again.
 //!
 //! An ordinary append leaves one spare. A cleaning writes before it gives room back, and without
 //! that spare a log that is full could never be cleaned.
@@ -67,7 +67,7 @@ impl Log {
 
     /// Makes the checks and growths of an append of a frame of so many bytes, and appends nothing:
     /// after an Ok the next append of that length answers Ok or a failure of the device. With
-    /// `takes_last` one spare is enough where a segment is begun, else two. Refused as `append` is,
+    /// `takes_last` one spare is enough if a segment is begun, else two. Refused as `append` is,
     /// but for the device, which is not asked.
     pub fn ready(&mut self, len: u32, takes_last: bool) -> Result<(), LogFault>
         requires sound { IsSound holding self.old }
@@ -87,8 +87,8 @@ impl Log {
         Ok(())
     }
 
-    // Appends a header to the first spare, which is the current segment from then on. Where the
-    // device fails, the box stays a spare.
+    // Appends a header to the first spare, which is the current segment from then on. If the device
+    // fails, the box stays a spare.
     fn begin(&mut self) -> Result<(), LogFault>
         requires some { 0 < length self.old.spares.items }
         requires fits { IfSome (slice_get (map holding self.old.spares.items) 0)
@@ -121,7 +121,7 @@ impl Log {
         }
     }
 
-    // Begins a segment where one is wanted for so many bytes.
+    // Begins a segment if one is wanted for so many bytes.
     fn make_room(&mut self, len: u32) -> Result<(), LogFault>
         requires asks { wants_segment (seen_by holding self.old) len ≡ true
             → Beginnable (seen_by holding self.old) }
@@ -210,13 +210,13 @@ impl Log {
 
     /// Appends a sealed buffer's frame whole. The frame has to follow the counted ones: its number
     /// is `next_frame`, its blocks are lawful for the log's limits, and its links and pages go on
-    /// from what stands. Where the current segment is missing, closed or without room for the
-    /// frame, the first spare is made the current segment by a header in an append of its own,
-    /// unless it is the last spare. Refused `Failed`; then `NoSegment`, where a segment has to be
-    /// begun and fewer than two spares stand; then `Spent`; then `NoMemory`: nothing was changed.
-    /// `Device`: a beginning of the header or of the frame may stand, nothing more counts, and the
-    /// log is `Failed`. Time is linear in the frame's bytes and blocks, whatever the log's length,
-    /// but where a table grows, which is moved then.
+    /// from what stands. If the current segment is missing, closed or without room for the frame,
+    /// the first spare is made the current segment by a header in an append of its own, unless it
+    /// is the last spare. Refused `Failed`, then `NoSegment` if a segment has to be begun and fewer
+    /// than two spares stand, then `Spent`, then `NoMemory`. After each of these nothing was
+    /// changed. `Device`: a beginning of the header or of the frame may stand, nothing more counts,
+    /// and the log is `Failed`. Time is linear in the frame's bytes and blocks, whatever the log's
+    /// length, unless a table grows, which is moved then.
     pub fn append(&mut self, buffer: &Buffer) -> Result<(), LogFault>
         requires sound { IsSound holding self.old }
         requires sealed { buffer.now.is_sealed ≡ true }
@@ -230,7 +230,8 @@ impl Log {
         self.append_with(buffer, false)
     }
 
-    /// The same for the cleaner, which may take the last spare: `NoSegment` only where none stands.
+    /// Appends a sealed buffer's frame for the cleaner, which may take the last spare: `NoSegment`
+    /// only if none stands. As `append` otherwise.
     pub fn append_care(&mut self, buffer: &Buffer) -> Result<(), LogFault>
         requires sound { IsSound holding self.old }
         requires sealed { buffer.now.is_sealed ≡ true }

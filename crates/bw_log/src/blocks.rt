@@ -1,7 +1,7 @@
 //! One block of a counted frame, read by its place.
 //!
-//! A frame of which no block was read before is read whole and looked through; of any other the
-//! block's bytes are read alone.
+//! A frame of which no block was read before is read whole and looked through; of any other only
+//! the block's bytes are read.
 
 ghost use Rattle.std.specs.Prelude.{◌≡◌, ◌≢◌, ◌+◌, ◌-◌, ◌<◌, ◌≤◌, ◌++◌, length, map, take, drop, slice_get, Err, IfOk, IfErr, OnOk, OnErr, IfSome};
 ghost use Rattle.bw_record.specs.declared.block.Block.{Block};
@@ -162,7 +162,7 @@ impl Log {
     }
 
     /// The block at a place in a counted frame. Of a frame that was looked through before it reads
-    /// the block's bytes alone, and else the frame's.
+    /// only the block's bytes, and else the frame's.
     pub(crate) fn block_at(&mut self, place: Place) -> Result<Block, LogFault>
         requires sound { IsSound holding self.old }
         requires there { IsPlace (all_placed (counted (seen_by holding self.old))) place }
@@ -179,7 +179,7 @@ impl Log {
         match self.frames[i].starts.span(spot.len, place.index) {
             None => self.read_whole(i, place.index),
             Some((start, end)) => {
-                // The length tells the proof that the sum fits.
+                // The length shows the proof that the sum fits.
                 let _ = len_of(&self.live, spot.at);
                 let from = spot.from + u64::from(start);
                 self.read_alone(spot.at, from, end - start, spot.version)

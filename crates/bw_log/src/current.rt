@@ -1,9 +1,9 @@
 //! Questions of the current segment, and of the spare that would follow it.
 //!
 //! A frame is sealed once, and its cut stands from then on. So whether there is room for it, and
-//! whether the segment may be asked at all, is looked at before the seal, by lengths alone. A
+//! whether the segment may be asked at all, is looked at before the seal, only by lengths. A
 //! segment whose count of failures is at its greatest is asked nothing: a failure that cannot be
-//! counted would be told as none.
+//! counted would count as none.
 
 ghost use Rattle.std.specs.Prelude.{◌≡◌, map, slice_get};
 ghost use Rattle.bw_log.specs.Appends.{has_room, is_worn, last_of};

@@ -7,7 +7,7 @@ use std::alloc::{AllocError, AllocFailed};
 use std::fmt::{self, Display, Formatter};
 use thiserror::Error;
 
-/// Why a call on a log was refused. Where nothing else is said, the log is as it was.
+/// Why a call on a log was refused. If nothing else is said, the log is as it was.
 #[derive(Debug, Clone, Copy, PartialEq, Eq, Error)]
 pub enum LogFault {
     /// E1: a growth was refused.
@@ -20,7 +20,7 @@ pub enum LogFault {
     /// E6: the segment with this lease failed in this call, and counts it. After a failed append
     /// the log is `Failed`; a failed read changes nothing else.
     Device { lease: u32 },
-    /// E7: an append failed before: behind the counted frames a part of what it appended may stand,
+    /// E7: an append failed before: after the counted frames a part of what it appended may stand,
     /// or all of it.
     Failed,
     /// E8: a needed number does not exist: a segment's, a frame's, or one more failure of a

@@ -5,9 +5,9 @@
 //! stands. The tables are on no disk: recovery makes them of the bytes again, so the two never
 //! disagree.
 //!
-//! Behind a failed append nobody knows what the device holds. A frame behind that might stand
-//! behind bytes at which recovery ends, and be lost although it was answered. So a log that failed
-//! takes no frame any more, and only recovery says what is there.
+//! After a failed append nobody knows what the device holds. A later frame might stand after bytes
+//! at which recovery ends, and be lost although it was answered. So a log that failed takes no
+//! frame any more, and only recovery says what is there.
 
 ghost use Rattle.std.specs.Prelude.{◌≡◌, ◌+◌, ◌-◌, ◌<◌, ◌≤◌, ◌==◌, ◌↔◌, ◌⊎◌, ◌∷◌, ◌++◌, [], length, map, Some, None, false, slice_get, if◌then◌else◌, IsTrue, IfOk, IfErr, OnOk, MatchOption, MatchResult, IsErrAnd, vec_len};
 ghost use Rattle.std.specs.Vec.{vec_capacity};
@@ -82,7 +82,7 @@ fn place_or_none(place: Place) -> Option<Place>
 impl Log {
     ghost use Rattle.bw_log.specs.Views.{seen_by, IsSound};
 
-    /// A log of spares alone, for pages of at most `m` pairs, 4 to 32, and frames of at most `f`
+    /// A log of spares only, for pages of at most `m` pairs, 4 to 32, and frames of at most `f`
     /// bytes, 65,536 to 262,144. Each of at most 4,096 boxes is empty and has room for 24 + `f`
     /// bytes to 1,073,741,824; else all come back with `BadConfig`.
     pub fn new(
@@ -119,8 +119,8 @@ impl Log {
     }
 
     /// A further spare, which goes last. A box that is no spare, or one too many, comes back with
-    /// `BadConfig`, and any box with `NoMemory` where a growth is refused; the log is then as it
-    /// was.
+    /// `BadConfig`. Any box comes back with `NoMemory` if a growth is refused. The log is then as
+    /// it was.
     pub fn add_segment(&mut self, one: Box<dyn Segment>) -> Result<(), (Box<dyn Segment>, LogFault)>
         requires { IsSound holding self.old }
         ensures sound { IsSound holding self.new }
@@ -206,7 +206,7 @@ impl Log {
         self.pages.len() as u32
     }
 
-    /// The last block that touches a page; `None` where there is no such page.
+    /// The last block that touches a page; `None` if there is no such page.
     pub fn place_of(&self, page: u32) -> Option<Place>
         requires { IsSound holding self.now }
         ensures some { 1 ≤ page → result ≡ place_of page (counted (seen_by holding self.now)) }
@@ -218,7 +218,7 @@ impl Log {
         }
     }
 
-    /// The last block that sets a page; `None` where there is no such page.
+    /// The last block that sets a page; `None` if there is no such page.
     pub fn base_of(&self, page: u32) -> Option<Place>
         requires { IsSound holding self.now }
         ensures some { 1 ≤ page → result ≡ base_of page (counted (seen_by holding self.now)) }
@@ -231,7 +231,7 @@ impl Log {
     }
 
     /// From how many frames a page is read: those with a block of it since the last that sets it,
-    /// that one among them; 0 where there is no such page. It takes no memory, and constant time.
+    /// that one among them; 0 if there is no such page. It takes no memory, and constant time.
     pub fn walk_of(&self, page: u32) -> u64
         requires { IsSound holding self.now }
         ensures some { 1 ≤ page → result ≡ walk_of page (counted (seen_by holding self.now)) }
@@ -243,7 +243,7 @@ impl Log {
         }
     }
 
-    /// Where the counted frame of this index stands, from 0, the oldest; none behind the last.
+    /// Where the counted frame of this index stands, from 0, the oldest; none after the last.
     pub fn line(&self, i: usize) -> Option<&FrameAt>
         ensures { option_map (λ line. line.now) result
             ≡ slice_get (seen_by holding self.now).frames i }

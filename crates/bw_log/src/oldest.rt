@@ -15,9 +15,8 @@ use crate::log::Log;
 impl Log {
     ghost use Rattle.bw_log.specs.Views.{seen_by, IsSound};
 
-    /// The oldest segment's number, and that of its last counted frame, or 0 where it has none;
-    /// `None` where no segment is live. It costs a binary search among the lines of the counted
-    /// frames.
+    /// The oldest segment's number, and that of its last counted frame, or 0 if it has none; `None`
+    /// if no segment is live. It costs a binary search among the lines of the counted frames.
     pub fn oldest(&self) -> Option<(u64, u64)>
         requires { IsSound holding self.now }
         ensures { MatchOption (slice_get (seen_by holding self.now).live 0)
@@ -31,8 +30,9 @@ impl Log {
         }
     }
 
-    /// The number of the last counted frame in the i-th live segment, from 0, or 0 where it has none.
-    /// It costs a binary search among the lines of the counted frames.
+    /// The number of the last counted frame in the i-th live segment, from 0, or 0 if it has none;
+    /// `None` if there is no such segment. It costs a binary search among the lines of the counted
+    /// frames.
     pub fn live_last(&self, i: u32) -> Option<u64>
         requires { IsSound holding self.now }
         ensures { MatchOption (slice_get (seen_by holding self.now).live i)
@@ -96,8 +96,8 @@ impl Log {
 impl Log {
     ghost use Rattle.bw_log.specs.Views.{seen_by};
 
-    /// The number of the last counted frame in the segments up to the one with this number, or 0
-    /// where they have none. It costs a look at the line of each counted frame.
+    /// The number of the last counted frame in the segments up to the one with this number, or 0 if
+    /// they have none. It costs a look at the line of each counted frame.
     pub fn last_upto(&self, segment: u64) -> u64
         ensures { result ≡ last_upto segment (seen_by holding self.now).frames }
     {

@@ -1,6 +1,6 @@
 //! Reading back: segments as they are, and pages by the links from block to block.
 //!
-//! The blocks of a page lie scattered over the log. Each Delta and Split tells where the block
+//! The blocks of a page lie scattered over the log. Each Delta and Split says where the block
 //! before it stands, so a page is read from its last block back to the one that sets it, and the
 //! blocks read are then applied forwards. By the law of locality that is what a reading of the
 //! whole log gives.
@@ -91,9 +91,10 @@ impl Log {
 
     /// A page as the counted frames leave it, by the links back from its last block. It reads the
     /// blocks of the page, from the newest to the one that sets it last, and holds them in memory
-    /// together. Of a frame of which no block was read before it reads all bytes, once. A page that is not there is `NoPage`; `Device` names the segment that
-    /// failed and does not make the log `Failed`; `Spent` comes where no more failure of a segment
-    /// that has to be read could be counted.
+    /// together. Of a frame of which no block was read before it reads all bytes, once. A page that
+    /// is not there is `NoPage`. `Device` names the segment that failed and does not make the log
+    /// `Failed`. `Spent` comes if no more failure of a segment that has to be read could be
+    /// counted.
     pub fn read_page(&mut self, page: u32) -> Result<Leaf, LogFault>
         requires { IsSound holding self.old }
         ensures page { IfOk result (λ leaf.
@@ -117,7 +118,7 @@ impl Log {
         }
     }
 
-    /// Appends the bytes of the live segment with this number to a `Vec`; answers `false` where no
+    /// Appends the bytes of the live segment with this number to a `Vec`; answers `false` if no
     /// live segment has it. A refusal leaves the `Vec` as it was.
     pub fn dump(&mut self, segment: u64, out: &mut Vec<u8>) -> Result<bool, LogFault>
         requires { IsSound holding self.old }

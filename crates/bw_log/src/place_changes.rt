@@ -17,7 +17,7 @@ fn note(pages: &mut Vec<PageAt>, mark: Mark, place: Place)
     requires { HasLines mark (length pages.old.items) }
     ensures { pages.new.items ≡ noted mark place pages.old.items }
 {
-    // Tells the proof that the lines are as many as the `Vec` is long.
+    // Shows the proof that the lines are as many as the `Vec` is long.
     let _ = pages.as_slice().len();
     match mark {
         Mark::Changes(page) => {
@@ -65,7 +65,7 @@ pub(crate) fn top(buffer: &Buffer) -> u32
     best
 }
 
-/// Lines up to a page, where there is room for them.
+/// Lines up to a page, if there is room for them.
 pub(crate) fn grow(pages: &mut Vec<PageAt>, top: u32)
     requires { vec_len pages.old + (top - length pages.old.items) ≤ vec_capacity pages.old }
     ensures { pages.new.items ≡ grown_to top pages.old.items }

@@ -1,6 +1,6 @@
 //! Where the blocks of a frame begin in it.
 //!
-//! Nobody has to know that before a block is read alone. So a frame is looked through when the
+//! Nobody has to know that before a single block is read. So a frame is looked through when the
 //! first of its blocks is asked for, and what was found is kept: four bytes a block. The proof
 //! knows from the start which frame it is, so to look through it changes nothing.
 
@@ -81,8 +81,8 @@ impl Starts {
         }
     }
 
-    /// Where the block of an index begins and ends in the frame, of so many bytes; `None` where
-    /// nobody has looked the frame through.
+    /// Where the block of an index begins and ends in the frame, of so many bytes; `None` if nobody
+    /// has looked the frame through.
     pub(crate) fn span(&self, len: u32, index: u32) -> Option<(u32, u32)>
         ensures { IfSome result (IsSpan self.now len index) }
     {
@@ -98,7 +98,7 @@ impl Starts {
     }
 }
 
-// The bytes behind so many, which are there and some.
+// The bytes after so many, which are there and some.
 fn behind(bytes: &[u8], len: usize) -> Result<&[u8], CodecFault>
     ensures there { 1 ≤ len → len ≤ length bytes.now
         → Gives (λ x. x.now) result (Some (drop len bytes.now)) }

@@ -47,11 +47,11 @@ impl Log {
         }
     }
 
-    /// The value of a key on a page, as the counted frames leave it: it reads the blocks of
-    /// the page from the newest back to the first with a record of the key, one that sets the page,
-    /// or one that splits the key off, and holds one of them in memory. So a key that changed lately
-    /// costs few blocks, however many touch the page. Whether the key belongs to the
-    /// page is not asked. Refused as `read_page` is.
+    /// The value of a key on a page, as the counted frames leave it. It reads the blocks of the
+    /// page from the newest back to the first with a record of the key, one that sets the page, or
+    /// one that splits the key off, and holds one of them in memory. So a key that changed lately
+    /// costs few blocks, however many touch the page. Whether the key belongs to the page is not
+    /// asked. Refused as `read_page` is.
     pub fn read_value(&mut self, page: u32, key: &Key) -> Result<Option<Value>, LogFault>
         requires { IsSound holding self.old }
         ensures value { IfOk result (λ value. value ≡ value_on key.now

@@ -10,8 +10,8 @@ pub enum Unit {
     Pages,
 }
 
-/// So much of it. Bytes are told in the greatest unit of which there is one, with a digit behind the
-/// point where there are fewer than ten.
+/// So much of it. Bytes are given in the greatest unit of which there is one, with a digit after
+/// the point if there are fewer than ten.
 #[derive(Debug, Clone, Copy)]
 pub struct Amount {
     pub count: u64,

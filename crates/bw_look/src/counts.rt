@@ -9,7 +9,7 @@ use std::io::Write;
 pub struct Counts {
     /// Segments without a byte.
     pub spares: u64,
-    /// Bytes behind the last whole frames.
+    /// Bytes after the last whole frames.
     pub tail: u64,
     pub pages: u64,
     /// The pairs on all pages.

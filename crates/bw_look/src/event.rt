@@ -1,4 +1,4 @@
-//! What is told of a store that is served, for scripts.
+//! What is said of a store that is served, for scripts.
 
 use std::fmt::{self, Display, Formatter};
 
@@ -10,7 +10,7 @@ pub struct Event<'a> {
 }
 
 impl Event<'_> {
-    /// The name of the numbers of a store, as they are told from time to time.
+    /// The name of the numbers of a store, as they are written from time to time.
     pub const NUMBERS: &'static str = "counters";
 
     /// The name of a refusal, whose first number says which: a program that goes on all the same has
@@ -28,17 +28,17 @@ impl Display for Event<'_> {
     }
 }
 
-/// Which events are told.
+/// Which events are written.
 #[derive(Debug, Clone, Copy, PartialEq, Eq)]
 pub struct Hearing {
     /// Whether each one is.
     pub all: bool,
-    /// After so many seconds the numbers of the store are told; 0 for never.
+    /// After so many seconds the numbers of the store are written; 0 for never.
     pub every: u32,
 }
 
 impl Hearing {
-    /// None is told.
+    /// None is written.
     pub const NOTHING: Hearing = Hearing {
         all: false,
         every: 0,

@@ -3,7 +3,7 @@
 use bw_codec::{CodecFault, Frame, FrameRead, Header, read_frame};
 use std::alloc::{AllocError, Global};
 
-/// What stands in a segment behind what was read of it.
+/// What stands in a segment after what was read of it.
 #[derive(Drop)]
 pub enum Step {
     /// A frame, in so many bytes.
@@ -23,7 +23,7 @@ pub struct Frames<'a> {
 }
 
 impl<'a> Frames<'a> {
-    /// The frames behind this header, which takes so many bytes.
+    /// The frames after this header, which takes so many bytes.
     pub fn behind(bytes: &'a [u8], header: Header, at: usize) -> Frames<'a> {
         Frames { bytes, header, at }
     }
@@ -42,7 +42,7 @@ impl<'a> Frames<'a> {
         }
     }
 
-    /// What stands there. Behind a frame the next one is looked at.
+    /// What stands there. After a frame the next one is looked at.
     pub fn step(&mut self, alloc: Global) -> Result<Step, AllocError> {
         let rest = self.rest();
         match read_frame(alloc, rest, &self.header) {

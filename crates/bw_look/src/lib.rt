@@ -1,18 +1,18 @@
 //! What segments hold, for people: in words, in numbers, as a picture, and as of an earlier frame;
-//! and what is told of work, and of the times of frames.
+//! and what is said of work, and of the times of frames.
 //!
-//! What shows segments reads bytes alone, and changes none. Whether segments are those of a log is
-//! not judged here but by recovery, which the program asks first where an answer hangs on it.
+//! What shows segments reads only bytes, and changes none. Whether segments are those of a log is
+//! not judged here but by recovery, which the program asks first if an answer hangs on it.
 //!
-//! A listing goes as far as the first fault, and tells it. Numbers and pictures go by one survey of
-//! where each frame and block stands. A block is needed where a read of its page would come to it:
-//! from the page's last setting block on. What a cleaning would win hangs on that alone, so it is
+//! A listing goes as far as the first fault, and says it. Numbers and pictures go by one survey of
+//! where each frame and block stands. A block is needed if a read of its page would come to it:
+//! from the page's last setting block on. What a cleaning would win hangs only on that, so it is
 //! shown beside the bytes.
 //!
-//! Work that goes on says to a `Watch` how far it is. `Progress` tells that on a terminal, by one
-//! line that is written over, once the whole has taken a second; where there is no terminal it
-//! tells nothing of it, and a run pays a call for it. What happens to a store is an `Event`, which
-//! it tells if it is asked for. `Unseen` tells nothing at all. Who works tells, and no thread of
+//! Work that goes on says to a `Watch` how far it is. `Progress` shows that on a terminal, by one
+//! line that is written over, once the whole has taken a second; if there is no terminal, it shows
+//! nothing of it, and a run pays a call for it. What happens to a store is an `Event`, which it
+//! writes if it is asked for. `Unseen` shows nothing at all. Whoever works writes, and no thread of
 //! its own: standard error has one writer.
 //!
 //! A `Note` says that a frame was the last one of its log that was durable, at a `Moment`, a second
@@ -21,7 +21,7 @@
 //! own; `notes_in` reads them. Nothing of a log hangs on them: a note that was lost or damaged is
 //! one that nobody finds.
 //!
-//! No function has a clause: nothing hangs on what is told.
+//! No function has a clause: nothing hangs on what is said.
 #![tactic(auto)]
 
 mod amount;

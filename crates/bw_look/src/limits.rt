@@ -1,4 +1,4 @@
-//! The limits of a log, as a segment of it tells them.
+//! The limits of a log, as a segment of it says them.
 
 use crate::frames::{Frames, Step};
 use bw_codec::limits::{HEADER_LEN, MAX_FRAME, MIN_FRAME};
@@ -14,7 +14,7 @@ pub struct Limits {
     pub f: u32,
 }
 
-/// The most bytes of a frame of a new store in a folder, where nothing is said of them: as many as a
+/// The most bytes of a frame of a new store in a folder, if nothing is said of them: as many as a
 /// segment of this capacity has room for, of those that are allowed. Each frame is synced once, so
 /// long ones are fast.
 pub fn frame_in_folder(capacity: u64) -> u32 {
@@ -25,7 +25,7 @@ pub fn frame_in_folder(capacity: u64) -> u32 {
         .min(MAX_FRAME)
 }
 
-/// The limits that a segment tells, where it has a whole frame: without one nothing goes on.
+/// The limits that a segment says, if it has a whole frame: without one nothing goes on.
 pub fn limits_in(alloc: Global, bytes: &[u8]) -> Result<Option<Limits>, AllocError> {
     let HeaderRead::Whole(header) = read_header(bytes) else {
         return Ok(None);

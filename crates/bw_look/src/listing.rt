@@ -14,7 +14,7 @@ fn write_place<O: Write>(out: &mut Printer<'_, O>, text: &str, place: Place) {
     out.named(" ", place.index);
 }
 
-/// A block, behind its offset and its place.
+/// A block, after its offset and its place.
 fn write_block<O: Write>(out: &mut Printer<'_, O>, block: &Block) {
     match block {
         Block::Delta { page, back, ops } => {
@@ -62,7 +62,7 @@ fn write_frame<O: Write>(
     }
 }
 
-/// How many bytes the block of this format has that begins at this offset; 0 where none does.
+/// How many bytes the block of this format has that begins at this offset; 0 if none does.
 pub(crate) fn length_at(version: u16, bytes: &[u8], from: usize) -> usize {
     if from > bytes.len() {
         return 0;
@@ -73,7 +73,7 @@ pub(crate) fn length_at(version: u16, bytes: &[u8], from: usize) -> usize {
     }
 }
 
-/// The frames behind a header. Where other bytes stand there, their offset is answered.
+/// The frames after a header. If other bytes stand there, their offset is answered.
 fn write_frames<O: Write>(
     alloc: Global,
     out: &mut Printer<'_, O>,

@@ -107,8 +107,8 @@ pub fn noted_at(notes: &[Note], moment: Moment) -> Option<Note> {
     found
 }
 
-/// Notes in a new folder what another one has noted of the frames up to this one, in place of what it
-/// has noted. Where neither has noted anything, no file is made.
+/// Notes in a new folder what another one has noted of the frames up to this one, in place of what
+/// it has noted. If neither has noted anything, no file is made.
 pub fn carry<R: AllocGlobal + Files>(rt: &R, from: &str, to: &str, frame: u64) -> io::Result<()> {
     let path = path_of(rt, to)?;
     if !may_be_opened(rt, path.as_str()) {

@@ -70,7 +70,7 @@ impl<'a> Noting<'a> {
         Ok(())
     }
 
-    /// Appends the line of a note. Behind a line that was not written whole, one begins anew.
+    /// Appends the line of a note. After a line that was not written whole, one begins anew.
     fn append<R: AllocGlobal + Files<File = File>>(
         &mut self,
         rt: &R,
@@ -87,7 +87,7 @@ impl<'a> Noting<'a> {
         Ok(())
     }
 
-    /// Appends what waits, if it is so much older than this moment that no other note tells it.
+    /// Appends what waits, if it is so much older than this moment that no other note says it.
     fn catch_up<R: AllocGlobal + Files<File = File>>(
         &mut self,
         rt: &R,
@@ -102,7 +102,7 @@ impl<'a> Noting<'a> {
         }
     }
 
-    /// Appends a note, or lets it wait where the second has one.
+    /// Appends a note, or lets it wait if the second has one.
     fn note<R: AllocGlobal + Files<File = File>>(
         &mut self,
         rt: &R,

@@ -1,11 +1,11 @@
 //! A log as a picture: an SVG that any browser shows.
 //!
-//! Each segment has a bar, in the order of their numbers and to one scale of bytes: what is needed of
-//! it, what is not any more, and what is free. Below it stands where. Few blocks are drawn each, to the
-//! scale of the longest segment: in the colour of its page, and pale where a later block says all of
-//! that page, with its frame around. Of many is drawn how much of each stretch is needed. So the
-//! picture stays small, however many pages there are. At the end pages are counted by how many pairs
-//! they have.
+//! Each segment has a bar, in the order of their numbers and to one scale of bytes: what is needed
+//! of it, what is not any more, and what is free. Below it stands where. Few blocks are drawn each,
+//! to the scale of the longest segment: in the colour of its page, and pale if a later block says
+//! all of that page, with its frame around. Of many is drawn how much of each stretch is needed. So
+//! the picture stays small, however many pages there are. At the end pages are counted by how many
+//! pairs they have.
 
 use crate::amount::{Amount, Unit};
 use crate::counts::{needed_in, rewritten_in};
@@ -25,17 +25,17 @@ pub struct Scene<'a> {
     pub fills: &'a [u64],
     /// How long the Base of each page is, from page 1 on.
     pub lengths: &'a [u64],
-    /// How many bytes a segment has room for; it may be told too small.
+    /// How many bytes a segment has room for; it may be given too small.
     pub room: u64,
 }
 
 /// How wide a segment is drawn.
 const WIDTH: u64 = 800;
 
-/// Where the bars begin from the left, behind their names.
+/// Where the bars begin from the left, after their names.
 const LEFT: u64 = 150;
 
-/// How much room the numbers have behind the bars.
+/// How much room the numbers have after the bars.
 const BEHIND: u64 = 640;
 
 /// Where the first bar begins from the top, and how far the next one stands below.
@@ -51,7 +51,7 @@ const MAP: u64 = 12;
 /// Up to so many blocks each one is drawn.
 const FEW: usize = 600;
 
-/// Into so many stretches a segment is parted where there are more.
+/// Into so many stretches a segment is parted if there are more.
 const CELLS: u64 = 200;
 
 /// How high the longest bar of the pages is, and how wide each of them.
@@ -100,7 +100,7 @@ fn write_rect<O: Write>(out: &mut Printer<'_, O>, from: u64, to: u64, top: u64, 
     out.text(b"\" ");
 }
 
-/// The same in a colour, where it has some width.
+/// A rectangle from one place to another in a colour, if it has some width.
 fn write_part<O: Write>(out: &mut Printer<'_, O>, from: u64, to: u64, top: u64, fill: &str) {
     if from < to {
         write_rect(out, from, to, top, BAR);
@@ -177,7 +177,7 @@ fn write_shares<O: Write>(out: &mut Printer<'_, O>, parts: Parts) {
     out.named("; cleaning writes ", bytes(parts.rewritten));
 }
 
-/// The bar of a segment, its name before and its numbers behind.
+/// The bar of a segment, its name before and its numbers after it.
 fn write_segment<O: Write>(
     out: &mut Printer<'_, O>,
     index: usize,

@@ -9,7 +9,7 @@ use thiserror::Error;
 #[error("a write failed")]
 pub struct NotWritten;
 
-/// An output that keeps in mind whether a write failed: behind that one it writes nothing.
+/// An output that keeps in mind whether a write failed: after that one it writes nothing.
 pub struct Printer<'a, O> {
     output: &'a mut O,
     has_failed: bool,
@@ -31,14 +31,14 @@ impl<'a, O: Write> Printer<'a, O> {
         }
     }
 
-    /// Writes a text, and a number or a name behind it.
+    /// Writes a text, and a number or a name after it.
     pub fn named<D: Display + Copy + Drop>(&mut self, text: &str, value: D) {
         if !self.has_failed {
             self.has_failed = write!(self.output, "{text}{value}").is_err();
         }
     }
 
-    /// The same, and the end of the line.
+    /// Writes a text, a number or a name after it, and the end of the line.
     pub fn line<D: Display + Copy + Drop>(&mut self, text: &str, value: D) {
         self.named(text, value);
         self.text(b"\n");

@@ -13,17 +13,17 @@ use std::io::{IsTerminal, Write};
 use std::rt::Files;
 use std::time::Clock;
 
-/// After so many milliseconds a line is told.
+/// After so many milliseconds a line is shown.
 const PATIENCE: u64 = 1_000;
 
 /// So many milliseconds stand between two lines at least.
 const PAUSE: u64 = 200;
 
-/// Of one refusal no more than a line is told in so many milliseconds.
+/// Of one refusal no more than a line is shown in so many milliseconds.
 const QUIET: u64 = 1_000;
 
-/// Work of which nothing is told before its end takes a second, where it goes over so many bytes: its
-/// line is told before.
+/// Work of which nothing is said before its end takes a second if it goes over so many bytes: its
+/// line is shown before.
 const SLOW: u64 = 33_554_432;
 
 /// How far work is.
@@ -31,7 +31,7 @@ const SLOW: u64 = 33_554_432;
 struct Far {
     work: Work,
     done: u64,
-    /// 0 where that is not known.
+    /// 0 if that is not known.
     all: u64,
     /// For how many milliseconds it has gone on.
     took: u64,
@@ -73,11 +73,11 @@ impl Display for Far {
     }
 }
 
-/// What is told of work on standard error.
+/// What is said of work on standard error.
 #[derive(Drop)]
 pub struct Progress<'a, R, E> {
     rt: &'a R,
-    /// The folder that is told with a segment that was added, if there is one.
+    /// The folder that is named with a segment that was added, if there is one.
     dir: Option<&'a str>,
     errors: &'a mut E,
     /// Whether standard error is a terminal.
@@ -91,17 +91,17 @@ pub struct Progress<'a, R, E> {
     since: u64,
     /// When the line was written that stands, if one does.
     told: Option<u64>,
-    /// Which events are told.
+    /// Which events are written.
     hearing: Hearing,
     /// When the numbers of a store are due, in milliseconds.
     due: u64,
-    /// The refusal that was told last, and when, in milliseconds.
+    /// The refusal that was written last, and when, in milliseconds.
     refused: Option<(u64, u64)>,
     /// The times of frames.
     noting: Noting<'a>,
 }
 
-/// How many milliseconds a clock tells.
+/// How many milliseconds a clock shows.
 fn millis<R: Clock>(rt: &R) -> u64 {
     match rt.monotonic() {
         Ok(time) => time
@@ -118,7 +118,7 @@ fn pause_of(hearing: Hearing) -> u64 {
 }
 
 impl<'a, R: AllocGlobal + Clock, E: Write + IsTerminal> Progress<'a, R, E> {
-    /// Nothing was told yet. Where what is listed goes to a terminal, too, that is all that is told
+    /// Nothing was shown yet. If what is listed goes to a terminal, too, that is all that is shown
     /// of a listing.
     pub fn new(
         rt: &'a R,
@@ -144,7 +144,7 @@ impl<'a, R: AllocGlobal + Clock, E: Write + IsTerminal> Progress<'a, R, E> {
         }
     }
 
-    /// Tells these events, too, from now on.
+    /// Writes these events, too, from now on.
     pub fn hearing(self, hearing: Hearing) -> Progress<'a, R, E> {
         let now = if hearing.every > 0 {
             millis(self.rt)
@@ -158,7 +158,8 @@ impl<'a, R: AllocGlobal + Clock, E: Write + IsTerminal> Progress<'a, R, E> {
         }
     }
 
-    /// Passes over a refusal that was told a moment ago; whether it is one. Any other event is none.
+    /// Passes over a refusal that was written a moment ago; whether it is one. Any other event is
+    /// none.
     fn pass_over(&mut self, event: &Event<'_>) -> bool {
         if event.name != Event::REFUSED {
             return false;
@@ -175,7 +176,7 @@ impl<'a, R: AllocGlobal + Clock, E: Write + IsTerminal> Progress<'a, R, E> {
         is_told
     }
 
-    /// Whether an event is one of those that are told.
+    /// Whether an event is one of those that are written.
     fn hears(&self, event: &Event<'_>) -> bool {
         self.hearing.all || (event.name == Event::NUMBERS && self.hearing.every > 0)
     }
@@ -295,7 +296,7 @@ impl<R: AllocGlobal + Clock + Files<File = File>, E: Write + IsTerminal> Watch
     }
 }
 
-/// How many bytes the file of this lease has in a folder; 0 where it cannot be looked at.
+/// How many bytes the file of this lease has in a folder; 0 if it cannot be looked at.
 fn file_bytes<R: AllocGlobal + Files>(rt: &R, path: &str, lease: u32) -> u64 {
     let Ok(name) = format!(in rt.alloc(); "{path}/segment-{lease:04}.bw") else {
         return 0;
@@ -306,7 +307,7 @@ fn file_bytes<R: AllocGlobal + Files>(rt: &R, path: &str, lease: u32) -> u64 {
     }
 }
 
-/// How many bytes the files of so many leases have in a folder, where somebody is told of it.
+/// How many bytes the files of so many leases have in a folder, if somebody hears of it.
 pub fn folder_bytes<R: AllocGlobal + Files, W: Watch>(
     rt: &R,
     path: &str,
@@ -322,7 +323,7 @@ pub fn folder_bytes<R: AllocGlobal + Files, W: Watch>(
     bytes
 }
 
-/// How many bytes standard input has, where it is a file and somebody is told of it; else 0.
+/// How many bytes standard input has, if it is a file and somebody hears of it; else 0.
 pub fn input_bytes<R: Files, W: Watch>(rt: &R, watch: &W) -> u64 {
     if !watch.is_seen() {
         return 0;

@@ -7,7 +7,7 @@ use bw_codec::limits::HEADER_LEN;
 use bw_codec::{HeaderRead, read_header};
 use std::alloc::{AllocError, Global};
 
-/// How many bytes a segment had when this frame was the last of the log; 0 where it was not begun.
+/// How many bytes a segment had when this frame was the last of the log; 0 if it was not begun.
 pub fn kept_bytes(alloc: Global, image: &Image, frame: u64) -> Result<usize, AllocError> {
     let bytes = image.bytes.as_slice();
     let HeaderRead::Whole(header) = read_header(bytes) else {
@@ -24,8 +24,8 @@ pub fn kept_bytes(alloc: Global, image: &Image, frame: u64) -> Result<usize, All
     Ok(kept)
 }
 
-/// How many pages there were when this frame was the last, where there are so many now. Pages are
-/// made by Splits, one after the other.
+/// How many pages there were when this frame was the last, if there are so many now. Pages are made
+/// by Splits, one after the other.
 pub fn pages_at(survey: &Survey, frame: u64, now: u64) -> u64 {
     let mut pages = now;
     for row in survey.blocks() {

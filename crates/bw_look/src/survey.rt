@@ -106,7 +106,7 @@ fn page_set(row: &BlockRow) -> Option<u32> {
 }
 
 impl Survey {
-    /// What these segments hold, up to what cannot be read of each. Where two have one number, the
+    /// What these segments hold, up to what cannot be read of each. If two have one number, the
     /// later one of the list counts.
     pub fn of(alloc: Global, images: &[Image]) -> Result<Survey, AllocError> {
         let mut survey = Survey {
@@ -213,7 +213,7 @@ impl Survey {
         &self.set
     }
 
-    /// Whether no block behind this index sets the page.
+    /// Whether no block after this index sets the page.
     fn is_last_said(&self, index: usize, page: u32) -> bool {
         match self.set.get(&page) {
             Some(set) => *set <= index,

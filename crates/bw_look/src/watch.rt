@@ -1,15 +1,15 @@
-//! Who is told, and of what.
+//! Who hears, and of what.
 
 use crate::amount::Unit;
 use crate::event::Event;
 use std::fmt::{self, Display, Formatter};
 
-/// What is done. Its `Display` is the word that is told.
+/// What is done. Its `Display` is the word that is shown.
 #[derive(Debug, Clone, Copy, PartialEq, Eq)]
 pub enum Work {
     /// The files of a folder are read.
     Reading,
-    /// Recovery goes over what was read; nothing is told of it before its end.
+    /// Recovery goes over what was read; nothing is said of it before its end.
     Recovering,
     /// A store is opened, likewise.
     Opening,
@@ -51,12 +51,12 @@ impl Display for Work {
     }
 }
 
-/// Who is told how far work is, and what happens to a store meanwhile.
+/// Who hears how far work is, and what happens to a store meanwhile.
 pub trait Watch: Drop {
-    /// Whether that is of use: what it costs to know how much there is, is spared else.
+    /// Whether that is of use: otherwise it is spared what it costs to know how much there is.
     fn is_seen(&self) -> bool;
 
-    /// So much of so much is done; 0 of all where that is not known.
+    /// So much of so much is done; 0 of all if that is not known.
     fn see(&mut self, work: Work, done: u64, all: u64);
 
     /// A store added a segment by itself, and has so many now.
@@ -68,8 +68,8 @@ pub trait Watch: Drop {
     /// Something happened to a store that is served.
     fn happened(&mut self, event: &Event<'_>);
 
-    /// Whether the numbers of a store are to be told now, which are not due again before some time has
-    /// passed.
+    /// Whether the numbers of a store are to be written now, which are not due again before some
+    /// time has passed.
     fn take_due(&mut self) -> bool;
 
     /// This frame of a log is durable now, and is the last one; 0 if there is none.
@@ -78,11 +78,11 @@ pub trait Watch: Drop {
     /// The log is closed, and this frame is its last one.
     fn closing(&mut self, frame: u64);
 
-    /// Something else is told from here on, or nothing.
+    /// Something else is shown from here on, or nothing.
     fn rest(&mut self);
 }
 
-/// Nobody is told.
+/// Nobody hears.
 #[derive(Debug, Clone, Copy)]
 pub struct Unseen;
 

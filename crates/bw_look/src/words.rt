@@ -23,7 +23,7 @@ fn is_plain(bytes: &[u8]) -> bool {
             .all(|byte| matches!(*byte, 0x21..=0x7e) && *byte != b'=')
 }
 
-/// A key, value or low key: its bytes where that is plain, and else `0x` and hex digits.
+/// A key, value or low key: its bytes if that is plain, and else `0x` and hex digits.
 pub fn write_word<O: Write>(out: &mut Printer<'_, O>, bytes: &[u8]) {
     if is_plain(bytes) {
         out.text(bytes);
@@ -40,7 +40,7 @@ pub fn write_pair<O: Write>(out: &mut Printer<'_, O>, key: &Key, value: &Value) 
     write_word(out, value.as_slice());
 }
 
-/// How many pairs there are, and each behind a space.
+/// How many pairs there are, and each after a space.
 pub fn write_counted<O: Write>(out: &mut Printer<'_, O>, pairs: &[Pair]) {
     out.named("pairs ", pairs.len());
     for pair in pairs {
@@ -66,7 +66,7 @@ pub fn write_page<O: Write>(out: &mut Printer<'_, O>, leaf: &Leaf) {
     out.text(b"\n");
 }
 
-/// A record, behind a space: what it does, its key, and its value if it has one.
+/// A record, after a space: what it does, its key, and its value if it has one.
 pub fn write_record<O: Write>(out: &mut Printer<'_, O>, item: &Record) {
     match item {
         Record::Put(key, value) => write_put(out, key.as_slice(), value.as_slice()),
@@ -74,7 +74,7 @@ pub fn write_record<O: Write>(out: &mut Printer<'_, O>, item: &Record) {
     }
 }
 
-/// The same of a packed record.
+/// A packed record, after a space: what it does, its key, and its value if it has one.
 pub fn write_packed<O: Write>(out: &mut Printer<'_, O>, item: &Packed) {
     match item.pair() {
         Ok(pair) => write_put(out, pair.key(), pair.value()),

@@ -60,7 +60,7 @@ module _ (shared row : List ℕ) (blocks : List (List Low)) (at : ℕ) (is : IsR
   firsts_halved lower upper e some =
       firsts_kept lower (sym (first_of_both lower upper some) ∙ ap (λ (b : List Low). low_at b 0) e)
 
--- a block was put behind the one at an index
+-- a block was put after the one at an index
 pub firsts_inserted : (shared row : List ℕ) (blocks next : List (List Low)) (at : ℕ) (upper : List Low) → next ≡ insert blocks at upper
     → IsRow shared row (insert (firsts blocks) at (first upper)) → IsRow shared row (firsts next)
 firsts_inserted shared row blocks next at upper e is =

@@ -32,7 +32,7 @@ pub first_of_both : (front back : List Low) → 0 < length front → low_at (fro
 first_of_both [] back h = absurd (omega arith)
 first_of_both (p ∷ ps) back h = refl
 
--- ---- rows one behind the other
+-- ---- rows one after the other
 
 pub parted : (blocks : List (List Low)) (i : ℕ) (front back : List Low) → i < length blocks → block_at blocks i ≡ front ++ back
     → flat blocks ≡ (flat (take i blocks) ++ front) ++ (back ++ flat (drop (suc i) blocks))
@@ -90,7 +90,7 @@ first_from blocks i all h =
     ap (λ (lows : List Low). low_at lows 0) (drop_block blocks i h)
     ∙ first_of_both (block_at blocks i) (flat (drop (suc i) blocks)) (filled_at blocks i all h)
 
--- the first low behind a place
+-- the first low after a place
 pub first_here : (blocks : List (List Low)) (i n : ℕ) → n < length (block_at blocks i) → low_at (lows_behind blocks i n) 0 ≡ low_at (block_at blocks i) n
 first_here blocks i n h =
     ap (λ (lows : List Low). low_at (lows ++ flat (drop (suc i) blocks)) 0) (drop_next (block_at blocks i) n h)
@@ -184,7 +184,7 @@ module _ (key : Bytes) (blocks : List (List Low)) (a : AreBlocks blocks) (i n : 
   pub none_at : n ≡ 0 → HasNoLow (page_of_low (flat blocks)) key
   none_at e = none_there key (flat blocks) (place.none e)
 
--- the first low behind a place
+-- the first low after a place
 least_of : (key : Bytes) (front back : List Low) → Ascends (front ++ back) → AllUpTo key front → AllAbove key back → 0 < length back
     → IsLeastLow (page_of_low (front ++ back)) key (low_at back 0)
 least_of key front [] a upto above some = absurd (omega arith)

@@ -1,4 +1,4 @@
--- A row of heads goes along with its lows, and tells where a key parts them.
+-- A row of heads goes along with its lows, and says where a key parts them.
 
 use Rattle.std.proofs.Common.{◌≡◌, ◌≢◌, ℕ, zero, suc, ◌+◌, Option, Some, None, IsSome, ◌<◌, ◌≤◌, inl, inr, List, [], ◌∷◌, ◌++◌, length, get_or, take, drop, map, insert, remove}
 use Rattle.std.proofs.Common.{refl, sym, ap, ◌∙◌, subst, arith}
@@ -73,7 +73,7 @@ module _ (shared : Bytes) where
         ap (λ (r : List ℕ). insert r at h) whole.1 ∙ ap (λ (x : ℕ). insert (map its_head lows) at x) its.1 ∙ map_inserted its_head lows at low,
       )
 
-  -- one low more behind those so far
+  -- one low more after those so far
   pub row_next : (row next : List ℕ) (lows : List Low) (i : ℕ) (h : Option ℕ) → i < length lows → IsWholeRow shared row (take i lows)
       → IsSome h → IfSome h (λ x. IsHeadBehind shared (low_at lows i) x) → IfSome h (λ x. next ≡ row ++ x ∷ [])
       → IsWholeRow shared next (take (i + 1) lows)

@@ -1,4 +1,4 @@
--- A key of at most eight bytes is told by its head and its length.
+-- A key of at most eight bytes is known by its head and its length.
 
 use Rattle.std.proofs.Common.{◌≡◌, ℕ, zero, suc, ◌-◌, ◌<◌, ◌≤◌, List, [], ◌∷◌, ◌++◌, length, get_or, take, refl, sym, ap, ◌∙◌, subst, arith}
 use Rattle.std.proofs.lemmas.List.{length-append, length-replicate, take_at}
@@ -18,7 +18,7 @@ zero_at zero i = refl
 zero_at (suc m) zero = refl
 zero_at (suc m) (suc i) = zero_at m i
 
--- zeros behind a key are read as what it lacks
+-- zeros after a key are read as what it lacks
 cell : (key : Bytes) (m i : ℕ) → get_or (key ++ zeros m) i 0 ≡ get_or key i 0
 cell [] m i = zero_at m i
 cell (x ∷ xs) m zero = refl

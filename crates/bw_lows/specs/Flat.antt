@@ -1,4 +1,4 @@
--- Rows of lows, one behind the other, as one row.
+-- Rows of lows, one after the other, as one row.
 
 use Rattle.std.specs.Prelude.{ℕ, suc, ◌≡◌, ◌<◌, ◌≤◌, List, [], ◌++◌, get_or, length, map, take, drop}
 use Rattle.std.specs.List.{AllByRecursion, flat_map}

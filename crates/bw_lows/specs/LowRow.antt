@@ -1,4 +1,5 @@
--- The heads of lows from behind the bytes with which all of them begin, and what a search among them finds.
+-- The heads of lows, taken after the bytes with which all of them begin, and what a search among
+-- them finds.
 
 use Rattle.std.specs.Prelude.{ℕ, ◌≡◌, ◌⊎◌, ◌<◌, ◌≤◌, suc, List, [], get_or, length, map, drop}
 use Rattle.std.specs.List.{AllByRecursion}
@@ -7,18 +8,18 @@ use Rattle.bw_record.specs.Heads.{head, BeginsWith}
 use Rattle.bw_lows.specs.LowHeads.{Bytes}
 use Rattle.bw_lows.specs.Rows.{Low}
 
--- the low begins with these bytes, and each behind them is a byte
+-- the low begins with these bytes, and each after them is a byte
 abbrev pub Begins : Bytes → Bytes → Type 0
 Begins shared low = BeginsWith shared low × IsBytes (drop (length shared) low)
 
--- the head of what stands behind these bytes
+-- the head of what stands after these bytes
 abbrev pub head_behind : Bytes → Bytes → ℕ
 head_behind shared low = head (drop (length shared) low)
 
 abbrev pub IsHeadBehind : Bytes → Bytes → ℕ → Type 0
 IsHeadBehind shared low h = Begins shared low × (h ≡ head_behind shared low)
 
--- the head of each low from behind the bytes that all share
+-- the head of each low, taken after the bytes that all share
 abbrev pub IsWholeRow : Bytes → List ℕ → List Low → Type 0
 IsWholeRow shared row lows = AllByRecursion (λ p. Begins shared p.0) lows × (row ≡ map (λ p. head_behind shared p.0) lows)
 

@@ -1,4 +1,5 @@
--- A low as it stands in memory, with its page: its first eight bytes as a number, and its bytes where they are more.
+-- A low as it stands in memory, with its page: its first eight bytes as a number, and its bytes if
+-- they are more.
 
 use Rattle.std.specs.Prelude.{ℕ, ◌≡◌, ◌≤◌, cond, List, length, take}
 use Rattle.std.specs.Int.{w64, to_be_bytes}

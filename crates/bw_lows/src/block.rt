@@ -1,4 +1,4 @@
-//! A block: lows with their pages, in the order of the lows where the index holds them.
+//! A block: lows with their pages, in the order of the lows if the index holds them.
 
 ghost use Rattle.std.specs.Prelude.{◌≡◌, ◌≤◌, ◌<◌, [], ◌∷◌, ◌++◌, length, insert, remove, slice_set, OnOk, OnErr, IfOk, IfSome};
 ghost use Rattle.std.specs.Ordering.{is_eq};
@@ -89,7 +89,7 @@ impl Block {
         self.entries[at].is_above(start, key)
     }
 
-    /// The head of what stands in the first low behind these bytes, if it begins with them.
+    /// The head of what stands in the first low after these bytes, if it begins with them.
     pub(crate) fn head_behind(&self, shared: &[u8]) -> Option<u64>
         ensures { IfSome result (λ h. IsHeadBehind shared.now (low_at self.now 0) h) }
     {
@@ -99,7 +99,7 @@ impl Block {
         }
     }
 
-    /// How many lows are not above a key with this head, where lows ascend.
+    /// How many lows are not above a key with this head, if lows ascend.
     pub(crate) fn count_upto(&self, start: u64, key: &Key) -> usize
         requires start { start ≡ head key.now }
         requires bytes { IsBytes key.now }
@@ -144,7 +144,7 @@ impl Block {
         self.entries[at].set_page(page);
     }
 
-    /// Removes the low at an index; those behind it move up. No memory is taken.
+    /// Removes the low at an index; those after it move up. No memory is taken.
     pub(crate) fn remove(&mut self, at: usize)
         requires { at < length self.old }
         ensures { self.new ≡ remove self.old at }

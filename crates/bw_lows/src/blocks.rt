@@ -1,4 +1,4 @@
-//! Blocks one behind the other: where a key parts their lows, and changes there.
+//! Blocks one after the other: where a key parts their lows, and changes there.
 
 ghost use Rattle.std.specs.Prelude.{◌≡◌, ◌≤◌, ◌<◌, ◌+◌, [], ◌∷◌, ◌++◌, length, insert, slice_set, List, OnOk, OnErr};
 ghost use Rattle.bw_record.specs.Keys.{is_below, IsBytes};
@@ -65,7 +65,7 @@ impl Blocks {
         &self.blocks[at]
     }
 
-    // How many blocks begin with a low that is not above a key with this head, where lows ascend.
+    // How many blocks begin with a low that is not above a key with this head, if lows ascend.
     fn count_begun(&self, start: u64, key: &Key) -> usize
         requires filled { AreFilled self.now }
         requires start { start ≡ head key.now }
@@ -98,7 +98,7 @@ impl Blocks {
         (count - 1, self.block(count - 1).count_upto(start, key))
     }
 
-    /// Adds a block of one low behind all blocks. A refusal changes nothing.
+    /// Adds a block of one low after all blocks. A refusal changes nothing.
     pub(crate) fn begin(&mut self, entry: Entry) -> Result<(), AllocError>
         ensures ok { OnOk result (self.new ≡ self.old ++ (entry ∷ []) ∷ []) }
         ensures err { OnErr result (self.new ≡ self.old) }
@@ -135,7 +135,7 @@ impl Blocks {
         self.blocks[at].set_page(index, page);
     }
 
-    /// Halves a block: its upper half becomes a block behind it. A refusal changes nothing.
+    /// Halves a block: its upper half becomes a block after it. A refusal changes nothing.
     pub(crate) fn halve(&mut self, at: usize) -> Result<(), AllocError>
         requires within { at < length self.old }
         requires long { 2 ≤ length (block_at self.old at) }
@@ -155,7 +155,7 @@ impl Blocks {
         Ok(())
     }
 
-    /// Removes a low of a block, and the block where it was the only one. No memory is taken.
+    /// Removes a low of a block, and the block if it was the only one. No memory is taken.
     pub(crate) fn take_out(&mut self, at: usize, index: usize)
         requires within { at < length self.old }
         requires low { index < length (block_at self.old at) }
@@ -185,7 +185,7 @@ fn note_first(begins: &mut Row, blocks: &[Block], at: usize)
     begins.set(at, head);
 }
 
-// Makes the row of the first lows anew where it is missing: only what takes memory anyway does so.
+// Makes the row of the first lows anew if it is missing: only what takes memory anyway does so.
 fn mend(begins: &mut Row, blocks: &[Block])
     ensures { IsRow begins.old.shared.items begins.old.heads.items (firsts blocks.now)
         → IsRow begins.new.shared.items begins.new.heads.items (firsts blocks.now) }

@@ -17,10 +17,10 @@ use std::marker::Model;
 pub(crate) struct Entry {
     /// The low's first eight bytes as a number; zeros stand for those that it lacks.
     first: u64,
-    /// The low's bytes, where they are more than eight.
+    /// The low's bytes, if they are more than eight.
     whole: Vec<u8>,
     page: u32,
-    /// How many bytes the low has, where they are at most eight.
+    /// How many bytes the low has, if they are at most eight.
     count: u8,
     /// Whether they are at most eight.
     short: bool,
@@ -77,7 +77,7 @@ impl Entry {
         }
     }
 
-    /// The head of what stands in the low behind these bytes, if it begins with them.
+    /// The head of what stands in the low after these bytes, if it begins with them.
     pub(crate) fn head_behind(&self, shared: &[u8]) -> Option<u64>
         ensures { IfSome result (λ h. IsHeadBehind shared.now self.now.0 h) }
     {
@@ -89,7 +89,7 @@ impl Entry {
         }
     }
 
-    /// Whether the low has more than eight bytes, so that its head does not tell it.
+    /// Whether the low has more than eight bytes, so that its head does not determine it.
     pub(crate) fn is_long(&self) -> bool {
         !self.short
     }
@@ -143,7 +143,7 @@ fn bytes_of(x: u64) -> [u8; 8]
     x.to_be_bytes()
 }
 
-// The head of what stands behind these bytes in a low, if it begins with them.
+// The head of what stands after these bytes in a low, if it begins with them.
 fn head_behind(low: &[u8], shared: &[u8]) -> Option<u64>
     ensures { IfSome result (λ h. IsHeadBehind shared.now low.now h) }
 {

@@ -2,15 +2,15 @@
 //!
 //! Lows stand in ascending order in blocks of at most 256, and a block that is full is halved
 //! before it takes one more: no change moves more than a block's lows and the row of blocks. A low
-//! of at most eight bytes is told by its head, which is its first eight bytes as a number, and its
+//! of at most eight bytes is known by its head, which is its first eight bytes as a number, and its
 //! length; it takes forty bytes, and none beside them. A longer one has a run of its own.
 //!
 //! Lows that stand next to each other often begin with the same bytes, and their heads are all one
-//! then. So a block of longer lows has a row of other heads, from behind the bytes that its lows
+//! then. So a block of longer lows has a row of other heads, taken after the bytes that its lows
 //! share, at eight bytes a low; and so have the first lows of all blocks.
 //!
 //! A search halves the row of the blocks' first lows, and then that of one block. It reads whole
-//! lows only where a head is the key's own, and halves these too; so it does where there is no row.
+//! lows only if a head is the key's own, and halves these too; so it does if there is no row.
 #![tactic(auto)]
 
 mod block;

@@ -87,7 +87,7 @@ impl LowIndex {
         self.add(&low, page)
     }
 
-    // Sets the page of a low where it has one already, and says whether it has.
+    // Sets the page of a low if it has one already, and says whether it has.
     fn set_page(&mut self, low: &Key, page: u32) -> bool
         ensures set { OnTrue result ((q : Bytes) → page_of_low self.new q
             ≡ (if eq_by_cmp order q low.now then Some page else page_of_low self.old q)) }
@@ -105,7 +105,7 @@ impl LowIndex {
         true
     }
 
-    // Halves the block that a low belongs to, where it has no room for one more.
+    // Halves the block that a low belongs to, if it has no room for one more.
     fn make_room(&mut self, low: &Key) -> Result<(), AllocError>
         ensures { self.new ≡ self.old }
     {

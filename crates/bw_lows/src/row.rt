@@ -1,8 +1,8 @@
-//! The heads of lows, from behind the bytes that they share.
+//! The heads of lows, taken after the bytes that they share.
 //!
-//! Long lows that stand next to each other often begin with the same bytes. Their own heads tell
+//! Long lows that stand next to each other often begin with the same bytes. Their own heads set
 //! nothing apart then, and each step of a search would read a whole low, which stands elsewhere in
-//! memory. A row of heads from behind these bytes tells most of them apart, eight to a cache line.
+//! memory. A row of heads taken after these bytes sets most of them apart, eight to a cache line.
 
 ghost use Rattle.std.specs.Prelude.{◌≡◌, List, [], ◌∷◌, ◌++◌, ◌≤◌, ◌<◌, length, insert, remove, slice_set, vec_len, IsSome, IfSome};
 ghost use Rattle.std.specs.Bool.{OnTrue};
@@ -23,9 +23,9 @@ const MOST: usize = 32;
 /// For how many more lows a block and its row take room at a time: few, since each has such room.
 const STEP: usize = 16;
 
-/// The heads of lows in their order, each from behind the bytes with which all these lows begin.
-/// There are none where they would tell nothing that the lows' own heads do not, or where memory
-/// for them is refused: then a search is slower, and nothing else changes.
+/// The heads of lows in their order, each taken after the bytes with which all these lows begin.
+/// There are none if they would say nothing that the lows' own heads do not, or if memory for them
+/// is refused: then a search is slower, and nothing else changes.
 #[derive(Drop)]
 pub(crate) struct Row {
     shared: ArrayVec<u8, MOST>,
@@ -43,8 +43,8 @@ impl Row {
         }
     }
 
-    /// The row of lows. What the first and the last share, all between them do where lows ascend.
-    /// There is none where they share nothing, or where the last is told by its own head.
+    /// The row of lows. What the first and the last share, all between them do if lows ascend.
+    /// There is none if they share nothing, or if the last is known by its own head.
     pub(crate) fn of(alloc: Global, entries: &[Entry]) -> Row
         ensures { IsRow result.shared.items result.heads.items entries.now }
     {
@@ -86,14 +86,14 @@ impl Row {
         self.heads.is_empty()
     }
 
-    /// The head of a low from behind the shared bytes, if it begins with them.
+    /// The head of a low, taken after the shared bytes, if it begins with them.
     pub(crate) fn head(&self, low: &Entry) -> Option<u64>
         ensures { IfSome result (λ h. IsHeadBehind self.now.shared.items low.now.0 h) }
     {
         low.head_behind(self.shared.as_slice())
     }
 
-    /// The same of the first low of a block.
+    /// The head of the first low of a block, taken after the shared bytes, if it begins with them.
     pub(crate) fn head_of_first(&self, block: &Block) -> Option<u64>
         ensures { IfSome result (λ h. IsHeadBehind self.now.shared.items (low_at block.now 0) h) }
     {
@@ -101,7 +101,7 @@ impl Row {
     }
 
     /// The row of so many lows takes the head of one that goes to an index. There is no row any
-    /// more where the low does not begin with the shared bytes, or where memory is refused.
+    /// more if the low does not begin with the shared bytes, or if memory is refused.
     pub(crate) fn insert(&mut self, count: usize, at: usize, head: Option<u64>)
         requires { at ≤ count }
         ensures { (lows : List Low) (low : Low) → length lows ≡ count
@@ -124,8 +124,8 @@ impl Row {
         }
     }
 
-    /// The low at an index is another one, with this head. There is no row any more where it does
-    /// not begin with the shared bytes.
+    /// The low at an index is another one, with this head. There is no row any more if it does not
+    /// begin with the shared bytes.
     pub(crate) fn set(&mut self, at: usize, head: Option<u64>)
         ensures { (lows : List Low) (low : Low) → at < length lows
             → IfSome head (λ h. IsHeadBehind self.old.shared.items low.0 h)
@@ -149,7 +149,7 @@ impl Row {
         }
     }
 
-    /// Where a key parts so many lows, as far as the heads tell: those before the first place are
+    /// Where a key parts so many lows, as far as the heads show: those before the first place are
     /// not above it, and those from the second on are. A key that does not begin with what these
     /// lows do is above all of them or below all.
     pub(crate) fn bounds(&self, count: usize, key: &Key) -> (usize, usize)
@@ -171,8 +171,8 @@ impl Row {
     }
 }
 
-// The row of lows from behind bytes that they share; none where one does not share them, or where
-// memory is refused.
+// The row of lows, taken after bytes that they share; none if one does not share them, or if memory
+// is refused.
 fn fill(row: &mut Vec<u64>, shared: &[u8], entries: &[Entry])
     requires { row.old.items ≡ [] }
     ensures { IsRow shared.now row.new.items entries.now }
@@ -186,7 +186,8 @@ fn fill(row: &mut Vec<u64>, shared: &[u8], entries: &[Entry])
     }
 }
 
-// The same of the first lows of blocks.
+// The row of the first lows of blocks, taken after bytes that they share; none if one does not
+// share them, or if memory is refused.
 fn fill_firsts(row: &mut Vec<u64>, shared: &[u8], blocks: &[Block])
     requires { row.old.items ≡ [] }
     ensures { IsRow shared.now row.new.items (firsts blocks.now) }
@@ -200,7 +201,7 @@ fn fill_firsts(row: &mut Vec<u64>, shared: &[u8], blocks: &[Block])
     }
 }
 
-// Takes a head behind the others, if there is one and memory for it, and says whether it did.
+// Takes a head after the others, if there is one and memory for it, and says whether it did.
 fn push(row: &mut Vec<u64>, head: Option<u64>) -> bool
     ensures some { OnTrue result (IsSome head) }
     ensures pushed { OnTrue result (IfSome head (λ h. row.new.items ≡ row.old.items ++ h ∷ [])) }
@@ -222,7 +223,7 @@ pub(crate) fn make_room<T>(items: &mut Vec<T>) -> Result<(), AllocError>
     Ok(())
 }
 
-// The run of heads that equal this one, where heads ascend: where it begins, and where it ends.
+// The run of heads that equal this one, if heads ascend: where it begins, and where it ends.
 fn equal(row: &[u64], head: u64) -> (usize, usize)
     ensures { IsHeadRun row.now head result.0 result.1 }
 {
@@ -236,7 +237,7 @@ fn equal(row: &[u64], head: u64) -> (usize, usize)
     }
 }
 
-// How many heads are below this one, where heads ascend and so many are known to be.
+// How many heads are below this one, if heads ascend and so many are known to be.
 fn count_below(row: &[u64], least: usize, head: u64) -> usize
     requires { least ≤ length row.now }
     ensures { IsHeadBoundary row.now head least result }

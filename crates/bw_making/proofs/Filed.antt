@@ -56,7 +56,7 @@ module _ (making now : Filling) (page : ℕ) (blocks : List Block) (one : AreOne
   of_two (b ∷ c ∷ []) h more = two b c h.0 h.1
   of_two (b ∷ c ∷ d ∷ bs) h more = absurd h
 
-  -- where there are two, the second is the last
+  -- if there are two, the second is the last
   pub two_more : 1 < length blocks → now ≡ with_all making blocks
       → length now.blocks ≡ count_after (joins page making.blocks) (length making.blocks) + 1
   two_more more is = ap (λ (b : Filling). length b.blocks) is ∙ of_two blocks one more

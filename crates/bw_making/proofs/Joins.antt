@@ -133,7 +133,7 @@ added_bases blocks more =
 pub added_made : (p : ℕ) (blocks more : List Block) → is_made p (added blocks more) ≡ is_made p (blocks ++ more)
 added_made p blocks more = added_any (makes p) (λ q one back old new. refl) blocks more
 
--- ---- behind a Base, which nothing joins
+-- ---- after a Base, which nothing joins
 
 open_suc : (p i : ℕ) (was : Option ℕ) (bs : List Block) → open_from p (suc i) (option_map suc was) bs ≡ option_map suc (open_from p i was bs)
 open_suc p i was [] = refl

@@ -1,4 +1,4 @@
--- Links and newest places, where a record's blocks are added to the frame in the making.
+-- Links and newest places, if a record's blocks are added to the frame in the making.
 
 use Rattle.std.proofs.Common.{◌≡◌, ◌≢◌, ℕ, zero, suc, ◌+◌, ◌-◌, ◌<◌, ◌≤◌, Bool, true, false, Option, Some, None, List, [], ◌∷◌, ◌++◌, length, set}
 use Rattle.std.proofs.Common.{refl, sym, ap, ◌∙◌, subst, append_assoc, append-nil, arith, if◌then◌else◌, length-append, length-set}
@@ -48,7 +48,7 @@ push_new (y ∷ ys) (suc j) x e = push_new ys j x (omega arith)
 
 -- ---- placed blocks
 
--- a frame with blocks behind all others
+-- a frame with blocks after all others
 abbrev behind : Frame → List Block → Frame
 behind f bs = record f { blocks = f.blocks ++ bs }
 
@@ -273,7 +273,7 @@ set_newest newest p q x from within some =
       | false ↦ λ e. set_other newest (p - 1) (q - 1) x (λ same. eqb-false p q e (omega arith))
     ] refl
 
--- of that page and of one behind all others
+-- of that page and of one after all others
 pub push_newest : (newest : List Place) (p u q : ℕ) (x : Place) → 1 ≤ p → p ≤ length newest → u ≡ length newest + 1 → 1 ≤ q
     → slice_get (set newest (p - 1) x ++ x ∷ []) (q - 1) ≡ (if (p == q) || (u == q) then Some x else slice_get newest (q - 1))
 push_newest newest p u q x from within page some =

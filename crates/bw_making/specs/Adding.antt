@@ -30,7 +30,7 @@ abbrev pub count_after : Option ℕ → ℕ → ℕ
 count_after None n = n + 1
 count_after (Some i) n = n
 
--- where a Split behind that Delta goes: behind all blocks
+-- where a Split after that Delta goes: after all blocks
 abbrev pub last_for : Frame → ℕ → Place
 last_for frame p = record { frame = frame.number; index = count_after (joins p frame.blocks) (length frame.blocks) }
 
@@ -40,19 +40,19 @@ last_for frame p = record { frame = frame.number; index = count_after (joins p f
 abbrev pub result_of : List Leaf → Record → Leaf
 result_of leaves r = changed r (home (key_of r) leaves)
 
--- its Delta, and a Split where its page has too many pairs; the Delta goes to the place `here`
+-- its Delta, and a Split if its page has too many pairs; the Delta goes to the place `here`
 abbrev pub blocks_for : ℕ → List Leaf → Place → Place → Record → List Block
 blocks_for m leaves back here r =
     if nat_le (length (result_of leaves r).pairs) m then Delta (directed_at leaves r) back (r ∷ []) ∷ []
     else Delta (directed_at leaves r) back (r ∷ []) ∷ Split (directed_at leaves r) here (upper_of m (length leaves + 1) (result_of leaves r)) ∷ []
 
--- the newest place of each page, after it, where its Split goes to the place `last`
+-- the newest place of each page, after it, if its Split goes to the place `last`
 abbrev pub places_after : ℕ → List Leaf → Place → Place → Record → List Place → List Place
 places_after m leaves here last r newest =
     if nat_le (length (result_of leaves r).pairs) m then slice_set newest (directed_at leaves r - 1) here
     else slice_set newest (directed_at leaves r - 1) last ++ last ∷ []
 
--- newest places where so many blocks of a page were added, the first of them here
+-- newest places if so many blocks of a page were added, the first of them here
 abbrev pub noted : List Place → ℕ → Place → Place → ℕ → List Place
 noted newest page here last count =
     if nat_le count 1 then slice_set newest (page - 1) here else slice_set newest (page - 1) last ++ last ∷ []
@@ -65,7 +65,8 @@ abbrev pub planned : ℕ → Place → Place → Record → Option Leaf → List
 planned page back here r None = Delta page back (r ∷ []) ∷ []
 planned page back here r (Some upper) = Delta page back (r ∷ []) ∷ Split page here upper ∷ []
 
--- ---- a group: one record after the other, each on the pages, places and blocks behind the one before
+-- ---- a group: one record after the other, each on the pages, places and blocks after the one
+-- before
 
 -- no block
 abbrev pub nowhere : Place
@@ -85,7 +86,7 @@ back_in d r = unwrap_or (slice_get d.newest (directed_at d.leaves r - 1)) nowher
 abbrev pub blocks_in : ℕ → Drawn → Record → List Block
 blocks_in m d r = blocks_for m d.leaves (back_in d r) (here_for d.frame (directed_at d.leaves r)) r
 
--- the pages, places and blocks behind it
+-- the pages, places and blocks after it
 abbrev pub drawn_by : ℕ → Drawn → Record → Drawn
 drawn_by m d r = record {
   leaves = applied m d.leaves r;

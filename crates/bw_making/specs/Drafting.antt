@@ -1,5 +1,5 @@
--- A group that is planned record by record: what each record does to places, and what a look at these
--- rows tells.
+-- A group that is planned record by record: what each record does to places, and what a look at
+-- these rows says.
 
 use Rattle.std.specs.Prelude.{ℕ, ◌+◌, ◌-◌, ◌≡◌, ◌≤◌, ◌==◌, ◌||◌, Bool, false, if◌then◌else◌, Option, Some, None, unwrap_or, List, [], ◌∷◌, ◌++◌, length, slice_get, slice_set}
 use Rattle.std.specs.List.{fold}
@@ -30,7 +30,7 @@ abbrev pub rows_all : ℕ → Drawn → List Record → List Row
 rows_all m d [] = []
 rows_all m d (r ∷ rs) = row_for m d r ∷ rows_all m (drawn_by m d r) rs
 
--- the newest places behind it
+-- the newest places after it
 abbrev pub set_by : Option ℕ → ℕ → Place → List Place → List Place
 set_by None page place newest = slice_set newest (page - 1) place
 set_by (Some made) page place newest = slice_set newest (page - 1) place ++ place ∷ []
@@ -47,7 +47,7 @@ abbrev pub AreIn : ℕ → List Row → Type 0
 AreIn n [] = Unit {0}
 AreIn n (row ∷ rows) = ((1 ≤ row.page) × (row.page ≤ n)) × AreIn (count_by row.made n) rows
 
--- ---- what a look at the rows tells
+-- ---- what a look at the rows says
 
 abbrev pub is_this : Option ℕ → ℕ → Bool
 is_this None p = false
@@ -65,7 +65,7 @@ abbrev pub place_by : Option Row → Option Place → Option Place
 place_by None was = was
 place_by (Some row) was = Some row.place
 
--- the last block of a page, behind these rows
+-- the last block of a page, after these rows
 abbrev pub place_in : List Row → List Place → ℕ → Option Place
 place_in rows newest p = place_by (row_in rows p) (slice_get newest (p - 1))
 
@@ -73,7 +73,7 @@ abbrev pub records_by : Option Row → Option ℕ → Option ℕ
 records_by None was = was
 records_by (Some row) was = row.records
 
--- how many records it has, where that is a Delta of the frame in the making
+-- how many records it has, if that is a Delta of the frame in the making
 abbrev pub records_in : List Row → List Block → ℕ → Option ℕ
 records_in rows blocks p = records_by (row_in rows p) (open_records p blocks)
 
@@ -81,7 +81,7 @@ abbrev pub open_by : Option Row → Option ℕ → Option ℕ
 open_by None was = was
 open_by (Some row) was = if takes 1 row.records then Some row.place.index else None
 
--- its index, where that is a Delta of the frame in the making with room for one more record
+-- its index, if that is a Delta of the frame in the making with room for one more record
 abbrev pub open_in : List Row → List Block → ℕ → Option ℕ
 open_in rows blocks p = open_by (row_in rows p) (joins p blocks)
 
@@ -90,7 +90,7 @@ open_in rows blocks p = open_by (row_in rows p) (joins p blocks)
 abbrev pub place_with : ℕ → ℕ → Place
 place_with frame index = record { frame = frame; index = index }
 
--- one block more where a page is made
+-- one block more if a page is made
 abbrev pub count_with : Option Leaf → ℕ → ℕ
 count_with None count = count
 count_with (Some upper) count = count + 1

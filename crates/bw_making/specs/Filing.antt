@@ -18,7 +18,7 @@ IsSplit (Delta p back ops) = ⊥
 IsSplit (Base leaf) = ⊥
 IsSplit (Split p back upper) = Unit {0}
 
--- a Delta of a page, and a Split behind it or nothing
+-- a Delta of a page, and a Split after it or nothing
 abbrev pub AreOne : ℕ → List Block → Type 0
 AreOne page [] = ⊥
 AreOne page (b ∷ []) = IsDeltaOf page b

@@ -1,4 +1,4 @@
--- What one record adds where it splits its page: its blocks as a list, and why they are not planned.
+-- What one record adds if it splits its page: its blocks as a list, and why they are not planned.
 
 use Rattle.std.specs.Prelude.{ℕ, ◌<◌, ◌≤◌, ◌-◌, ◌^◌, List}
 use Rattle.bw_record.specs.declared.block.Block.{Block}
@@ -11,7 +11,7 @@ abbrev pub listed : Blocks → List Block
 listed (One blocks) = blocks
 listed (Two blocks) = blocks
 
--- want of memory, or of a number for one page more than there are, where a page has this many pairs,
+-- want of memory, or of a number for one page more than there are, if a page has this many pairs,
 -- and more than the most
 abbrev pub IsWantingAt : ℕ → ℕ → ℕ → ApplyError → Type 0
 IsWantingAt most pairs pages NoMemory = Unit {0}

@@ -68,7 +68,7 @@ pub fn begin_next(making: &mut Buffer)
     making.restart(next);
 }
 
-/// Gives an empty buffer the next frame's number, if there is one, and seals it where an append
+/// Gives an empty buffer the next frame's number, if there is one, and seals it if an append
 /// failed.
 pub fn begin_at(making: &mut Buffer, next: Option<u64>, failed: bool)
     requires empty { making.old.blocks ≡ [] }

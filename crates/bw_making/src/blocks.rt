@@ -13,7 +13,7 @@ use bw_buffer::Buffer;
 use bw_codec::{Block, Leaf, Ops, Place, Record};
 use std::alloc::{AllocError, Global};
 
-/// The blocks of one record: its Delta, and a Split where its page is split.
+/// The blocks of one record: its Delta, and a Split if its page is split.
 #[derive(Drop)]
 pub enum Blocks {
     One([Block; 1]),

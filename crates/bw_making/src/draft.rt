@@ -19,7 +19,7 @@ use bw_codec::{Block, Leaf, Place, Record};
 use std::alloc::{AllocError, Global};
 
 /// What one record of a group does: the page that it changes, the page that it makes, if it does,
-/// where the last block of both goes, and how many records that block has, where it is a Delta.
+/// where the last block of both goes, and how many records that block has, if it is a Delta.
 #[derive(Clone, Copy)]
 pub struct Row {
     pub page: u32,
@@ -63,7 +63,7 @@ impl Draft {
         }
     }
 
-    /// Adds the blocks of a record of this page, behind those of the records before it.
+    /// Adds the blocks of a record of this page, after those of the records before it.
     pub fn add(
         &mut self,
         making: &Buffer,
@@ -139,8 +139,7 @@ impl Draft {
         }
     }
 
-    // How many records the last block of a page has, where it is a Delta of the frame in the
-    // making.
+    // How many records the last block of a page has, if it is a Delta of the frame in the making.
     fn records(&self, making: &Buffer, page: u32) -> Option<usize>
         ensures { result ≡ records_in self.now.rows.items making.now.blocks page }
     {
@@ -151,7 +150,7 @@ impl Draft {
     }
 }
 
-// Whether a Delta of so many records has room for one more, where there is one.
+// Whether a Delta of so many records has room for one more, if there is one.
 fn takes_one(records: Option<usize>) -> bool
     ensures { result ≡ takes 1 records }
 {
@@ -161,7 +160,7 @@ fn takes_one(records: Option<usize>) -> bool
     }
 }
 
-// How many records a Delta has with one more, or a new one where it has no room.
+// How many records a Delta has with one more, or a new one if it has no room.
 fn one_more(records: Option<usize>) -> usize
     ensures { result ≡ grown records 1 }
 {
@@ -171,7 +170,7 @@ fn one_more(records: Option<usize>) -> usize
     }
 }
 
-// Where a Delta goes: into the block that it joins, or behind all blocks.
+// Where a Delta goes: into the block that it joins, or after all blocks.
 fn place_of(making: &Buffer, joins: Option<u32>, count: u32) -> Place
     ensures { result ≡ place_with making.now.frame (unwrap_or joins count) }
 {
@@ -196,7 +195,7 @@ fn counted(joins: Option<u32>, count: u32) -> u32
     }
 }
 
-// How many blocks there are with its Split, where there is one.
+// How many blocks there are with its Split, if there is one.
 fn count_behind(upper: &Option<Leaf>, count: u32) -> u32
     requires { count + 1 < 2 ^ 32 }
     ensures { result ≡ count_with upper.now count }
@@ -207,7 +206,7 @@ fn count_behind(upper: &Option<Leaf>, count: u32) -> u32
     }
 }
 
-// What the record does: a Split goes behind all blocks.
+// What the record does: a Split goes after all blocks.
 fn row_of(
     page: u32,
     here: Place,

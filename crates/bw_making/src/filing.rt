@@ -19,7 +19,7 @@ use bw_codec::{Block, Packed, Place};
 
 /// Puts the blocks of one record into the frame in the making, and notes where the last of them
 /// stands: a Delta that joined stands where the one before it of its page does, and a Split stands
-/// behind all blocks.
+/// after all blocks.
 pub fn file(making: &mut Buffer, newest: &mut Vec<Place>, page: u32, blocks: &[Block])
     requires unsealed { making.old.is_sealed ≡ false }
     requires fits { size_of (with_all making.old blocks.now) ≤ making.old.limit }
@@ -49,7 +49,7 @@ pub fn file(making: &mut Buffer, newest: &mut Vec<Place>, page: u32, blocks: &[B
 }
 
 /// Puts a record into the frame in the making, and notes where its Delta stands: where the one that
-/// it joined does, or behind all blocks.
+/// it joined does, or after all blocks.
 pub fn file_delta(
     making: &mut Buffer,
     newest: &mut Vec<Place>,

@@ -1,10 +1,10 @@
 //! The frame in the making, and what it does to pages: how it begins, the blocks of a record or of a
 //! group, where the last block of each page stands, and what it has of a page.
 //!
-//! Nothing here knows the log, the rings or the history: what is planned is told by leaves, places and
-//! a buffer. `specs/Begun.antt` has the frame that begins, `specs/Adding.antt` what a record adds,
-//! `specs/Drafting.antt` what a group does record by record, and `specs/Overlay.antt` what the frame
-//! adds to a page that is read from the log.
+//! Nothing here knows the log, the rings or the history: what is planned is given by leaves, places
+//! and a buffer. `specs/Begun.antt` has the frame that begins, `specs/Adding.antt` what a record
+//! adds, `specs/Drafting.antt` what a group does record by record, and `specs/Overlay.antt` what
+//! the frame adds to a page that is read from the log.
 #![tactic(auto)]
 
 mod begin;

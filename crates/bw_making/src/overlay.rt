@@ -25,7 +25,7 @@ pub fn makes(making: &Buffer, page: u32) -> bool
     false
 }
 
-// The same of one block.
+// Whether one block makes the page or splits it.
 fn mark_makes(mark: Mark, page: u32) -> bool
     ensures { result ≡ made_by page mark }
 {
@@ -48,7 +48,7 @@ fn mark_changes(mark: Mark, page: u32) -> bool
 }
 
 /// The records that the frame has of a page, in order. It costs a look at each block, and a reading
-/// of the page's Deltas; where there is none, no memory is taken.
+/// of the page's Deltas; if there is none, no memory is taken.
 pub fn overlay_of(alloc: Global, making: &Buffer, page: u32) -> Result<Vec<Packed>, AllocError>
     ensures { IfOk result (λ records. records.items ≡ ops_at page making.now.blocks) }
 {
@@ -77,7 +77,7 @@ fn add_block(
     add_ops(records, &block, page)
 }
 
-// The same of a block that was read.
+// Adds the records that a block has of the page, which was read.
 fn add_ops(records: &mut Vec<Packed>, block: &Block, page: u32) -> Result<(), AllocError>
     ensures { OnOk result (records.new.items ≡ records.old.items ++ ops_of page block.now) }
 {

@@ -1,7 +1,7 @@
-//! What one record adds to the frame in the making, where it splits its page.
+//! What one record adds to the frame in the making, if it splits its page.
 //!
 //! Nearly no record does, and none of the others is planned: what it adds is one Delta, which the
-//! frame takes by the record alone (`file_delta`).
+//! frame takes by only the record (`file_delta`).
 
 ghost use Rattle.std.specs.Prelude.{◌≡◌, ◌≤◌, ◌<◌, ◌+◌, ◌-◌, ◌^◌, Some, length, slice_get, IfOk, IfErr, OnOk};
 ghost use Rattle.bw_record.specs.Record.{key_of};

@@ -36,7 +36,8 @@ pub fn apply_entry(
     leaves.apply_on(page, entry.item())
 }
 
-/// The same, where the search for the record's key on that page ended so.
+/// Applies the record of an entry to its page, which is known, and on which the search for its key
+/// ended so: the page shares the record's bytes.
 pub fn apply_found(
     leaves: &mut Leaves,
     page: u32,
@@ -88,8 +89,8 @@ pub fn apply_entries(
     leaves.apply_all_of(entries)
 }
 
-/// The same entries, on the pages of these rows. Readers' copies look for each record there first, and
-/// search where it is not the right page, so nothing has to be known of them.
+/// These entries, with the pages of these rows as their guesses. Readers' copies look for each
+/// record there first, and search if it is not the right page, so nothing has to be known of them.
 pub fn guessed(entries: Vec<PackedEntry>, rows: &[Row]) -> Vec<PackedEntry>
     ensures { result.items ≡ entries.items }
 {
@@ -101,7 +102,7 @@ pub fn guessed(entries: Vec<PackedEntry>, rows: &[Row]) -> Vec<PackedEntry>
     entries
 }
 
-// The same entries, where the page of one of them is guessed.
+// These entries, with a guess of the page of one of them.
 fn guess_at(entries: &mut Vec<PackedEntry>, at: usize, page: u32)
     requires { at < length entries.old.items }
     ensures { entries.new.items ≡ entries.old.items }

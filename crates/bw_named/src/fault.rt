@@ -1,4 +1,4 @@
-//! Why a call on tables was refused, as it is told to people.
+//! Why a call on tables was refused, as it is said to people.
 
 use bw_calls::TableFault;
 use bw_core::StoreFault;
@@ -6,7 +6,7 @@ use bw_home::{HomeFault, MapFault};
 use bw_keys::{KeysFault, TableRefusal};
 use bw_pairs::{LineFault, WordFault};
 
-/// Why the store was refused to take or to keep something. Where there is no cause the queue was
+/// Why the store was refused to take or to keep something. If there is no cause, the queue was
 /// full, which holds no more than a call puts: that is no lack of a segment.
 fn of_map(fault: MapFault) -> KeysFault {
     match fault {
@@ -37,7 +37,7 @@ pub fn is_made(answer: &Result<(), TableFault>) -> bool {
     matches!(answer, Ok(()) | Err(TableFault::Waits(_)))
 }
 
-/// An answer, as it is told.
+/// An answer, as it is said.
 pub fn answer_of(answer: Result<(), TableFault>) -> Result<(), KeysFault> {
     match answer {
         Ok(()) => Ok(()),

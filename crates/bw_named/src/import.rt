@@ -19,7 +19,7 @@ pub struct Import<I> {
     pub rows: Rows<I>,
     /// The table into which the next pairs go.
     pub name: Option<Name>,
-    /// Whether it is looked at, and made where it is missing.
+    /// Whether it is looked at, and made if it is missing.
     pub is_there: bool,
     /// The next pair.
     pub row: Option<Row>,
@@ -98,7 +98,8 @@ impl<I: Read + Drop> Import<I> {
         }
     }
 
-    /// How much the change of the next pair adds to the log, if it is wanted; it is passed over else.
+    /// How much the change of the next pair adds to the log, if it is wanted; otherwise it is
+    /// passed over.
     fn need(&mut self, home: &mut Home) -> Result<Option<Need>, KeysFault>
         requires { IsReady home.old holding }
         ensures { IsReady home.new holding }
@@ -126,7 +127,7 @@ impl<I: Read + Drop> Import<I> {
         self.need(home)
     }
 
-    /// How much the next call adds to the log; `None` behind the last.
+    /// How much the next call adds to the log; `None` after the last.
     fn next_need(&mut self, home: &mut Home) -> Result<Option<Need>, KeysFault>
         requires { IsReady home.old holding }
         ensures { IsReady home.new holding }

@@ -16,7 +16,7 @@ use std::io::Write;
 /// The pairs of a table are written, or those of all.
 #[derive(Drop)]
 pub struct List<'a, O> {
-    /// The table that is meant; each with its name where there is none.
+    /// The table that is meant; each with its name if there is none.
     pub name: Option<Name>,
     /// The stretch of keys that is meant, up to the listing.
     pub span: Option<Span>,
@@ -56,7 +56,7 @@ impl<O: Write> List<'_, O> {
         written.map_err(KeysFault::of_output)
     }
 
-    /// Writes what stands behind them.
+    /// Writes what stands after them.
     fn end(&mut self) -> Result<(), KeysFault> {
         match self.style {
             Style::Dump(..) => write_end(self.output).map_err(KeysFault::of_output),
@@ -102,7 +102,7 @@ impl<O: Write> List<'_, O> {
         self.pairs(home, name, walk)
     }
 
-    /// Writes the pairs of a table behind its name.
+    /// Writes the pairs of a table after its name.
     fn named(&mut self, home: &mut Home, name: &Name) -> Result<(), KeysFault>
         requires { IsReady home.old holding }
         ensures { IsReady home.new holding }

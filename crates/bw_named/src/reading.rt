@@ -17,7 +17,7 @@ pub fn once(is_over: bool) -> Option<Need> {
     if is_over { None } else { Some(Need::Nothing) }
 }
 
-/// Values of keys are written, a line each; one alone is written as it is.
+/// Values of keys are written, a line each; a single one is written as it is.
 #[derive(Drop)]
 pub struct Get<'a, O> {
     pub name: Name,

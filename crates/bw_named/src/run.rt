@@ -26,7 +26,7 @@ pub enum Need {
 
 /// Calls, one after another.
 pub trait Calls: Drop {
-    /// How much the next one adds to the log; `None` behind the last. It is asked again after room
+    /// How much the next one adds to the log; `None` after the last. It is asked again after room
     /// was made, and after the call was refused for want of room.
     fn next(&mut self, home: &mut Home) -> Result<Option<Need>, KeysFault>
         requires { IsReady home.old holding }
@@ -37,7 +37,7 @@ pub trait Calls: Drop {
         requires { IsReady home.old holding }
         ensures ready { IsReady home.new holding };
 
-    /// How many bytes of an input were read for those so far; 0 where there is none.
+    /// How many bytes of an input were read for those so far; 0 if there is none.
     fn bytes(&self) -> u64;
 
     /// Whether none of them changes anything.
@@ -74,7 +74,7 @@ enum Stage {
 #[derive(Drop)]
 pub struct Run<'a, C, W> {
     calls: &'a mut C,
-    /// How many bytes the input has; 0 where that is not known.
+    /// How many bytes the input has; 0 if that is not known.
     all: u64,
     watch: &'a mut W,
     tending: Tending,
@@ -178,7 +178,7 @@ impl<'a, C: Calls, W: Watch> Run<'a, C, W> {
         }
     }
 
-    /// The next call, where there is one.
+    /// The next call, if there is one.
     fn next_call<R: System>(&mut self, rt: &R, home: &mut Home) -> Result<Step, KeysFault>
         requires { IsReady home.old holding }
         ensures { IsReady home.new holding }
@@ -304,7 +304,7 @@ impl<'a, C: Calls, W: Watch> Run<'a, C, W> {
         Ok(Step::Room)
     }
 
-    /// What a run came to. Why its calls ended is told before why what they wrote was not kept.
+    /// What a run came to. Why its calls ended is said before why what they wrote was not kept.
     fn answer(&self, end: Result<(), KeysFault>) -> Result<(), KeysFault> {
         match self.fault {
             Some(fault) => Err(fault),

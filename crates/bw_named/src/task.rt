@@ -26,7 +26,7 @@ struct Place<'a, R> {
     leases: u32,
 }
 
-/// Makes calls on the tables of a folder, which is made where it is missing; whether all that they
+/// Makes calls on the tables of a folder, which is made if it is missing; whether all that they
 /// wrote is durable, and why they ended early. The input has so many bytes.
 fn run<R: System, C: Calls, W: Watch>(
     place: &Place<'_, R>,
@@ -115,7 +115,7 @@ fn get<R: System, O: Write, W: Watch>(
     }
 }
 
-/// Deletes keys. Of one that was named alone it is not told whether it was there.
+/// Deletes keys. Of a single one it is not said whether it was there.
 fn del<R: System, W: Watch>(
     place: &Place<'_, R>,
     name: Name,
@@ -149,7 +149,7 @@ fn del_words<R: System, W: Watch>(
     del(place, name, Meant::Named(keys), is_one, watch)
 }
 
-/// What is told of changes that ended early: how many are durable.
+/// What is said of changes that ended early: how many are durable.
 fn halted(fault: KeysFault, effect: Effect, is_kept: bool, count: u64) -> Told {
     let durable = if is_kept { count } else { 0 };
     Told::Changed(Changed::Halted(fault, effect, durable))
@@ -227,7 +227,7 @@ fn rows_of<'a, I: Read>(
     })
 }
 
-/// Does with the pairs of an input what is wanted. A store is made where it is missing, but for
+/// Does with the pairs of an input what is wanted. A store is made if it is missing, but for
 /// deletes.
 fn import<R: System, I: Read, W: Watch>(
     place: &Place<'_, R>,
@@ -343,7 +343,7 @@ fn drop_named<R: System, W: Watch>(
     Ok(Told::Done)
 }
 
-/// Refuses names where the pairs are those of no dump.
+/// Refuses names if the pairs are those of no dump.
 fn check_dump(is_dump: bool) -> Result<(), KeysFault> {
     if is_dump {
         Ok(())
@@ -352,8 +352,8 @@ fn check_dump(is_dump: bool) -> Result<(), KeysFault> {
     }
 }
 
-/// Does a task over the tables of a folder, by so many leases at most. What it reads and prints comes
-/// from this input and goes to this output, and how far it is, is told to a watch.
+/// Does a task over the tables of a folder, by so many leases at most. What it reads and prints
+/// comes from this input and goes to this output, and a watch hears how far it is.
 pub fn perform<R: System, I: Read, O: Write, W: Watch>(
     rt: &R,
     dir: &str,

@@ -112,7 +112,7 @@ impl Walk {
         Ok(Some(Found { key, row }))
     }
 
-    /// The next row; `None` behind the last.
+    /// The next row; `None` after the last.
     pub fn next(&mut self, home: &mut Home) -> Result<Option<Found>, KeysFault>
         requires { IsReady home.old holding }
         ensures { IsReady home.new holding }

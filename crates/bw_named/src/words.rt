@@ -43,7 +43,7 @@ pub fn keys_by(alloc: Global, words: &[&str]) -> Result<VecDeque<RowKey>, KeysFa
 /// All bytes of the input, as a value.
 fn value_in<I: Read>(alloc: Global, input: &mut I) -> Result<Vec<u8>, KeysFault> {
     let mut bytes = Vec::new(alloc);
-    // One more than the longest tells that there are too many.
+    // One more than the longest shows that there are too many.
     let mut front = input.take(MAX_LEN as u64 + 1);
     let _ = front.read_to_end(&mut bytes).map_err(PairsFault::of_read)?;
     limited(bytes).map_err(|fault| of_word("VALUE", fault))

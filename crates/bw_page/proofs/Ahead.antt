@@ -75,7 +75,7 @@ module _ (m : ℕ) (leaves : List Leaf) (a : AreLeaves m leaves) where
         ] refl;
       }
 
-  -- where the page has none, the walk comes to the next low
+  -- if the page has none, the walk comes to the next low
   pub come_further : (key to low : Bytes) → HasCome (union leaves) key to → pair_above to (home to leaves).pairs ≡ None
       → IsNextLow leaves to low → HasCome (union leaves) key low
   come_further key to low come e next = record {
@@ -89,7 +89,7 @@ module _ (m : ℕ) (leaves : List Leaf) (a : AreLeaves m leaves) where
     ] refl;
   }
 
-  -- and where no low follows there is no further pair
+  -- and if no low follows there is no further pair
   pub come_last : (key to : Bytes) → HasCome (union leaves) key to → pair_above to (home to leaves).pairs ≡ None
       → HasNoLowAbove leaves to → HasNoPair (union leaves) key
   come_last key to come e last q u =

@@ -1,4 +1,4 @@
--- Lawful leaves stay lawful: one written in its place, and a new one behind them.
+-- Lawful leaves stay lawful: one written in its place, and a new one after them.
 
 use Rattle.std.proofs.Common.{◌≡◌, ◌≢◌, ℕ, ◌+◌, true, false, List, [], ◌∷◌, ◌++◌, map, length, refl, sym, ap, ◌∙◌, subst, arith, if◌then◌else◌}
 use Rattle.std.specs.Prelude.{◌==◌}
@@ -94,7 +94,7 @@ put_leaves m leaves k d a h = record {
       leaves a.homes);
 }
 
--- ---- a new leaf behind them
+-- ---- a new leaf after them
 
 -- u takes the keys from its low on of the leaf at whose page that low is directed
 pub record Splits (m : ℕ) (leaves : List Leaf) (u : Leaf) : Type 0 where

@@ -36,7 +36,7 @@ module _ {X : Type 0} (held : X → Record) (items : List X) (i : ℕ) (item : X
         subst (IsHere (key_of r)) (sym now_is)
         (here_at start (map held items) i r (subst (HasPages start.m start.leaves) (sym (take-map held i items)) ran.room) h record_at)
 
-    -- where there is no number for its new page
+    -- if there is no number for its new page
     pub next_spent : IsSpent now r → SomeIsSpent start (map held items)
     next_spent s = (i, r, record_at, subst (λ (f : Shown). IsSpent f r) now_is s)
 

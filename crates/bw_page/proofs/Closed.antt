@@ -112,7 +112,7 @@ module _ (a : Inside) (h : IsIndexed a) (r : Record) (op : IsOp r) (at : ℕ) (h
             ∙ lows-put _ a.leaves.items (same_lows a.m a.leaves.items (key_of r) _ h.lawful into)));
       }
 
-  -- one leaf was split in two, and its upper part stands behind the others
+  -- one leaf was split in two, and its upper part stands after the others
   pub split_is : a.m < length (changed r (home (key_of r) a.leaves.items)).pairs
       → slice_set a.leaves.items at (lower_of a.m (changed r (home (key_of r) a.leaves.items)))
       ++ upper_of a.m (length a.leaves.items + 1) (changed r (home (key_of r) a.leaves.items)) ∷ [] ≡ applied a.m a.leaves.items r

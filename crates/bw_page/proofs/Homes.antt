@@ -245,7 +245,7 @@ here_or_none m q leaves a =
     ] refl)
     leaves a.homes (is_home leaves q a.first a.pages)
 
--- a key is found in its home alone
+-- a key is found only in its home
 pub find-home : (m : ℕ) (q : Bytes) (leaves : List Leaf) → AreLeaves m leaves → find order q (pairs_of leaves) ≡ find order q (home q leaves).pairs
 find-home m q leaves a =
     elim (among q (find order q (home q leaves).pairs) leaves (here_or_none m q leaves a)) [

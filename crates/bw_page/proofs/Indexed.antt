@@ -1,4 +1,4 @@
--- The index of lows tells a key's home.
+-- The index of lows gives a key's home.
 
 use Rattle.std.proofs.Common.{◌≡◌, ℕ, zero, suc, ◌-◌, ◌<◌, ◌≤◌, arith, Bool, true, false, cond, Option, Some, None, IsSome, List, [], ◌∷◌, length, drop, get_or}
 use Rattle.std.proofs.Common.{refl, sym, ap, ◌∙◌, subst}
@@ -43,7 +43,7 @@ best-stays : (q : Bytes) (x : Leaf) (ls : List Leaf) → All (λ l. UpTo l.low q
 best-stays q x [] h = refl
 best-stays q x (l ∷ ls) h = elim (picks q x l) [ second u b e ↦ absurd (h.0 u) | first f e ↦ ap (λ y. best q y ls) e ∙ best-stays q x ls h.1 ]
 
--- where no low of another page is up to the key, its home is page 1
+-- if no low of another page is up to the key, its home is page 1
 pub none_below_is_first : (m : ℕ) (q : Bytes) (leaves : List Leaf) → AreLeaves m leaves
     → ((low : Bytes) → UpTo low q → find order low (lows_of (drop 1 leaves)) ≡ None) → 1 ≡ (home q leaves).page
 none_below_is_first m q [] a h = absurd a.first
@@ -94,7 +94,7 @@ home_takes m q leaves a =
     (sym (home-all (λ l. leaf_at l.page leaves ≡ Some l) q leaves a.first (each_at leaves a.pages)))
     (home-low q leaves a.first, home-max q leaves)
 
--- ---- what a search in the index tells
+-- ---- what a search in the index says
 
 module _ (m : ℕ) (q : Bytes) (leaves : List Leaf) (a : AreLeaves m leaves) (got : Bytes → Option ℕ)
     (index : (k : Bytes) → got k ≡ find order k (lows_of (drop 1 leaves))) where

@@ -37,13 +37,13 @@ nth-all P i [] d h k = absurd (omega arith)
 nth-all P zero (l ∷ ls) d h k = h.0
 nth-all P (suc i) (l ∷ ls) d h k = nth-all P i ls d h.1 (omega arith)
 
--- the low of a leaf behind the first one
+-- the low of a leaf after the first one
 pub low_key : (leaves : List Leaf) (i : ℕ) (d : Leaf) → All (λ l. IsKey l.low) (drop 1 leaves) → 1 ≤ i → i < length leaves → IsKey (get_or leaves i d).low
 low_key [] i d h one k = absurd (omega arith)
 low_key (l ∷ ls) zero d h one k = absurd (omega arith)
 low_key (l ∷ ls) (suc i) d h one k = nth-all (λ x. IsKey x.low) i ls d h (omega arith)
 
--- one leaf more from behind
+-- one leaf more, from the last one down
 pub index-step : (leaves : List Leaf) (n : ℕ) (leaf : Leaf) (got new : Bytes → Option ℕ) → 1 < n → n ≤ length leaves → leaf ≡ get_or leaves (n - 1) leaf
     → ((q : Bytes) → got q ≡ find order q (lows_of (drop n leaves)))
     → ((q : Bytes) → new q ≡ cond (eq_by_cmp order q leaf.low) (Some leaf.page) (got q))

@@ -152,19 +152,19 @@ module _ (m : ℕ) (leaves : List Leaf) (k : Bytes) (d : Leaf) (some : 1 ≤ m) 
 
 -- ---- leaves after a record
 
--- what is known of leaves after a record of k: they are lawful, and k alone is found otherwise
+-- what is known of leaves after a record of k: they are lawful, and only k is found otherwise
 pub record Tells (m : ℕ) (leaves : List Leaf) (r : Record) (next : List Leaf) : Type 0 where
   pub lawful : AreLeaves m next
   pub finds : (q : Bytes) → find order q (home q next).pairs ≡ cond (eq_by_cmp order q (key_of r)) (value_of r) (find order q (home q leaves).pairs)
 
--- where a key has another home, nothing is found otherwise
+-- if a key has another home, nothing is found otherwise
 elsewhere : (leaves next : List Leaf) (r : Record) (q : Bytes) → (home q leaves).page ≢ (home (key_of r) leaves).page → home q next ≡ home q leaves
     → find order q (home q next).pairs ≡ cond (eq_by_cmp order q (key_of r)) (value_of r) (find order q (home q leaves).pairs)
 elsewhere leaves next r q ne same =
     ap (λ (l : Leaf). find order q l.pairs) same
     ∙ ap (λ b. cond b (value_of r) (find order q (home q leaves).pairs)) (sym (apart q (key_of r) (λ e. ne (ap (λ k. (home k leaves).page) e))))
 
--- where it has the same home, the changed leaf tells
+-- if it has the same home, the changed leaf says it
 at_home : (m : ℕ) (leaves : List Leaf) (r : Record) (q : Bytes) → AreLeaves m leaves → home q leaves ≡ home (key_of r) leaves
     → find order q (changed r (home (key_of r) leaves)).pairs ≡ cond (eq_by_cmp order q (key_of r)) (value_of r) (find order q (home q leaves).pairs)
 at_home m leaves r q a same =

@@ -1,4 +1,4 @@
--- The lows alone tell the home of a key.
+-- Only the lows decide the home of a key.
 
 use Rattle.std.proofs.Common.{◌≡◌, ℕ, ◌+◌, List, [], ◌∷◌, map, refl, sym, ap, ◌∙◌}
 use Rattle.std.specs.List.{AllByRecursion as All}

@@ -10,7 +10,7 @@ use Rattle.bw_leaf.specs.Links.{told, records_of}
 use Rattle.bw_page.specs.Laws.{ChainsReadOverNewer}
 use Rattle.bw_page.proofs.Twice.{twice}
 
--- links tell what their records do
+-- links say what their records do
 pub told-records : (links : List Link) (leaf : Leaf) → told links leaf ≡ all_changed (records_of links) leaf
 told-records [] leaf = refl
 told-records (Delta r ∷ links) leaf =

@@ -89,7 +89,7 @@ module _ (a : Inside) (h : IsIndexed a) (now : Shown) (v : view_of a ≡ now) (u
   pub put_page : 1 ≤ u.leaf.page
   put_page = let p = page_is in let w = home_within n.before.m (key_of n.change) n.before.leaves n.lawful in omega arith
 
-  -- where the record split the page, its parts are there
+  -- if the record split the page, its parts are there
   pub put_parts : (seats : Seating) (upper : Option Leaf) → seats.items ≡ take u.pages a.leaves.items → seats.evicted ≡ a.leaves.evicted
       → ((d : Leaf) → u.pages < length a.leaves.items → upper ≡ Some (get_or a.leaves.items u.pages d)) → IsTrue u.is_split → AreParts u seats upper
   put_parts seats upper items evicted last split =

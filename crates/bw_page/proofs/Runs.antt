@@ -67,7 +67,7 @@ here_at f [] k r room h e = absurd (cc)
 here_at f (x ∷ rs) zero r room h e = let same : x ≡ r = cc in subst (λ (y : Record). IsHere (key_of y) f) same h.0
 here_at f (x ∷ rs) (suc k) r room h e = here_at (after_record f x) rs k r room.1 (h.1 room.0) e
 
--- where no page is evicted, the pages of all records are in memory
+-- if no page is evicted, the pages of all records are in memory
 pub all_here : (f : Shown) (rs : List Record) → f.evicted ≡ [] → AreHere f rs
 all_here f [] none = tt
 all_here f (r ∷ rs) none = (ap (is_among (home (key_of r) f.leaves).page) none, λ p. all_here (after_record f r) rs none)
@@ -151,7 +151,7 @@ undo_lost f r d e is =
       | false ↦ ap Page e
     ]
 
--- what takes a record back, where it is the displaced leaf
+-- what takes a record back, if it is the displaced leaf
 pub page_of : (f : Shown) (r : Record) (d : Displaced) → Page d ≡ undo_of f r → d ≡ displaced_by f r
 page_of f r d e =
     let old = find order (key_of r) (home (key_of r) f.leaves).pairs in
@@ -162,7 +162,7 @@ page_of f r d e =
       | false ↦ λ h. (cc)
     ] e
 
--- where it is a record
+-- if it is a record
 pub back_is : (f : Shown) (r back : Record) → Back back ≡ undo_of f r
     → (length (result_of f.leaves r).pairs ≤ f.m) × (back_of r (find order (key_of r) (home (key_of r) f.leaves).pairs) ≡ Some back)
 back_is f r back e =

@@ -138,7 +138,7 @@ leaf_got a v e at s d h is =
     ∙ get_or-map (λ (x : Seated). x.leaf) a.seats.items at s d h
     ∙ ap (λ (x : Seated). x.leaf) (sym is)
 
--- the same, where the index is one of a leaf
+-- the leaf of a seat, if the index is one of a leaf
 pub leaf_in : (a : Inside) (v : Seating) → seats_view a ≡ v → (at : ℕ) (s : Seated) (d : Leaf) → at < length v.items
     → s ≡ get_or a.seats.items at s → get_or v.items at d ≡ s.leaf
 leaf_in a v e at s d h = leaf_got a v e at s d (let long = count_is a v e in omega arith)
@@ -150,7 +150,7 @@ evicted_there a v e at s h is =
     let long = count_is a v e in
     ap (λ (x : Seated). x.is_evicted) is ∙ sym (evicted_get a.seats.items at s (omega arith)) ∙ sym (evicted_is a v e at)
 
--- the last seat, where the last page is here
+-- the last seat, if the last page is here
 pub last_here : (a : Inside) (v : Seating) → seats_view a ≡ v → (ss : List Seated) (s : Seated) → a.seats.items ≡ ss ++ s ∷ []
     → is_among (length v.items) v.evicted ≡ false → s.is_evicted ≡ false
 last_here a v e ss s is here =

@@ -53,7 +53,7 @@ no_reach q to [] u under h = h
 no_reach q to (x ∷ xs) u under (inl v) = not_both (is_below x.0 q) (below-upto x.0 to q under.0 u) v
 no_reach q to (x ∷ xs) u under (inr h) = no_reach q to xs u under.1 h
 
--- pairs up to one that is told
+-- pairs up to one that is given
 find_take : (q : Bytes) (n : ℕ) (ps : Pairs) → Rises ps → (length ps ≤ n) ⊎ Reaches q (take n ps) → find order q (take n ps) ≡ find order q ps
 find_take q zero [] r h = refl
 find_take q zero (x ∷ xs) r (inl h) = absurd (omega arith)
@@ -152,7 +152,7 @@ module _ (m : ℕ) (leaves : List Leaf) (a : AreLeaves m leaves) (key to : Bytes
       elim (reach_split q found more h) as (λ _. (length (pairs_above to page) ≤ most - length found) ⊎ Reaches q more)
       [ inl k ↦ absurd (no_reach q to found u gone.below k) | inr k ↦ inr k ]
 
-  -- a key up to which the walk has come has the value that its pairs tell
+  -- a key up to which the walk has come has the value that its pairs give
   told : length found < most → (q : Bytes) → UpTo key q → (UpTo to q → home q leaves ≡ home to leaves)
       → (length (found ++ more) < most) ⊎ Reaches q (found ++ more) → finite.get (union leaves) q ≡ find order q (found ++ more)
   unfolding page more

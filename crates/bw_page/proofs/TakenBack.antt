@@ -59,7 +59,7 @@ put_adds : (key old value : Bytes) (ps : Pairs) (found : Option Bytes) (s : Resu
 put_adds key old value ps found (Ok at) e h = tt
 put_adds key old value ps found (Err at) e h = absurd (cc)
 
--- where its key is found as the first record left it, it adds no pair
+-- if its key is found as the first record left it, it adds no pair
 back_adds_by : (r back : Record) (old : Option Bytes) (ps : Pairs) (found : Option Bytes) (s : Result ℕ ℕ) → back_of r old ≡ Some back
     → found ≡ value_of r → Reads found ps s → AddsNone back s
 back_adds_by (Put key value) back (Some old) ps found s h e k =
@@ -68,7 +68,7 @@ back_adds_by (Put key value) back None ps found s h e k = let same : Del key ≡
 back_adds_by (Del key) back (Some old) ps found s h e k = absurd (cc)
 back_adds_by (Del key) back None ps found s h e k = let same : Del key ≡ back = cc in subst (λ (b : Record). AddsNone b s) same tt
 
--- ---- all leaves, where the page was not split
+-- ---- all leaves, if the page was not split
 
 module _ (m : ℕ) (leaves : List Leaf) (r back : Record) (some : 1 ≤ m) (a : AreLeaves m leaves) (op : IsOp r)
     (fits : length (result_of leaves r).pairs ≤ m) (is : back_of r (find order (key_of r) (home (key_of r) leaves).pairs) ≡ Some back) where

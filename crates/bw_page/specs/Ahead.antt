@@ -21,7 +21,7 @@ pub record IsFirstPair (map : Map) (key : Bytes) (pair : Bytes × Bytes) : Type 
   pub from : is_below pair.0 key ≡ false
   pub none : (q : Bytes) → is_below q key ≡ false → IsTrue (is_below q pair.0) → finite.get map q ≡ None
 
--- the pair with the least key at or above this one, where there is one
+-- the pair with the least key at or above this one, if there is one
 abbrev pub IsFirst : Map → Bytes → Option (Bytes × Bytes) → Type 0
 IsFirst map key None = HasNoPair map key
 IsFirst map key (Some pair) = IsFirstPair map key pair
@@ -60,7 +60,8 @@ pub record IsStretch (map : Map) (key : Bytes) (most : ℕ) (pairs : Pairs) : Ty
   pub few : length pairs ≤ most
   pub ascends : IsTrue (ascends pairs)
   pub from : AllByRecursion (λ p. is_below p.0 key ≡ false) pairs
-  -- each key up to the last of them has the value that they tell; and so has every key, where there are fewer
+  -- each key up to the last of them has the value that they give; and so has every key, if there
+  -- are fewer
   pub all : (q : Bytes) → is_below q key ≡ false → (length pairs < most) ⊎ Reaches q pairs → finite.get map q ≡ find order q pairs
 
 -- a walk from a key has come to another with these pairs

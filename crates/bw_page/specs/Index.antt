@@ -16,5 +16,5 @@ pub record IsIndexed (a : Inside) : Type 0 where
   pub limit : (4 ≤ a.m) × (a.m ≤ 32)
   pub count : length a.leaves.items < 2 ^ 32
   pub lawful : AreLeaves a.m a.leaves.items
-  -- the index tells the page of each low but the first, which is empty
+  -- the index gives the page of each low but the first, which is empty
   pub index : (q : Bytes) → page_of_low a.index q ≡ find order q (lows_of (drop 1 a.leaves.items))

@@ -40,8 +40,8 @@ abbrev pub journal_of : Shown → List Record → List Undo
 journal_of f [] = []
 journal_of f (r ∷ rs) = undo_of f r ∷ journal_of (after_record f r) rs
 
--- a record's leaf changed once more; or a displaced leaf in its place again, and the page behind all others gone that
--- was not there
+-- a record's leaf changed once more; or a displaced leaf in its place again, and the page after all
+-- others gone that was not there
 abbrev pub undone : Shown → Undo → Shown
 undone f (Back back) = record f { leaves = with_leaf f.leaves (result_of f.leaves back) }
 undone f (Page d) = record f { leaves = with_leaf (take d.pages f.leaves) d.leaf }

@@ -1,4 +1,4 @@
--- What holds of leaves, of chains and of frames over the definitions alone.
+-- What holds of leaves, of chains and of frames over the definitions only.
 
 use Rattle.std.specs.Prelude.{ℕ, ◌+◌, ◌<◌, ◌≤◌, ◌≡◌, ◌↔◌, ◌⊎◌, ◌==◌, false, IsTrue, if◌then◌else◌, Some, List, ◌++◌, map, length}
 use Rattle.std.specs.List.{AllByRecursion}
@@ -36,11 +36,11 @@ pub record AreRanged (m : ℕ) (leaves : List Leaf) : Type 0 where
   pub each : AllByRecursion (IsBase m) leaves
   pub ranges : AllByRecursion (λ l. AllByRecursion (λ p. LiesBetween leaves l p.0) l.pairs) leaves
 
--- keys stand where records of them are directed exactly where they lie in their leaf's range
+-- keys stand where records of them are directed exactly if they lie in their leaf's range
 abbrev pub HomesAreRanges : Type 0
 HomesAreRanges = (m : ℕ) (leaves : List Leaf) → AreLeaves m leaves ↔ AreRanged m leaves
 
--- the lows alone tell at which page a record is directed
+-- only the lows decide at which page a record is directed
 abbrev pub LowsTell : Type 0
 LowsTell = (m : ℕ) (leaves : List Leaf) (key : Bytes) → AreLeaves m leaves → home_page key (map (λ l. l.low) leaves) ≡ (home key leaves).page
 

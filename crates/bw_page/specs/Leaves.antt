@@ -75,7 +75,7 @@ pub record AreLeaves (m : ℕ) (leaves : List Leaf) : Type 0 where
 abbrev pub with_leaf : List Leaf → Leaf → List Leaf
 with_leaf leaves leaf = slice_set leaves (leaf.page - 1) leaf
 
--- leaves with one of them in its place, split in two where it has more than m pairs
+-- leaves with one of them in its place, split in two if it has more than m pairs
 abbrev pub placed : ℕ → List Leaf → Leaf → List Leaf
 placed m leaves leaf =
     if nat_le (length leaf.pairs) m then with_leaf leaves leaf

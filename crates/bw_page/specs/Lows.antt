@@ -14,6 +14,6 @@ abbrev pub bare_from : ℕ → List Bytes → List Leaf
 bare_from n [] = []
 bare_from n (low ∷ lows) = record { page = n; low = low; pairs = [] } ∷ bare_from (n + 1) lows
 
--- the page at which a record of a key is directed, where pages from 1 on have these lows
+-- the page at which a record of a key is directed, if pages from 1 on have these lows
 abbrev pub home_page : Bytes → List Bytes → ℕ
 home_page key lows = (home key (bare_from 1 lows)).page

@@ -17,7 +17,7 @@ use bw_leaf::{HollowPage, fitted_copy};
 use bw_lows::LowIndex;
 use std::alloc::{AllocError, Global};
 
-/// The same leaves, each in no more room than it needs.
+/// A copy of these leaves, all of them in memory, each in no more room than it needs.
 pub(crate) fn copy_all(alloc: Global, leaves: &Seats) -> Result<Vec<Leaf>, AllocError>
     requires { leaves.now.evicted ≡ [] }
     ensures { IfOk result (λ copy. copy.items ≡ leaves.now.items) }
@@ -30,7 +30,7 @@ pub(crate) fn copy_all(alloc: Global, leaves: &Seats) -> Result<Vec<Leaf>, Alloc
     Ok(copy)
 }
 
-/// The same leaves with their seats.
+/// A copy of these leaves with their seats, all of them in memory.
 pub(crate) fn copy_seats(leaves: &Seats) -> Result<Seats, AllocError>
     requires { leaves.now.evicted ≡ [] }
     ensures items { IfOk result (λ copy. copy.items ≡ leaves.now.items) }
@@ -91,8 +91,8 @@ pub(crate) fn index_of_found(alloc: Global, pages: &[HollowPage]) -> Result<LowI
     Ok(index)
 }
 
-/// Takes off the last leaf, and its low key from the index, where there are more leaves than these.
-/// No memory is taken.
+/// Takes off the last leaf, and its low key from the index, if there are more leaves than these. No
+/// memory is taken.
 pub(crate) fn take_above(leaves: &mut Seats, index: &mut LowIndex, pages: u32) -> Option<Leaf>
     requires over { length leaves.old.items ≤ pages + 1 }
     requires key { (d : LeafValue) → pages < length leaves.old.items

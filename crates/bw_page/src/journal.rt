@@ -93,7 +93,7 @@ impl Displaced {
         self.pages
     }
 
-    /// The leaf again; where it was split, from its parts, of which the lower one is taken from its
+    /// The leaf again; if it was split, from its parts, of which the lower one is taken from its
     /// seat. It is never refused; a row of heads takes memory.
     pub(crate) fn into_leaf(self, leaves: &mut Seats, upper: Option<Leaf>) -> Leaf
         requires { IsTrue self.is_split → AreParts self leaves.old upper }
@@ -141,7 +141,7 @@ fn join(lower: Leaf, upper: Leaf, room: Vec<Pair>) -> Leaf
     }
 }
 
-// Moves pairs behind others, where there is room for them.
+// Moves pairs after others, if there is room for them.
 fn move_all(to: &mut Vec<Pair>, from: Pairs)
     requires { vec_len to.old + length from ≤ vec_capacity to.old }
     ensures items { to.new.items ≡ to.old.items ++ from }

@@ -1,4 +1,4 @@
-//! Laws over the definitions alone, each the contract of a function that does nothing.
+//! Laws over the definitions only, each the contract of a function that does nothing.
 
 ghost use Rattle.bw_page.specs.Laws.{HomesAreRanges, LowsTell, AppliesPageByPage, TwiceIsOnce, ReadsOverNewer, ChainsReadOverNewer, StandsAsOne, HomesStay, HereTogether};
 
@@ -7,7 +7,7 @@ pub fn homes_are_ranges()
     ensures { HomesAreRanges }
 {}
 
-/// The low keys alone tell at which page a record is directed.
+/// Only the low keys decide at which page a record is directed.
 pub fn lows_tell()
     ensures { LowsTell }
 {}

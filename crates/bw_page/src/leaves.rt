@@ -1,7 +1,7 @@
 //! All pages: a list of leaves by page number, with an index of their low keys.
 //!
 //! A record changes the page with the greatest low key not above its key. A page that then has too
-//! many pairs is split in two, and its upper part is a new page behind all others, so no page moves.
+//! many pairs is split in two, and its upper part is a new page after all others, so no page moves.
 
 ghost use Rattle.std.specs.Prelude.{ℕ, ◌≡◌, ◌==◌, ◌<◌, ◌≤◌, ◌+◌, ◌-◌, ◌^◌, [], ◌∷◌, length, nat_lt, true, false, Some, None, is_some, if◌then◌else◌, IfSome, IfOk, OnOk, OnErr, IsTrue};
 ghost use Rattle.std.specs.Option.{option_copied};
@@ -70,7 +70,7 @@ impl Model for Leaves {
 }
 
 impl Leaves {
-    /// Page 1 alone, without any pair. A page holds at most `m` pairs, 4 to 32. A refused growth is
+    /// Page 1 only, without any pair. A page holds at most `m` pairs, 4 to 32. A refused growth is
     /// the only error.
     pub fn one_empty(alloc: Global, m: u16) -> Result<Leaves, AllocError>
         requires { (4 ≤ m) × (m ≤ 32) }
@@ -164,8 +164,8 @@ impl Leaves {
         }
     }
 
-    /// The least low key of a page that is above this key, if there is one: where a walk in the
-    /// order of keys goes on behind the page of this key. It costs a search among the pages.
+    /// The least low key of a page that is above this key, if there is one: there a walk in the
+    /// order of keys goes on after the page of this key. It costs a search among the pages.
     pub fn low_above(&self, key: &Key) -> Option<Key>
         ensures some { IfSome result (λ low. IsNextLow self.now.leaves key.now low) }
         ensures none { result ≡ None → HasNoLowAbove self.now.leaves key.now }
@@ -207,7 +207,7 @@ impl Leaves {
         self.find(&key)
     }
 
-    /// The same, where its page is known.
+    /// The leaf of a key, whose page is known.
     fn home_on(&self, page: u32, _key: &[u8]) -> &Leaf
         requires here { IsHere _key.now self.now }
         requires page { page ≡ (home _key.now self.now.leaves).page }
@@ -220,7 +220,7 @@ impl Leaves {
         self.leaves.get(page as usize - 1)
     }
 
-    /// Changes the leaf at whose page the record is directed, and splits it in two where it then has
+    /// Changes the leaf at whose page the record is directed, and splits it in two if it then has
     /// more than `m` pairs: the first (m + 1) / 2 stay, and the others become a new last page.
     ///
     /// It costs a search among the pages and work within one page; a new page also costs what a
@@ -243,8 +243,8 @@ impl Leaves {
         self.apply_on(self.find_packed(change), change)
     }
 
-    /// The same, where the page at which the record is directed is known: it costs no search among
-    /// the pages.
+    /// Changes the leaf of this page, at which the record is directed. As `apply` otherwise, but it
+    /// costs no search among the pages.
     pub fn apply_on(&mut self, page: u32, change: &Packed) -> Result<Applied, ApplyError>
         requires here { IsHere (key_of change.now) self.old }
         requires page { page ≡ directed_at self.old.leaves change.now }
@@ -264,8 +264,8 @@ impl Leaves {
         self.apply_found(page, found, change)
     }
 
-    /// The same, where the search for the record's key on that page ended so: it costs no search at
-    /// all.
+    /// Changes the leaf of this page, at which the record is directed, and on which the search for
+    /// its key ended so. As `apply` otherwise, but it costs no search at all.
     pub fn apply_found(
         &mut self,
         page: u32,
@@ -300,7 +300,7 @@ impl Leaves {
         find_key(&self.home_on(page, key).pairs, key)
     }
 
-    /// Whether a record splits its page in two, where the search for its key there ended so.
+    /// Whether a record splits its page in two, if the search for its key there ended so.
     pub fn is_split_by(&self, page: u32, found: Result<usize, usize>, item: &Record) -> bool
         requires here { IsHere (key_of item.now) self.now }
         requires page { page ≡ directed_at self.now.leaves item.now }
@@ -323,7 +323,7 @@ impl Leaves {
         (at, count, found)
     }
 
-    /// The same, where the search ended so.
+    /// What `aim` says of place and number, if the search ended so.
     fn aim_found(&self, page: u32, found: Result<usize, usize>, change: &Packed) -> (usize, usize)
         requires here { IsHere (key_of change.now) self.now }
         requires page { page ≡ directed_at self.now.leaves change.now }
@@ -438,7 +438,7 @@ impl Leaves {
         &self.leaves
     }
 
-    /// The leaves alone. No memory is taken.
+    /// Only the leaves. No memory is taken.
     pub(crate) fn into_seats(self) -> Seats
         ensures items { result.items ≡ self.leaves }
         ensures evicted { result.evicted ≡ self.evicted }
@@ -451,7 +451,7 @@ impl Leaves {
         leaves
     }
 
-    /// The same leaves. It costs all pages.
+    /// A copy of the leaves. It costs all pages.
     pub fn copy(&self) -> Result<Leaves, AllocError>
         requires { self.now.evicted ≡ [] }
         ensures { IfOk result (λ l. l ≡ self.now) }

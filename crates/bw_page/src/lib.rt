@@ -1,11 +1,11 @@
 //! All pages with their split rule, and the index of their low keys.
 //!
 //! A page has a number, a low key and its pairs in the order of their keys. A record changes the
-//! page with the greatest low key not above its own; a page that then has too many pairs is split in
-//! two, and the upper part becomes a new page behind all others. `specs/Leaves.antt` has the rule,
-//! and the law that all pairs of all pages are one plain map. What is said of one page alone, its
-//! chain among it, stands in `bw_leaf`; its names are handed on here. `specs/Standing.antt` has what
-//! blocks of the log say of all pages.
+//! page with the greatest low key not above its own; a page that then has too many pairs is split
+//! in two, and the upper part becomes a new page after all others. `specs/Leaves.antt` has the
+//! rule, and the law that all pairs of all pages are one plain map. What is said of one page by
+//! itself, its chain among it, stands in `bw_leaf`; its names are handed on here.
+//! `specs/Standing.antt` has what blocks of the log say of all pages.
 //!
 //! A search finds the right page, since lows ascend and the first is the empty key: the pages'
 //! ranges part all keys, each pair stands on the page that its key is directed at, and a split gives
@@ -15,8 +15,8 @@
 //! A batch is applied whole or not at all. What takes each record back is kept until the last is
 //! applied, and taking back is never refused.
 //!
-//! A page may be evicted from memory. What it holds is then known to the proof alone, by a
-//! snapshot, which has no bytes; whoever brings it back has to have read exactly that.
+//! A page may be evicted from memory. What it holds is then known only to the proof, by a snapshot,
+//! which has no bytes; whoever brings it back has to have read exactly that.
 #![tactic(auto)]
 
 mod fault;

@@ -34,7 +34,7 @@ use std::mem;
 pub(crate) struct Seat {
     leaf: Option<Leaf>,
     was: Told<Leaf>,
-    /// How many bytes its Base has, where it is evicted.
+    /// How many bytes its Base has, if it is evicted.
     len: u32,
 }
 
@@ -132,7 +132,7 @@ impl Seat {
         }
     }
 
-    /// Changes the leaf by a record that adds one pair too many, where the search for its key ended
+    /// Changes the leaf by a record that adds one pair too many, if the search for its key ended
     /// so, and gives the part that becomes a new page, whose low key goes into the index. A refusal
     /// changes nothing.
     fn split(
@@ -170,8 +170,8 @@ impl Seat {
         }
     }
 
-    /// Changes the leaf by a record that adds no pair and has its memory, where the search for its
-    /// key ended so.
+    /// Changes the leaf by a record that adds no pair and has its memory, if the search for its key
+    /// ended so.
     fn take_back(&mut self, found: Result<usize, usize>, back: Packed)
         requires here { self.old.is_evicted ≡ false }
         requires found { found ≡ seek_of (key_of back) self.old.leaf.pairs }
@@ -396,9 +396,9 @@ impl Seats {
         self.seats[at].change(found, item)
     }
 
-    /// Changes a leaf, which is in memory, by a record that adds one pair too many, where the search
-    /// for its key ended so, and gives the part that becomes a new page, whose low key goes into the
-    /// index. A refusal changes nothing.
+    /// Changes a leaf, which is in memory, by a record that adds one pair too many, if the search
+    /// for its key ended so, and gives the part that becomes a new page, whose low key goes into
+    /// the index. A refusal changes nothing.
     pub(crate) fn split(
         &mut self,
         index: &mut LowIndex,
@@ -433,8 +433,8 @@ impl Seats {
         self.seats[at].split(index, m, found, item, page)
     }
 
-    /// Changes a leaf, which is in memory, by a record that adds no pair and has its memory, where
-    /// the search for its key ended so.
+    /// Changes a leaf, which is in memory, by a record that adds no pair and has its memory, if the
+    /// search for its key ended so.
     pub(crate) fn take_back(&mut self, at: usize, found: Result<usize, usize>, back: Packed)
         requires within { at < length self.old.items }
         requires here { is_among (at + 1) self.old.evicted ≡ false }

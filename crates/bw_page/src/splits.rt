@@ -17,7 +17,7 @@ use bw_leaf::{half_of, new_pair};
 use bw_lows::LowIndex;
 use std::alloc::{AllocError, Global};
 
-/// Changes a leaf by a record that adds one pair too many, where the search for its key ended so, and
+/// Changes a leaf by a record that adds one pair too many, if the search for its key ended so, and
 /// moves off the part that becomes a new page, whose low key goes into the index. A refusal changes
 /// nothing.
 pub(crate) fn split_leaf(

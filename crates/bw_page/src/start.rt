@@ -44,13 +44,13 @@ impl Start {
         }
     }
 
-    /// The same leaves as these, all of them in memory, in no more room than they need. A refused
+    /// A copy of these leaves, all of them in memory, in no more room than they need. A refused
     /// growth is the only error. It costs all pages.
     pub fn copy_of(leaves: &Leaves) -> Result<Start, AllocError>
         requires here { leaves.now.evicted ≡ [] }
         ensures { IfOk result (λ start. start ≡ leaves.now) }
     {
-        // Tells the proof that they are lawful.
+        // Shows the proof that they are lawful.
         let _ = leaves.count();
         Ok(Start {
             m: leaves.limit(),
@@ -58,7 +58,7 @@ impl Start {
         })
     }
 
-    /// The same leaves, to be changed. A refused growth is the only error. It costs all pages.
+    /// A copy of the leaves, to be changed. A refused growth is the only error. It costs all pages.
     pub fn leaves(&self) -> Result<Leaves, AllocError>
         ensures { IfOk result (λ l. l ≡ self.now) }
     {

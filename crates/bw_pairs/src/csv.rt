@@ -1,5 +1,5 @@
-//! A pair as a line of CSV: key, comma, value. What has a comma or a quote in it stands between quotes,
-//! and what is no text in hex behind `0x`, without quotes.
+//! A pair as a line of CSV: key, comma, value. What has a comma or a quote in it stands between
+//! quotes, and what is no text in hex after `0x`, without quotes.
 
 use crate::buffer::Buffer;
 use crate::fault::LineFault;
@@ -35,7 +35,7 @@ fn write_field<O: Write>(output: &mut O, bytes: &[u8]) -> io::Result<()> {
     write_word(output, Spelling::Words, bytes)
 }
 
-/// Writes a key or a value alone, and an end of line. A line without a field would be none.
+/// Writes only a key or a value, and an end of line. A line without a field would be none.
 pub fn write_csv_field<O: Write>(output: &mut O, bytes: &[u8]) -> io::Result<()> {
     if bytes.is_empty() {
         return output.write_all(b"\"\"\n");
@@ -63,7 +63,7 @@ enum At {
     Bare,
     /// Between quotes.
     Quoted,
-    /// Behind a quote, which ends it, if not another one follows.
+    /// After a quote, which ends it, if not another one follows.
     Closed,
 }
 
@@ -136,7 +136,7 @@ impl<B: Buffer> Reading<B> {
     }
 }
 
-/// The first field of a line, whose bytes go into a buffer that has none, and what stands behind its
+/// The first field of a line, whose bytes go into a buffer that has none, and what stands after its
 /// comma, if it has one.
 pub fn field_of<B: Buffer>(line: &[u8], bytes: B) -> Result<(Field<B>, Option<&[u8]>), LineFault> {
     let mut reading = Reading {

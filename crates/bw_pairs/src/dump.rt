@@ -1,5 +1,5 @@
 //! The text format of `mdb_dump` and `db_dump`, version 3: a header of `name=value` lines up to
-//! `HEADER=END`, then a line for each key and one for its value, each behind a space, up to
+//! `HEADER=END`, then a line for each key and one for its value, each after a space, up to
 //! `DATA=END`.
 
 use crate::buffer::Buffer;
@@ -22,8 +22,8 @@ pub enum Letters {
 
 // ---- out
 
-/// Writes the header of a dump. A size of the map, in bytes, stands in it where one is wanted:
-/// `mdb_load` makes a database of 1 MiB else, and `db_load` refuses the line.
+/// Writes the header of a dump. A size of the map, in bytes, stands in it if one is wanted:
+/// otherwise `mdb_load` makes a database of 1 MiB, and `db_load` refuses the line.
 pub fn write_header<O: Write>(
     output: &mut O,
     letters: Letters,
@@ -104,9 +104,9 @@ pub fn write_dumped<O: Write>(
 enum Escape {
     /// In none.
     Outside,
-    /// Behind the backslash.
+    /// After the backslash.
     Begun,
-    /// Behind the first digit, which this is.
+    /// After the first digit, which this is.
     Half(u8),
 }
 
@@ -173,7 +173,7 @@ pub fn unescaped<B: Buffer>(line: &[u8], bytes: B, too_long: LineFault) -> Resul
     }
 }
 
-/// What stands behind the space of a line of data.
+/// What stands after the space of a line of data.
 pub fn behind_space(line: &[u8]) -> Result<&[u8], LineFault> {
     match line.strip_prefix(b" ") {
         Some(text) => Ok(text),
@@ -181,7 +181,7 @@ pub fn behind_space(line: &[u8]) -> Result<&[u8], LineFault> {
     }
 }
 
-/// The bytes of hex digits; `too_long` where a value has not so many.
+/// The bytes of hex digits; `too_long` if a value has not so many.
 fn undigited(digits: &[u8], too_long: LineFault) -> Result<ArrayVec<u8, MAX_VALUE>, LineFault> {
     let mut room = [0u8; MAX_VALUE];
     let mut bytes = ArrayVec::new();
@@ -191,7 +191,7 @@ fn undigited(digits: &[u8], too_long: LineFault) -> Result<ArrayVec<u8, MAX_VALU
     }
 }
 
-/// The bytes of a line; `too_long` where a value has not so many.
+/// The bytes of a line; `too_long` if a value has not so many.
 fn bytes_in(
     letters: Letters,
     line: &[u8],
@@ -234,8 +234,8 @@ fn letters_of(value: &str) -> Result<Letters, LineFault> {
     }
 }
 
-/// What is known once a line behind the first one is read. What says how another store lays out
-/// its pages, or orders its keys, is read over.
+/// What is known once a line after the first one is read. What says how another store lays out its
+/// pages, or orders its keys, is read over.
 fn with_line(letters: Letters, text: &str) -> Result<Header, LineFault> {
     let Some((name, value)) = text.split_once('=') else {
         return Err(LineFault::BadHeader);

@@ -16,10 +16,10 @@ pub enum LineFault {
     BadKey,
     #[error("a value has 0 to 512 bytes")]
     BadValue,
-    /// What stands behind `0x`, or on a line of a dump, is no hex.
+    /// What stands after `0x`, or on a line of a dump, is no hex.
     #[error("bad hex")]
     BadHex,
-    /// What stands behind a backslash in a dump is neither another one nor two hex digits.
+    /// What stands after a backslash in a dump is neither another one nor two hex digits.
     #[error("bad escape")]
     BadEscape,
     /// The first line of a dump is another one.
@@ -54,7 +54,7 @@ pub enum LineFault {
     /// A line of CSV has one field, or more than two.
     #[error("a line of CSV has a key and a value")]
     BadCsv,
-    /// A quote of a line of CSV has no end there, or something stands behind it.
+    /// A quote of a line of CSV has no end there, or something stands after it.
     #[error("bad quotes")]
     BadQuotes,
     #[error("a key of a table has 1 to 124 bytes")]

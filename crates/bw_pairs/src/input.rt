@@ -16,7 +16,7 @@ pub const LONGEST: u32 = 4_096;
 /// How an input spells its pairs.
 #[derive(Debug, Clone, Copy, PartialEq, Eq)]
 pub enum Source {
-    /// A pair a line, each word its own bytes, or hex behind `0x`.
+    /// A pair a line, each word its own bytes, or hex after `0x`.
     Words,
     /// A pair a line, each word its own bytes, whatever these are.
     Raw,
@@ -41,9 +41,9 @@ pub enum Form {
     Csv,
     /// A dump, whose header comes next.
     Dump,
-    /// A dump behind its header.
+    /// A dump after its header.
     Data(Letters),
-    /// A dump behind its end.
+    /// A dump after its end.
     Ended,
 }
 
@@ -131,7 +131,7 @@ impl<I: Read + Drop> Pairs<I> {
         })
     }
 
-    /// The deletes of its keys in place of the puts. A line may be a key alone then, and of one that
+    /// The deletes of its keys in place of the puts. A line may be only a key then, and of one that
     /// is a pair the value is not read.
     pub fn as_deletes(self) -> Pairs<I> {
         Pairs {
@@ -248,7 +248,7 @@ impl<I: Read + Drop> Pairs<I> {
         }
     }
 
-    /// Nothing may stand behind the end of a dump.
+    /// Nothing may stand after the end of a dump.
     fn end(&mut self) -> Result<Next, PairsFault> {
         if self.read_line()? {
             return Err(self.fault(LineFault::Second));
@@ -268,7 +268,7 @@ impl<I: Read + Drop> Pairs<I> {
         }
     }
 
-    /// Notes a bad pair, which ends the input where none is read over.
+    /// Notes a bad pair, which ends the input if none is read over.
     fn note(&mut self, number: u64, fault: LineFault) -> Result<(), PairsFault> {
         if !self.skips {
             return Err(PairsFault::Line(number, fault));
@@ -278,7 +278,7 @@ impl<I: Read + Drop> Pairs<I> {
         Ok(())
     }
 
-    /// The put of the next pair, or the delete of its key; `None` behind the last.
+    /// The put of the next pair, or the delete of its key; `None` after the last.
     pub fn next_record(&mut self) -> Result<Option<Record>, PairsFault> {
         for _ in 0..u64::MAX {
             match self.next()? {

@@ -1,4 +1,4 @@
-//! A pair as a line of JSON: an object of its key and its value, as texts, or in base64 where they are
+//! A pair as a line of JSON: an object of its key and its value, as texts, or in base64 if they are
 //! no UTF-8.
 
 use crate::buffer::Buffer;
@@ -14,7 +14,7 @@ use std::io::{self, Write};
 const LETTERS: usize = (MAX_VALUE + 2) / 3 * 4;
 
 /// How many bytes are written in base64 at once: whole groups of three, so that only the last part
-/// has signs behind it that stand for nothing.
+/// has signs after it that stand for nothing.
 const PART: usize = MAX_VALUE / 3 * 3;
 
 // ---- out
@@ -127,13 +127,13 @@ impl Rest<'_> {
         }
     }
 
-    /// Reads over blanks, and tells the byte behind them.
+    /// Reads over blanks, and answers the byte after them.
     pub fn peek(&mut self) -> Option<u8> {
         self.bytes = self.bytes.trim_ascii_start();
         self.bytes.first().copied()
     }
 
-    /// Reads this byte, behind blanks.
+    /// Reads this byte, after blanks.
     pub fn expect(&mut self, byte: u8) -> Result<(), LineFault> {
         if self.peek() != Some(byte) {
             return Err(LineFault::BadJson);
@@ -174,7 +174,7 @@ impl Rest<'_> {
         push_letter(text, code)
     }
 
-    /// Reads what stands behind a backslash.
+    /// Reads what stands after a backslash.
     fn escape<B: Buffer>(&mut self, text: &mut B) -> Result<(), LineFault> {
         match self.next()? {
             b'n' => text.add(b'\n'),
@@ -260,7 +260,7 @@ impl Members {
     }
 }
 
-/// The key and the value of a line: an object that has both, or a key alone, and nothing else.
+/// The key and the value of a line: an object that has both, or only a key, and nothing else.
 fn members_of(line: &[u8]) -> Result<Members, LineFault> {
     if std::str::from_utf8(line).is_err() {
         return Err(LineFault::BadJson);

@@ -1,8 +1,8 @@
 //! Pairs as text: a line for each, in a spelling that gives back any bytes, and the dumps of other
 //! stores.
 //!
-//! `Pairs` reads an input in bounded memory, and tells the line of what is no pair. `Rows` reads the
-//! pairs of tables, whose values are longer. What writes takes any output.
+//! `Pairs` reads an input in bounded memory, and gives the line of what is no pair. `Rows` reads
+//! the pairs of tables, whose values are longer. What writes takes any output.
 #![tactic(auto)]
 
 mod buffer;

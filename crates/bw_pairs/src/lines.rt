@@ -45,8 +45,8 @@ fn cut_end(line: &mut Vec<u8>) -> bool {
 pub struct Lines<R> {
     input: BufReader<Counted<R>>,
     line: Vec<u8>,
-    /// So many bytes without an LF tell that a line is too long, but where the last is a CR, which
-    /// may belong to its end.
+    /// So many bytes without an LF show that a line is too long, unless the last is a CR, which may
+    /// belong to its end.
     kept: u64,
     /// Whether the last line was too long, and the rest of it still stands in the input.
     has_rest: bool,
@@ -72,7 +72,7 @@ impl<R: Read + Drop> Lines<R> {
     }
 
     /// Reads the next line, and says whether there was one. Of a line that is too long no more is
-    /// read than tells so, and these bytes are kept; the rest is read over before the next line.
+    /// read than shows so, and these bytes are kept; the rest is read over before the next line.
     pub fn read_line(&mut self) -> io::Result<bool> {
         if self.has_rest {
             let _ = self.input.skip_until(b'\n')?;

@@ -21,7 +21,7 @@ use std::io::Read;
 /// six letters at most.
 const LONGEST: u32 = 100_700_000;
 
-/// A pair of a table, or a key alone where its keys are deleted.
+/// A pair of a table, or only a key if its keys are deleted.
 #[derive(Drop)]
 pub struct Row {
     pub key: RowKey,
@@ -31,7 +31,7 @@ pub struct Row {
 /// What an input has.
 #[derive(Drop)]
 pub enum Item {
-    /// The pairs behind it are those of the table of this name.
+    /// The pairs after it are those of the table of this name.
     Table(Name),
     Row(Row),
 }
@@ -185,7 +185,7 @@ impl Members {
     }
 }
 
-/// The key and the value of a line: an object that has both, or a key alone, and nothing else.
+/// The key and the value of a line: an object that has both, or only a key, and nothing else.
 fn members_of(alloc: Global, line: &[u8]) -> Result<Members, WordFault> {
     if std::str::from_utf8(line).is_err() {
         return Err(WordFault::Line(LineFault::BadJson));
@@ -294,8 +294,8 @@ fn next_of(number: u64, row: Result<Row, WordFault>) -> Result<Next, PairsFault>
 
 impl<I: Read + Drop> Rows<I> {
     /// Those of a reader, which are spelled so. A bad pair ends them, or is read over. In place of
-    /// puts there are deletes of the keys, if these are wanted: a line may be a key alone then.
-    /// Databases of a dump have names, if these are wanted: each is told before its pairs.
+    /// puts there are deletes of the keys, if these are wanted: a line may be only a key then.
+    /// Databases of a dump have names, if these are wanted: each is given before its pairs.
     pub fn new(
         alloc: Global,
         input: I,
@@ -349,7 +349,7 @@ impl<I: Read + Drop> Rows<I> {
         PairsFault::Line(self.lines.number(), fault)
     }
 
-    /// Why a word of the line that was read is none, where that ends all.
+    /// Why a word of the line that was read is none, if that ends all.
     fn word_fault(&self, fault: WordFault) -> PairsFault {
         match fault {
             WordFault::NoMemory => PairsFault::NoMemory,
@@ -476,7 +476,7 @@ impl<I: Read + Drop> Rows<I> {
         }
     }
 
-    /// Behind the end of a database comes another one, if they have names, and else nothing.
+    /// After the end of a database comes another one, if they have names, and else nothing.
     fn behind_end(&mut self) -> Result<Next, PairsFault> {
         if !self.read_line()? {
             return Ok(Next::End);
@@ -505,7 +505,7 @@ impl<I: Read + Drop> Rows<I> {
         }
     }
 
-    /// Notes a bad pair, which ends the input where none is read over.
+    /// Notes a bad pair, which ends the input if none is read over.
     fn note(&mut self, number: u64, fault: LineFault) -> Result<(), PairsFault> {
         if !self.skips {
             return Err(PairsFault::Line(number, fault));
@@ -515,7 +515,7 @@ impl<I: Read + Drop> Rows<I> {
         Ok(())
     }
 
-    /// The next pair, or the next table where there are names; `None` behind the last.
+    /// The next pair, or the next table if there are names; `None` after the last.
     pub fn next_item(&mut self) -> Result<Option<Item>, PairsFault> {
         for _ in 0..u64::MAX {
             match self.next()? {

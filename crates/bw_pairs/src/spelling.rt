@@ -59,8 +59,8 @@ pub fn write_line<O: Write>(output: &mut O, spelling: Spelling, bytes: &[u8]) ->
     output.write_all(b"\n")
 }
 
-/// The bytes of hex digits, at the front of `room`; `too_long` where there are more than it has
-/// room for. That is enough for a value, and a key is shorter.
+/// The bytes of hex digits, at the front of `room`; `too_long` if there are more than it has room
+/// for. That is enough for a value, and a key is shorter.
 pub fn decoded<'a>(
     digits: &[u8],
     room: &'a mut [u8; MAX_VALUE],
@@ -86,7 +86,7 @@ pub fn value_from(bytes: &[u8]) -> Result<Value, LineFault> {
     Value::new(bytes).map_err(|_| LineFault::BadValue)
 }
 
-/// The bytes that a word stands for: its own, or those of its hex digits behind `0x`, which come to
+/// The bytes that a word stands for: its own, or those of its hex digits after `0x`, which come to
 /// the front of `room`.
 pub fn bytes_of<'a>(
     word: &'a [u8],
@@ -99,7 +99,7 @@ pub fn bytes_of<'a>(
     }
 }
 
-/// The key that a word stands for: its own bytes, or those of its hex digits behind `0x`.
+/// The key that a word stands for: its own bytes, or those of its hex digits after `0x`.
 pub fn key_of(word: &[u8]) -> Result<Key, LineFault> {
     let mut room = [0u8; MAX_VALUE];
     key_from(bytes_of(word, &mut room, LineFault::BadKey)?)

@@ -1,4 +1,4 @@
--- The numbers that the calls answer, and which fault is told as which.
+-- The numbers that the calls answer, and which fault is answered as which.
 
 use Rattle.std.specs.Prelude.{◌≡◌, ℤ, negsuc}
 use Rattle.bw_lines.specs.declared.cause.RecoverCause.{RecoverCause}
@@ -16,7 +16,7 @@ number_of Damaged = negsuc 12
 abbrev pub IsRefusal : ℤ → Type 0
 IsRefusal answer = (fault : Fault) × (answer ≡ number_of fault)
 
--- what is told of what recovery says
+-- what is answered for what recovery says
 abbrev pub fault_of : RecoverCause → Fault
 fault_of cause.NoMemory = NoMemory
 fault_of cause.Empty = NoStore

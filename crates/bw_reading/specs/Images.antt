@@ -10,7 +10,7 @@ use Rattle.bw_leaf.specs.Changed.{Bytes, Pairs, Map, order}
 use Rattle.bw_page.specs.Leaves.{union}
 use Rattle.bw_reading.specs.Calls.{over, pair_bytes}
 
--- pairs as an image, one behind the other
+-- pairs as an image, one after the other
 abbrev pub image_bytes : Pairs → Bytes
 image_bytes pairs = flat_map pair_bytes pairs
 
@@ -31,7 +31,7 @@ pub record IsImageOfPages (image : Bytes) (count : ℕ) : Type 0 where
   pub pages : List Leaf
   pub its : IsImage (union pages) image count
 
--- what is written in room of C's, and what is told of it, is an image of all pairs of pages
+-- what is written in room of C's, and what is said of it, is an image of all pairs of pages
 pub record IsTold (room written : Bytes) (needed count : ℕ) : Type 0 where
   pub image : Bytes
   pub its : IsImageOfPages image count
@@ -40,7 +40,7 @@ pub record IsTold (room written : Bytes) (needed count : ℕ) : Type 0 where
 
 -- ---- where pairs begin
 
--- where the pair ends that bytes begin with, which stand at a place: there, where they begin with none
+-- where the pair ends that bytes begin with, which stand at a place: there, if they begin with none
 abbrev pub end_in : Bytes → ℕ → ℕ
 end_in [] at = at
 end_in (a ∷ []) at = at
@@ -51,7 +51,7 @@ end_in (a ∷ b ∷ c ∷ rest) at = at + (3 + a + b + 256 * c)
 abbrev pub end_at : Bytes → ℕ → ℕ
 end_at image at = end_in (drop at image) at
 
--- where so many pairs begin, one behind the other, the first of them at a place
+-- where so many pairs begin, one after the other, the first of them at a place
 abbrev pub starts_from : Bytes → ℕ → ℕ → List ℕ
 starts_from image zero at = []
 starts_from image (suc n) at = at ∷ starts_from image n (end_at image at)

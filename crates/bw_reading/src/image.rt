@@ -1,7 +1,7 @@
 //! Pairs as bytes, for C: an image.
 //!
 //! Each pair is the key's length, the value's in two bytes, the lower first, the key and the value.
-//! Pairs stand in the order of their keys, one behind the other.
+//! Pairs stand in the order of their keys, one after the other.
 
 ghost use Rattle.std.specs.Prelude.{◌≡◌, ◌++◌, [], ◌∷◌, drop, IfOk, OnOk};
 ghost use Rattle.bw_page.specs.Leaves.{union};
@@ -100,7 +100,7 @@ fn from_place(image: &[u8], at: u64) -> &[u8]
     &image[at as usize..]
 }
 
-/// The key of the pair that begins there, or no bytes where none does.
+/// The key of the pair that begins there, or no bytes if none does.
 pub(crate) fn key_of(image: &[u8], at: u64) -> &[u8]
     ensures { result.now ≡ key_at image.now at }
 {
@@ -110,7 +110,7 @@ pub(crate) fn key_of(image: &[u8], at: u64) -> &[u8]
     }
 }
 
-/// Where the pair ends that begins there, and the next one begins; there, where none does.
+/// Where the pair ends that begins there, and the next one begins; there, if none does.
 pub(crate) fn end_of(image: &[u8], at: u64) -> u64
     ensures { result ≡ end_at image.now at }
 {

@@ -1,12 +1,12 @@
 //! The store in a folder, to be read by a program in another language: its files are read by C, and
-//! what they say is told here.
+//! what they say is answered here.
 //!
 //! C hands in the bytes of all segments with the sums beside them, and gets the pairs in the order
 //! of their keys, as an image in memory of its own: `bw_pairs_in`. From then on it looks up keys
-//! there: `bw_index_of` notes once where each pair begins, and `bw_first_at` finds the first pair at
-//! or above a key. These two take no memory, and read alone what C lends, so any number of threads
-//! may call. Nothing of Rattle's stays behind a call. `bw_number_in` says which segment a file has: by it
-//! C finds whether files that somebody writes are those of one moment.
+//! there: `bw_index_of` notes once where each pair begins, and `bw_first_at` finds the first pair
+//! at or above a key. These two take no memory, and read only what C lends, so any number of
+//! threads may call. Nothing of Rattle's stays after a call. `bw_number_in` says which segment a
+//! file has: by it C finds whether files that somebody writes are those of one moment.
 //!
 //! An image has all pairs of pages in the order of their keys, each once (`specs/Images.antt`), and
 //! its index goes from pair to pair by their lengths. What no clause says, and the tests of the program
@@ -49,9 +49,9 @@ fn image_in(
 }
 
 /// Writes the image of all pairs that these segments hold: as many bytes as there is room for; and
-/// how many it has, and how many pairs. Where that is refused, nothing is written.
+/// how many it has, and how many pairs. If that is refused, nothing is written.
 ///
-/// The bytes of the segments stand one behind the other, and so do those of the sums beside them; of
+/// The bytes of the segments stand one after the other, and so do those of the sums beside them; of
 /// each segment `parts` has two lengths, of its bytes and of its sums.
 #[unsafe(no_mangle)]
 pub extern "C" fn bw_pairs_in(

@@ -18,7 +18,7 @@ const LEAST: u64 = HEADER_LEN as u64 + MAX_FRAME as u64;
 /// The most pairs of a page, of a store that has none yet.
 const NONE_LIMIT: u16 = 32;
 
-// A piece of bytes, where it is all there.
+// A piece of bytes, if it is all there.
 fn piece(bytes: &[u8], at: u64, len: u64) -> Result<&[u8], Fault> {
     let Some(end) = at.checked_add(len) else {
         return Err(Fault::Damaged);
@@ -65,7 +65,7 @@ fn may_be_first(one: &mut Box<dyn Segment>) -> bool {
     matches!(read_header(&front), HeaderRead::Whole(header) if header.number == 1)
 }
 
-// Whether these segments, which have no whole frame, hold the beginning of a first one alone, of
+// Whether these segments, which have no whole frame, hold only the beginning of a first one, of
 // which nothing was ever durable: whoever writes there begins anew.
 fn are_begun(boxes: &mut [Box<dyn Segment>]) -> bool {
     let mut count = 0usize;
@@ -80,7 +80,7 @@ fn are_begun(boxes: &mut [Box<dyn Segment>]) -> bool {
     count <= 1
 }
 
-// The pages of these segments: one empty page where nothing was ever durable in them.
+// The pages of these segments: one empty page if nothing was ever durable in them.
 fn pages_of(alloc: Global, boxes: Vec<Box<dyn Segment>>) -> Result<Leaves, Fault>
     requires { Unit {0} }
     ensures here { IfOk result (λ leaves. leaves.evicted ≡ []) }
@@ -101,7 +101,7 @@ fn pages_of(alloc: Global, boxes: Vec<Box<dyn Segment>>) -> Result<Leaves, Fault
     }
 }
 
-// The same of copies. Their boxes are made here alone.
+// The pages of these copies in memory. Their boxes are made here only.
 fn pages_in_copies(alloc: Global, copies: Vec<MemSegment>) -> Result<Leaves, Fault>
     ensures { IfOk result (λ leaves. leaves.evicted ≡ []) }
 {
@@ -112,8 +112,9 @@ fn pages_in_copies(alloc: Global, copies: Vec<MemSegment>) -> Result<Leaves, Fau
     pages_of(alloc, boxes)
 }
 
-/// The pages of segments: of `parts` two lengths for each, of its bytes and of its sums, which stand
-/// one behind the other in `bytes` and in `sums`. Bytes that do not fit their sums are refused.
+/// The pages of segments: of `parts` two lengths for each, of its bytes and of its sums, which
+/// stand one after the other in `bytes` and in `sums`. Bytes that do not fit their sums are
+/// refused.
 ///
 /// It takes memory for a copy of all bytes, and the time of a recovery.
 pub(crate) fn pages_in(

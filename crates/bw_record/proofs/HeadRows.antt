@@ -1,4 +1,4 @@
--- Heads tell an order of keys, and a row of them goes along with its pairs.
+-- Heads say an order of keys, and a row of them goes along with its pairs.
 
 use Rattle.std.proofs.Common.{◌≡◌, ◌≢◌, ℕ, zero, suc, ◌<◌, ◌≤◌, false, inl, inr, get_or, List, [], ◌∷◌, ◌++◌, length, take, drop, map, insert, remove}
 use Rattle.std.proofs.Common.{refl, sym, ap, ◌∙◌, subst, arith}

@@ -247,7 +247,7 @@ order_behind_head (suc n) (x ∷ xs) (y ∷ ys) ours theirs la lb same =
       | Greater ↦ λ more. absurd (let top : suc y * 256 ^ n ≤ x * 256 ^ n = mul-le-mul_right (256 ^ n) more in omega arith)
     ] (ranked x y (nat_cmp x y) refl)
 
--- keys stand as their heads do, where these differ
+-- keys stand as their heads do, if these differ
 pub order_by_heads : (a b : Bytes) → IsBytes a → IsBytes b → (head a ≡ head b → ⊥) → nat_cmp (head a) (head b) ≡ order a b
 order_by_heads a b ours theirs differ =
     elim (nat_cmp (head a) (head b)) as (λ o. MatchOrdering o (head a < head b) (head a ≡ head b) (head b < head a) → o ≡ order a b) [

@@ -17,15 +17,15 @@ PairList = List (List ℕ × List ℕ)
 abbrev pub BeginsWith : List ℕ → List ℕ → Type 0
 BeginsWith shared key = key ≡ shared ++ drop (length shared) key
 
--- each key begins with these bytes, and bytes stand behind them
+-- each key begins with these bytes, and bytes stand after them
 abbrev pub Share : List ℕ → PairList → Type 0
 Share shared pairs = AllByRecursion (λ p. BeginsWith shared p.0 × IsBytes (drop (length shared) p.0)) pairs
 
--- the heads of keys from behind so many bytes
+-- the heads of keys, taken after so many bytes
 abbrev pub heads : ℕ → PairList → List ℕ
 heads skip pairs = map (λ p. head (drop skip p.0)) pairs
 
--- the row beside pairs: the head of each key from behind the bytes that all share, or none
+-- the row beside pairs: the head of each key, taken after the bytes that all share, or none
 abbrev pub IsRow : List ℕ → List ℕ → PairList → Type 0
 IsRow shared row pairs = (row ≡ []) ⊎ (Share shared pairs × (row ≡ heads (length shared) pairs))
 

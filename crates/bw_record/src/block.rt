@@ -28,7 +28,7 @@ pub enum Block {
 }
 
 impl Block {
-    /// Whether the block tells what a page is, whatever it was before.
+    /// Whether the block says what a page is, whatever it was before.
     pub fn sets(&self, page: u32) -> bool
         ensures { result ≡ sets page self.now }
     {
@@ -39,7 +39,7 @@ impl Block {
         }
     }
 
-    /// Whether the block tells anything of a page.
+    /// Whether the block says anything of a page.
     pub fn touches(&self, page: u32) -> bool
         ensures { result ≡ touches page self.now }
     {

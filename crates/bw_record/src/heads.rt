@@ -1,8 +1,8 @@
 //! The heads of keys: eight of their bytes as numbers, so that a search among pairs reads few bytes
 //! of most of them.
 //!
-//! Keys of one page often share their first bytes, and these tell nothing apart. So a row of heads
-//! begins behind them: were all its heads the same, each step of a search would read a whole key,
+//! Keys of one page often share their first bytes, and these set nothing apart. So a row of heads
+//! begins after them: were all its heads the same, each step of a search would read a whole key,
 //! which stands elsewhere in memory.
 
 ghost use Rattle.std.specs.Prelude.{◌≡◌, ◌≢◌, ℕ, List, ◌≤◌, ◌<◌, ◌++◌, MatchOption, IsTrue, get_or, length, take, drop, insert, remove, slice_set};
@@ -66,7 +66,7 @@ fn compare_short(a: &[u8], b: &[u8]) -> Ordering
     a.len().cmp(&b.len())
 }
 
-// What stands in a key behind its first eight bytes.
+// What stands in a key after its first eight bytes.
 fn behind_head(key: &[u8]) -> &[u8]
     requires { 8 ≤ length key.now }
     ensures { result.now ≡ drop 8 key.now }
@@ -74,21 +74,21 @@ fn behind_head(key: &[u8]) -> &[u8]
     &key[8..]
 }
 
-/// What a search for a key steps over, as far as heads tell.
+/// What a search for a key steps over, as far as heads show.
 #[derive(Drop)]
 pub struct Skip {
     /// So many pairs from the first on have a key below the sought one. There may be more.
     pub count: usize,
-    /// Whether there is a pair behind these, and its key is above: then the sought one is not there.
+    /// Whether there is a pair after these, and its key is above: then the sought one is not there.
     pub is_above: bool,
 }
 
 /// How many shared bytes a row steps over at most.
 const MOST: usize = 32;
 
-/// The heads of the keys of pairs in their order, each from behind the bytes with which all these
-/// keys begin. There are none where memory for them is refused, or where a key does not share the
-/// bytes: then a search is slower, and nothing else changes.
+/// The heads of the keys of pairs in their order, each taken after the bytes with which all these
+/// keys begin. There are none if memory for them is refused, or if a key does not share the bytes:
+/// then a search is slower, and nothing else changes.
 #[derive(Drop)]
 pub(crate) struct Row {
     shared: ArrayVec<u8, MOST>,
@@ -97,7 +97,7 @@ pub(crate) struct Row {
 
 impl Row {
     /// The row of pairs, with room for one more. What the first and the last key share, all between
-    /// them do where keys ascend.
+    /// them do if keys ascend.
     pub(crate) fn of(alloc: Global, pairs: &[Pair]) -> Row
         ensures { IsRow result.shared.items result.heads.items pairs.now }
     {
@@ -133,8 +133,8 @@ impl Row {
         );
     }
 
-    // Steps over no byte any more that this key does not share. It is linear in the pairs where
-    // that changes something, at most once for each byte.
+    // Steps over no byte any more that this key does not share. It is linear in the pairs if that
+    // changes something, at most once for each byte.
     fn shorten(&mut self, pairs: &[Pair], key: &[u8])
         ensures { IsRow self.old.shared.items self.old.heads.items pairs.now
             → IsRow self.new.shared.items self.new.heads.items pairs.now }
@@ -147,7 +147,7 @@ impl Row {
         }
     }
 
-    // The row of these pairs from behind these bytes.
+    // The row of these pairs, taken after these bytes.
     fn share(&mut self, shared: ArrayVec<u8, MOST>, pairs: &[Pair])
         ensures { IsRow self.new.shared.items self.new.heads.items pairs.now }
     {
@@ -205,7 +205,7 @@ impl Row {
     }
 }
 
-/// What stands in a key behind these bytes, or none where it does not begin with them.
+/// What stands in a key after these bytes, or none if it does not begin with them.
 pub fn behind<'a>(key: &'a [u8], shared: &[u8]) -> Option<&'a [u8]>
     ensures { MatchOption result ((rest : List ℕ) → key.now ≢ shared.now ++ rest)
         (λ rest. key.now ≡ shared.now ++ rest.now) }
@@ -234,8 +234,8 @@ fn count_same(a: &[u8], b: &[u8]) -> usize
     b.len()
 }
 
-// The row of pairs from behind bytes that they share, with room for one more; none where one does
-// not share them, or where memory is refused.
+// The row of pairs, taken after bytes that they share, with room for one more; none if one does not
+// share them, or if memory is refused.
 fn fill(row: &mut Vec<u64>, shared: &[u8], pairs: &[Pair])
     ensures { IsRow shared.now row.new.items pairs.now }
 {
@@ -255,8 +255,8 @@ fn fill(row: &mut Vec<u64>, shared: &[u8], pairs: &[Pair])
     }
 }
 
-// The row of so many pairs takes the head of a key that goes to an index. There is none any more
-// where there was none, where the key does not share the bytes, or where memory is refused.
+// The row of so many pairs takes the head of a key that goes to an index. There is none any more if
+// there was none, if the key does not share the bytes, or if memory is refused.
 fn insert_head(row: &mut Vec<u64>, shared: &[u8], count: usize, at: usize, key: &[u8])
     requires { at ≤ count }
     ensures { (pairs : PairList) (v : List ℕ) → length pairs ≡ count
@@ -277,7 +277,7 @@ fn insert_head(row: &mut Vec<u64>, shared: &[u8], count: usize, at: usize, key: 
     }
 }
 
-// The key at an index is another one. There is no row any more where it does not share the bytes.
+// The key at an index is another one. There is no row any more if it does not share the bytes.
 fn set_head(row: &mut Vec<u64>, shared: &[u8], at: usize, key: &[u8])
     ensures { (pairs : PairList) (v : List ℕ) → at < length pairs
         → IsRow shared.now row.old.items pairs

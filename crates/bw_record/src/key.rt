@@ -38,7 +38,7 @@ impl Model for Key {
 }
 
 impl Key {
-    /// A key of these bytes, or their length where it is no key's.
+    /// A key of these bytes, or their length if it is no key's.
     pub fn new(bytes: &[u8]) -> Result<Key, LengthError>
         ensures variant { IsOk result ↔ ((1 ≤ length bytes.now) × (length bytes.now ≤ 128)) }
         ensures ok { IfOk result (λ key. key ≡ bytes.now) }
@@ -100,7 +100,7 @@ impl Model for Value {
 }
 
 impl Value {
-    /// A value of these bytes, or their length where it is no value's.
+    /// A value of these bytes, or their length if it is no value's.
     pub fn new(bytes: &[u8]) -> Result<Value, LengthError>
         ensures variant { IsOk result ↔ (length bytes.now ≤ 512) }
         ensures ok { IfOk result (λ value. value ≡ bytes.now) }

@@ -10,7 +10,7 @@ use std::alloc::{AllocError, Global};
 use std::marker::Model;
 use std::mem;
 
-/// The low key of a page: 0 to 128 bytes, empty for page 1 alone. No key of the page is below it.
+/// The low key of a page: 0 to 128 bytes, empty for page 1 only. No key of the page is below it.
 #[derive(Drop)]
 pub struct Low {
     bytes: Vec<u8>,
@@ -47,7 +47,7 @@ impl Low {
         self.bytes.as_slice()
     }
 
-    /// The same low key. It takes memory, whose refusal is the only error.
+    /// A copy of this low key. It takes memory, whose refusal is the only error.
     pub fn copy(&self) -> Result<Low, AllocError>
         ensures { IfOk result (λ low. low ≡ self.now) }
     {
@@ -56,12 +56,12 @@ impl Low {
     }
 }
 
-/// Keys with their values, in the order of the keys where a lawful leaf holds them. Their bytes may
-/// be shared with other leaves.
+/// Keys with their values, in the order of the keys if a lawful leaf holds them. Their bytes may be
+/// shared with other leaves.
 ///
-/// Beside them stands a row with eight bytes of each key as a number, the first behind those that
-/// all keys share. A search reads it in place of most keys. It takes memory of its own, and where
-/// that is refused there is none: then a search is slower, and nothing else changes.
+/// Beside them stands a row with eight bytes of each key as a number, the first after those that
+/// all keys share. A search reads it in place of most keys. It takes memory of its own, and if that
+/// is refused, there is none: then a search is slower, and nothing else changes.
 #[derive(Drop)]
 pub struct Pairs {
     items: Vec<Pair>,
@@ -128,13 +128,13 @@ impl Pairs {
         ensures set { self.new ≡ slice_set self.old at pair }
         ensures was { result ≡ slice_index_or self.old at result }
     {
-        // Tells the proof that the list is as long as the `Vec`; so below.
+        // Shows the proof that the list is as long as the `Vec`; so below.
         let _ = self.items.as_slice().len();
         self.row.set(at, pair.key());
         mem::replace(&mut self.items[at], pair)
     }
 
-    /// Removes the pair at an index; those behind it move up.
+    /// Removes the pair at an index; those after it move up.
     pub fn remove(&mut self, at: usize)
         requires { at < length self.old }
         ensures { self.new ≡ remove self.old at }
@@ -144,7 +144,7 @@ impl Pairs {
         let _ = self.items.remove(at);
     }
 
-    /// Keeps the first `count` pairs alone, or all where there are no more.
+    /// Keeps only the first `count` pairs, or all if there are no more.
     pub fn truncate(&mut self, count: usize)
         ensures { self.new ≡ take count self.old }
     {
@@ -183,8 +183,8 @@ impl Pairs {
         Pairs::of(rest)
     }
 
-    /// How many pairs from the first on have a key below this one, as far as the heads tell: a
-    /// search for the key can begin behind them. There may be more.
+    /// How many pairs from the first on have a key below this one, as far as the heads show: a
+    /// search for the key can begin after them. There may be more.
     pub fn skipped(&self, key: &[u8]) -> usize
         ensures within { result ≤ length self.now }
         ensures below { AreBelow key.now (take result self.now) }
@@ -192,7 +192,8 @@ impl Pairs {
         self.row.skip_for(key).count
     }
 
-    /// The same, and whether the heads tell that the key is not there. No pair is looked at.
+    /// How many pairs from the first on have a key below this one, as far as the heads show, and
+    /// whether they show that the key is not there. No pair is looked at.
     pub fn skip_for(&self, key: &[u8]) -> Skip
         ensures within { result.count ≤ length self.now }
         ensures below { AreBelow key.now (take result.count self.now) }
@@ -201,7 +202,7 @@ impl Pairs {
         self.row.skip_for(key)
     }
 
-    /// Eight bytes of each key as a number, the first behind those that all keys share; or none at
+    /// Eight bytes of each key as a number, the first after those that all keys share; or none at
     /// all.
     pub fn heads(&self) -> &[u64]
         ensures { (shared : List ℕ) × IsRow shared result.now self.now }
@@ -209,7 +210,7 @@ impl Pairs {
         self.row.heads()
     }
 
-    /// The same pairs as these, with room for one more: what is copied is about to change. It takes
+    /// A copy of these pairs, with room for one more: what is copied is about to change. It takes
     /// memory, whose refusal is the only error; linear in the pairs.
     pub fn copy_of(alloc: Global, pairs: &[Pair]) -> Result<Pairs, AllocError>
         ensures { IfOk result (λ copy. copy ≡ pairs.now) }
@@ -221,7 +222,7 @@ impl Pairs {
         Ok(Pairs::of(items))
     }
 
-    /// The same pairs, as by `copy_of`.
+    /// A copy of the pairs, as by `copy_of`.
     pub fn copy(&self) -> Result<Pairs, AllocError>
         ensures { IfOk result (λ copy. copy ≡ self.now) }
     {
@@ -267,7 +268,7 @@ impl Leaf {
         (low, pairs)
     }
 
-    /// The same page. It takes memory, whose refusal is the only error.
+    /// A copy of this page. It takes memory, whose refusal is the only error.
     pub fn copy(&self) -> Result<Leaf, AllocError>
         ensures { IfOk result (λ leaf. leaf ≡ self.now) }
     {

@@ -1,8 +1,8 @@
 //! Keys, values, records, pages and blocks as values: what is stored, before anybody spells it as
 //! bytes.
 //!
-//! A record is one change of one key. A pair is a key with its value, as pages hold it: its bytes
-//! stand once in memory, and whoever holds the pair shares them; so does a packed record. A leaf is
+//! A record is one change of one key. A pair is a key with its value, as pages hold it. Its bytes
+//! stand once in memory, and whoever holds the pair shares them. So does a packed record. A leaf is
 //! a page: its number, its low key, and its pairs in the order of their keys.
 //!
 //! A block says what became of one page: it is set (`Base`), changed by records (`Delta`) or split in

@@ -41,7 +41,7 @@ impl Ops {
         Ok(Ops::single(Packed::of(alloc, item)?))
     }
 
-    /// The same of a record that is packed already.
+    /// One record that is packed already.
     pub fn single(item: Packed) -> Ops
         ensures { result ≡ item ∷ [] }
     {

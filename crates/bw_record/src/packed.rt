@@ -11,7 +11,8 @@ use crate::record::Record;
 use std::alloc::{AllocError, Global};
 use std::marker::Model;
 
-/// A record, where a `Record` has room for the longest key and the longest value.
+/// A record whose bytes may be shared. A `Record` has room for the longest key and the longest
+/// value.
 #[derive(Drop)]
 pub struct Packed {
     /// Whether it is a put. Else what stands in the pair beside its key says nothing.
@@ -65,7 +66,7 @@ impl Packed {
         ensures value { result.now ≡ key_of self.now }
         ensures lawful { IsOp self.now }
     {
-        // Tells the proof that the value is lawful.
+        // Shows the proof that the value is lawful.
         let _ = self.pair.value();
         self.pair.key()
     }
@@ -90,8 +91,8 @@ impl Packed {
         if puts { Ok(pair) } else { Err(pair) }
     }
 
-    /// The same record, which shares the bytes of this one. No memory is taken; it is refused alone
-    /// where the count of those that share is full.
+    /// A copy of this record, which shares its bytes. No memory is taken; it is refused only if the
+    /// count of those that share is full.
     pub fn copy(&self) -> Result<Packed, AllocError>
         ensures { IfOk result (λ packed. packed ≡ self.now) }
     {

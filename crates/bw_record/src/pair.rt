@@ -88,8 +88,8 @@ impl Pair {
         }
     }
 
-    /// The same pair, which shares the bytes of this one. No memory is taken; it is refused alone
-    /// where the count of those that share is full.
+    /// A copy of this pair, which shares its bytes. No memory is taken; it is refused only if the
+    /// count of those that share is full.
     pub fn copy(&self) -> Result<Pair, AllocError>
         ensures { IfOk result (λ pair. pair ≡ self.now) }
     {

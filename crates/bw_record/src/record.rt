@@ -22,7 +22,7 @@ impl Record {
         ensures lawful { IsOp self.now }
     {
         match self {
-            // The calls tell the proof that these lengths are lawful.
+            // The calls show the proof that these lengths are lawful.
             Record::Put(key, value) => {
                 let _ = key.as_slice(); // For the proof.
                 let _ = value.as_slice(); // For the proof.
@@ -35,7 +35,7 @@ impl Record {
         }
     }
 
-    /// The same record. No memory is taken.
+    /// A copy of this record. No memory is taken.
     pub fn copy(&self) -> Record
         ensures { result ≡ self.now }
     {

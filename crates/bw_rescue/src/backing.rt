@@ -11,7 +11,7 @@ use bw_home::{Home, HomeFault, System};
 use bw_look::{Image, Unseen};
 use std::alloc::Global;
 
-/// The i-th live segment, from 0; `None` where there are fewer.
+/// The i-th live segment, from 0; `None` if there are fewer.
 fn image_at(alloc: Global, home: &mut Home, index: u32) -> Result<Option<Image>, RescueFault>
     requires { IsReady home.old holding }
     ensures { IsReady home.new holding }
@@ -48,7 +48,7 @@ fn live_images(alloc: Global, home: &mut Home) -> Result<Vec<Image>, RescueFault
 /// each of their pieces. What was flushed is there, and what was not is not; the store stays as it
 /// is. There are so many leases.
 ///
-/// It is refused as `copy` is, but that there is no folder that is read: `Home` where a segment could
+/// It is refused as `copy` is, but that there is no folder that is read: `Home` if a segment could
 /// not be read.
 pub fn backup<R: System>(
     rt: &R,

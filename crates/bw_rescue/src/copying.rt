@@ -52,8 +52,8 @@ fn live_of(images: Vec<Image>) -> Result<Vec<Image>, AllocError> {
 ///
 /// Refused, and nothing is made: `Target` if the new folder is there already; `Source`, if the
 /// other one is damaged, or somebody writes it and it was not read; `Recovery`, if it is no store.
-/// After `Partial`, `Unlike` and `Target` a part may stand under the name with `.partial` behind,
-/// which is no copy, and which the next one takes over.
+/// After `Partial`, `Unlike` and `Target` a part may stand under the name with `.partial` at its
+/// end, which is no copy, and which the next one takes over.
 pub fn copy<R: System, W: Watch>(
     rt: &R,
     from: &str,

@@ -25,8 +25,8 @@ pub enum RescueFault {
     Recovery(RecoverCause),
     /// The new store was not opened, or a call on it was refused.
     Home(HomeFault),
-    /// What the new folder holds is not what was read. It stands under the name with `.partial`
-    /// behind.
+    /// What the new folder holds is not what was read. It stands under the name with `.partial` at
+    /// its end.
     Unlike,
     /// The log has the frames from the first to the last, and not the one that was asked for.
     NoFrame { first: u64, last: u64 },

@@ -22,7 +22,7 @@ pub(crate) struct Held {
     pub(crate) lease: u32,
     /// The bytes of its file.
     pub(crate) bytes: Vec<u8>,
-    /// By which its frames are read: of its own header the format alone counts.
+    /// By which its frames are read: of its own header only the format counts.
     pub(crate) header: Header,
     /// Its whole frames, in the order of the file.
     pub(crate) spots: Vec<Spot>,
@@ -42,8 +42,8 @@ fn begins_old(bytes: &[u8]) -> bool {
     bytes.len() >= HEADER_LEN && bytes[HEADER_LEN..].starts_with(&TEXTS[0])
 }
 
-/// A header by which each frame of a segment can be read, whatever its own one says of limits. Where
-/// that is damaged, the first frame tells the format.
+/// A header by which each frame of a segment can be read, whatever its own one says of limits. If
+/// that is damaged, the first frame says the format.
 fn header_of(bytes: &[u8]) -> Header {
     let version = match read_header(bytes) {
         HeaderRead::Whole(header) => header.version,
@@ -71,7 +71,7 @@ fn next_text(bytes: &[u8], from: usize, version: u16) -> Option<usize> {
     None
 }
 
-/// The frame at an offset, with its length, where one is there.
+/// The frame at an offset, with its length, if one is there.
 pub(crate) fn frame_at(
     alloc: Global,
     bytes: &[u8],
@@ -109,7 +109,7 @@ fn worth_of(piece: Option<Piece>, at: usize, len: usize) -> Worth {
     }
 }
 
-/// Where a frame may stand behind an offset at which none does. A piece that is no longer than a
+/// Where a frame may stand after an offset at which none does. A piece that is no longer than a
 /// frame is passed over; else the text of a frame is looked for.
 fn next_start(bytes: &[u8], header: Header, piece: Option<Piece>, at: usize) -> Option<usize> {
     match piece {
@@ -234,7 +234,7 @@ impl Held {
         })
     }
 
-    /// The most pairs that a page has, as its own header tells, if it has one.
+    /// The most pairs that a page has, as its own header says, if it has one.
     pub(crate) fn m(&self) -> Option<u16> {
         match read_header(self.bytes.as_slice()) {
             HeaderRead::Whole(header) => Some(header.m),

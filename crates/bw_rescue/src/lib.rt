@@ -1,17 +1,16 @@
 //! Damage is found, what is whole is saved, and a store is copied.
 //!
 //! Each call but `backup`, which copies an open store, reads a folder that it does not change, and
-//! whose lock it takes beside other readers. `verify` tells the first fault of each of its
-//! segments. `copy` and `compact` write the store of that moment into a new folder, `restore` that
-//! of an earlier frame, and `salvage` all that a damaged one still has. `compact` and `salvage`
-//! write whole pages (`bw_whole`). A new folder is made under another name, and gets its own once
-//! it was read again and stands on the disk (`Target`): a part of a copy is never taken for a
-//! store.
+//! whose lock it takes beside other readers. `verify` says the first fault of each of its segments.
+//! `copy` and `compact` write the store of that moment into a new folder, `restore` that of an
+//! earlier frame, and `salvage` all that a damaged one still has. `compact` and `salvage` write
+//! whole pages (`bw_whole`). A new folder is made under another name, and gets its own once it was
+//! read again and stands on the disk (`Target`): a part of a copy is never taken for a store.
 //!
 //! For `salvage` a file is taken apart by the sums beside it (`Pieces`), each piece by itself, and
 //! then searched for whole frames (`Held`). Their blocks are read forwards, page by page (`Pages`):
 //! a page comes as of the last frame up to which none of its blocks is missing, and what did not
-//! come back is told (`Loss`). `order` puts the pairs of such pages in the order of their keys.
+//! come back is reported (`Loss`). `order` puts the pairs of such pages in the order of their keys.
 #![tactic(auto)]
 
 mod backing;

@@ -1,8 +1,8 @@
 //! Pages, read forwards over the frames that are whole.
 //!
-//! Each block that changes a page tells where the block before it stands. Where that is the last one
-//! that was read, nothing of the page is missing between the two. Where it is another one, a block
-//! is missing, and the page stays as it was before: up to a block that sets it anew.
+//! Each block that changes a page says where the block before it stands. If that is the last one
+//! that was read, nothing of the page is missing between the two. If it is another one, a block is
+//! missing, and the page stays as it was before: up to a block that sets it anew.
 
 use crate::lost::Loss;
 use bw_codec::{Block, Frame, Leaf, Ops, Place};
@@ -16,7 +16,7 @@ struct Line {
     draft: Draft,
     /// The last block that was read of it.
     last: Place,
-    /// From which frame on nothing was read, where a block is missing.
+    /// From which frame on nothing was read, if a block is missing.
     lost: Option<u64>,
 }
 
@@ -90,7 +90,7 @@ impl Pages {
         Ok(())
     }
 
-    /// The line of a page behind a block that changes it, and that stands behind another one.
+    /// The line of a page after a block that changes it, and that stands after another one.
     fn after(
         &self,
         line: Line,
@@ -118,7 +118,7 @@ impl Pages {
         })
     }
 
-    /// A block changes a page, behind another block. Nothing is known of one that was not set.
+    /// A block changes a page, after another block. Nothing is known of one that was not set.
     fn change(
         &mut self,
         place: Place,

@@ -4,7 +4,7 @@
 use bw_digest::{Row, SUM_LEN, Sum};
 use std::alloc::{AllocError, Global};
 
-/// A piece of a file, of which a sum tells that counts.
+/// A piece of a file, of which a sum speaks that counts.
 #[derive(Clone, Copy)]
 pub(crate) struct Piece {
     /// Where it begins, in bytes.
@@ -46,7 +46,7 @@ impl Pieces {
         Ok(Pieces { rows, passed: 0 })
     }
 
-    /// Goes on to the first piece that ends behind an offset. No earlier one is looked at again.
+    /// Goes on to the first piece that ends after an offset. No earlier one is looked at again.
     fn go_to(&mut self, at: u64) {
         let mut passed = self.passed;
         for row in self.rows.as_slice().iter().skip(self.passed) {
@@ -58,7 +58,7 @@ impl Pieces {
         self.passed = passed;
     }
 
-    /// The piece in which an offset is, if one is told. No earlier one is looked at again.
+    /// The piece in which an offset is, if a sum speaks of one. No earlier one is looked at again.
     pub(crate) fn around(&mut self, at: u64) -> Option<Piece> {
         self.go_to(at);
         match self.rows.as_slice().get(self.passed) {

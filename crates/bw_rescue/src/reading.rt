@@ -7,7 +7,7 @@ use bw_file::{FolderFault, FolderReader};
 use bw_home::System;
 use bw_look::{Image, Watch, Work, folder_bytes};
 
-/// The lease again, where it is below the number of leases.
+/// The lease again, if it is below the number of leases.
 pub(crate) fn allowed(lease: u32, leases: u32) -> Result<u32, RescueFault> {
     if lease < leases {
         Ok(lease)
@@ -16,7 +16,7 @@ pub(crate) fn allowed(lease: u32, leases: u32) -> Result<u32, RescueFault> {
     }
 }
 
-/// The segments of a folder that is open, by their leases, of which there are so many. Refused where
+/// The segments of a folder that is open, by their leases, of which there are so many. Refused if
 /// the bytes of one do not fit their digests.
 fn images_of<R: System, W: Watch>(
     rt: &R,
@@ -92,7 +92,7 @@ pub(crate) fn source_of<R: System, W: Watch>(
 #[derive(Drop)]
 pub(crate) struct Seen {
     pub(crate) image: Image,
-    /// Where what was changed or lost begins, in bytes, and what is told of it.
+    /// Where what was changed or lost begins, in bytes, and what is said of it.
     pub(crate) hurt: Option<(u64, FolderFault)>,
 }
 

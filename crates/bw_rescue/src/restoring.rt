@@ -34,7 +34,7 @@ impl Log {
         Ok(log)
     }
 
-    /// What is told of the first segment that is damaged, if one is.
+    /// What is said of the first segment that is damaged, if one is.
     fn first_hurt(&self) -> Option<FolderFault> {
         for hurt in self.hurts.as_slice() {
             if let Some((_, fault)) = hurt {
@@ -63,7 +63,7 @@ fn greatest_page(survey: &Survey) -> u64 {
     greatest
 }
 
-/// Refuses a store that lacks a page: where the log had so many pages, a segment with its blocks was
+/// Refuses a store that lacks a page: if the log had so many pages, a segment with its blocks was
 /// given up since.
 fn with_pages(then: Judged, pages: u64) -> Result<Judged, RescueFault> {
     if u64::from(then.pages) < pages {
@@ -162,9 +162,9 @@ fn of_sound<W: Watch>(
     Ok(Restored { cut, then })
 }
 
-/// The log as of a frame where there is this fault. It is told unless it stands behind that frame: so
-/// the segments are cut first, and recovery has to find the frame in what is left. How many pages
-/// there were is asked of the frames that can be read.
+/// The log as of a frame if there is this fault. It is reported unless it stands after that frame:
+/// so the segments are cut first, and recovery has to find the frame in what is left. How many
+/// pages there were is asked of the frames that can be read.
 fn in_front_of<W: Watch>(
     alloc: Global,
     log: Log,
@@ -242,13 +242,13 @@ fn write_all<R: System>(rt: &R, path: &str, images: &[Image]) -> Result<(), Fold
     Ok(())
 }
 
-/// Makes a folder that holds a store as it was when this frame was its last; the folder may not have
-/// segments yet. It gets the times that are noted of its frames. There are so many leases. A fault of
-/// the log that stands behind the frame is no hindrance.
+/// Makes a folder that holds a store as it was when this frame was its last; the folder may not
+/// have segments yet. It gets the times that are noted of its frames. There are so many leases. A
+/// fault of the log that stands after the frame is no hindrance.
 ///
-/// `NoFrame` where the log has no such frame, or not yet; `GivenUp` where a segment with blocks of that
-/// frame's pages was given up since, and nothing else is at fault; `Recovery`, with the page that is
-/// missing, where that is so of a log with a fault; `Source` and `Recovery` for what stands against
+/// `NoFrame` if the log has no such frame, or not yet; `GivenUp` if a segment with blocks of that
+/// frame's pages was given up since, and nothing else is at fault; `Recovery`, with the page that
+/// is missing, if that is so of a log with a fault; `Source` and `Recovery` for what stands against
 /// the log up to the frame.
 pub fn restore<R: System, W: Watch>(
     rt: &R,

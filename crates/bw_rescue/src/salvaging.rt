@@ -87,8 +87,8 @@ impl Wreck {
         }
     }
 
-    /// The digests beside the file of a lease; none where there are none, or they are not read, which
-    /// is told.
+    /// The digests beside the file of a lease; none if there are none, or they are not read, which
+    /// is reported.
     fn sums_of<R: System>(
         &mut self,
         rt: &R,
@@ -134,7 +134,7 @@ impl Wreck {
         bytes
     }
 
-    /// The most pairs of a page, as the headers tell that can be read; else the program's own.
+    /// The most pairs of a page, as the headers say that can be read; else the program's own.
     fn m(&self) -> u16 {
         let mut most = 0;
         for held in self.held.as_slice() {
@@ -147,7 +147,7 @@ impl Wreck {
         }
     }
 
-    /// All whole frames, by their numbers. Where two have one number, the first one counts.
+    /// All whole frames, by their numbers. If two have one number, the first one counts.
     fn frames(&self, alloc: Global) -> Result<BTreeMap<u64, At>, AllocError> {
         let mut frames = BTreeMap::new(alloc);
         for (segment, held) in self.held.as_slice().iter().enumerate() {
@@ -203,7 +203,7 @@ struct Saved {
     m: u16,
 }
 
-/// The pages of a folder, as far as its frames are whole. Refused where there is none.
+/// The pages of a folder, as far as its frames are whole. Refused if there is none.
 fn read_saved<R: System, W: Watch>(
     rt: &R,
     path: &str,
@@ -226,13 +226,13 @@ fn read_saved<R: System, W: Watch>(
 /// Writes all that a folder still has into a new store, in a new folder; the other one is not
 /// changed. There are so many leases in the new one.
 ///
-/// Each page comes as of the last whole frame up to which none of its blocks is missing. So pages may
-/// be of different moments, and a group may be there in a part: where all of a moment is wanted,
-/// `restore` gives it, up to the first fault. Of each key the page with the greatest low that is not
-/// above it counts.
+/// Each page comes as of the last whole frame up to which none of its blocks is missing. So pages
+/// may be of different moments, and a group may be there in a part: if all of a moment is wanted,
+/// `restore` gives it, up to the first fault. Of each key the page with the greatest low that is
+/// not above it counts.
 ///
-/// Refused, and nothing is made: `Target` if the new folder is there already; `Source` if the
-/// other one cannot be listed, or is locked for writing; `Recovery`, `Empty`, where no page is left.
+/// Refused, and nothing is made: `Target` if the new folder is there already; `Source` if the other
+/// one cannot be listed, or is locked for writing; `Recovery`, `Empty`, if no page is left.
 pub fn salvage<R: System, W: Watch>(
     rt: &R,
     from: &str,

@@ -70,8 +70,8 @@ fn judge_again<W: Watch>(
 }
 
 impl Target {
-    /// A folder of this path, which nothing may have yet. The one in which it is made has `.partial`
-    /// behind its name, and may not be there either, but for what an earlier run left.
+    /// A folder of this path, which nothing may have yet. The one in which it is made has
+    /// `.partial` after its name, and may not be there either, but for what an earlier run left.
     pub(crate) fn of<R: System>(rt: &R, to: &str) -> Result<Target, RescueFault> {
         refuse_there(rt, to).map_err(RescueFault::of_target)?;
         let name = to.trim_end_matches('/');

@@ -160,13 +160,13 @@ fn verified_beside(stood: &Stood) -> Verified {
 }
 
 /// Verifies a folder, which is not changed: each file by its digests, and then frame by frame; and
-/// where none has a fault all of them by recovery. There are so many leases.
+/// if none has a fault, all of them by recovery. There are so many leases.
 ///
-/// Where somebody writes it, that is told of one of its frames, as `bw_beside::open` has it; a fault
-/// is not told then, but that it is in use.
+/// If somebody writes it, that is said of one of its frames, as `bw_beside::open` has it; a fault
+/// is not said then, but that it is in use.
 ///
-/// `Source` where the folder, or a file of it, cannot be read; `Recovery` where each file is whole
-/// and all of them are no store, as where one is missing.
+/// `Source` if the folder, or a file of it, cannot be read; `Recovery` if each file is whole and
+/// all of them are no store, as when one is missing.
 pub fn verify<R: System, W: Watch>(
     rt: &R,
     path: &str,

@@ -8,7 +8,7 @@ use Rattle.bw_ring.specs.declared.slots.Rest.{Rest}
 use Rattle.bw_ring.specs.Rings.{rest_of, leading, grouped}
 use Rattle.bw_ring.specs.Marks.{Marked, marked, joined}
 
--- more of both, where none before wants its others
+-- more of both, if none before wants its others
 pub grouped-more : (fs gs : List First) (rs ss : List Rest) → leading fs ≡ length rs → grouped (fs ++ gs) (rs ++ ss) ≡ grouped fs rs ++ grouped gs ss
 grouped-more [] gs [] ss e = refl
 grouped-more [] gs (r ∷ rs) ss e = absurd (omega arith)

@@ -33,7 +33,7 @@ impl Rest {
         })
     }
 
-    // The same records. No memory is taken.
+    // A copy of these records. No memory is taken.
     pub(crate) fn copy(&self) -> Rest
         ensures { result ≡ self.now }
     {

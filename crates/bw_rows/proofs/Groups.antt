@@ -25,7 +25,7 @@ is_of_not : (h : Head) (m : Bytes) → ((len : ℕ) → h ≡ Some (m, len) → 
 is_of_not None m other = refl
 is_of_not (Some head) m other = same_false m head.0 (λ e. other head.1 (ap (λ (x : Bytes). Some (x, head.1)) (sym e)))
 
--- whether a number is doomed behind a step
+-- whether a number is doomed after a step
 abbrev doomed_after : Head → Head → Bytes → Bool → Bool
 doomed_after next old m was = cond (is_of old m) true (cond (is_of next m) false was)
 
@@ -33,7 +33,7 @@ marked : (b : Bool) (v x : Option Bytes) → is_some (cond b v x) ≡ cond b (is
 marked true v x = refl
 marked false v x = refl
 
--- the two records on dooms, behind a map
+-- the two records on dooms, after a map
 dooms_by : (q : Plain) (next old : Head) → Plain
 dooms_by q None None = q
 dooms_by q (Some h) None = with q (doomed_key h.0) None
@@ -126,7 +126,7 @@ aside_steps p k row lawful whole =
     = steps_by p (with (with p (row_key k) row) (aside_key k) None) k row lawful whole (λ x. refl) (λ c. refl) (λ m. refl) in
     subst (λ (x : Plain). Steps p x k row) (sym (grouped_aside p k row (head_in row) (head_at p k))) its
 
--- ---- what the groups leave alone
+-- ---- what the groups leave as it is
 
 abbrev pub Kinds : Plain → Plain → Type 0
 Kinds p new = ((name : Bytes) → new (name_key name) ≡ p (name_key name)) × (new stands_key ≡ p stands_key) × ((t : Bytes) → new (gone_key t) ≡ p (gone_key t))

@@ -14,7 +14,7 @@ use Rattle.bw_rows.proofs.HeadLaws.{front_of}
 use Rattle.bw_rows.proofs.Records.{same_number_at, still_known, unread_homes, unread_is_lawful, unread_names, chunk_is_lawful, chunk_is_found, doom_is_lawful, end_is_lawful}
 use Rattle.bw_rows.proofs.Groups.{group_steps, group_others}
 
--- where no batch stands, the row counts
+-- if no batch stands, the row counts
 pub quiet_row : (p : Plain) (k : Bytes) → p stands_key ≡ None → counted p k ≡ p (row_key k)
 quiet_row p k quiet = ap (λ (o : Option Bytes). cond (is_some o) (over (p (aside_key k)) (p (row_key k))) (p (row_key k))) quiet
 
@@ -25,7 +25,7 @@ quiet_found p k quiet = ap (option_map (value_of p)) (quiet_row p k quiet)
 abbrev pub tables_by : (Bytes → Option Bytes) → (Bytes → Option Bytes) → Tables
 tables_by names at name = option_map (λ row key. at (row_place (table_in row) key)) (names name)
 
--- where names and what is found stay, the tables do
+-- if names and what is found stay, the tables do
 pub same_tables : (p new : Plain) → ((name : Bytes) → new (name_key name) ≡ p (name_key name)) → ((k : Bytes) → found new k ≡ found p k) → tables_of new ≡ tables_of p
 same_tables p new names at =
     ap (λ (f : Bytes → Option Bytes). tables_by f (found new)) (λ i name. names name i)
@@ -37,7 +37,7 @@ number_at : (p : Plain) (name t row : Bytes) → p (name_key name) ≡ Some row 
 number_at p name t row e h =
     ap (λ (o : Option Bytes). elim o as (λ _. Bytes) [ None ↦ table_in row | Some x ↦ x ]) (sym (ap (option_map table_in) e) ∙ h)
 
--- where one place changed, one key of one table did
+-- if one place changed, one key of one table did
 module _ (p : Plain) (at : Bytes → Option Bytes) (name t key : Bytes) (value : Option Bytes) (names : HasNames p) (its : HasNumber p name t) where
   abbrev at_place : Bytes → Option Bytes
   at_place k = cond (same k (row_place t key)) value (at k)

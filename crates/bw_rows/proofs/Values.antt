@@ -13,7 +13,7 @@ use Rattle.bw_rows.proofs.OneKey.{split, same_self, same_true, same_false}
 abbrev next_head : Option Bytes → Option (Bytes × ℕ)
 next_head row = option_and_then head_of row
 
--- the number and length of an option, where two options are one
+-- the number and length of an option, if two options are one
 pub same_number : (n m : Bytes) (c d : ℕ) → ◌≡◌ {A = Option (Bytes × ℕ)} (Some (n, c)) (Some (m, d)) → n ≡ m
 same_number n m c d e = ap (λ (o : Option (Bytes × ℕ)). elim o as (λ _. Bytes) [ None ↦ n | Some h ↦ h.0 ]) e
 
@@ -36,7 +36,7 @@ by_number o m its other =
 
 -- ---- chunks
 
--- where no chunk changes, no value does
+-- if no chunk changes, no value does
 pub same_value : (p new : Plain) → ((c : Bytes) → new (chunk_key c) ≡ p (chunk_key c)) → (row : Bytes) → value_of new row ≡ value_of p row
 same_value p new chunks row =
     elim (head_of row) as (λ h. value_by new row h ≡ value_by p row h) [

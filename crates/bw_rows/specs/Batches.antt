@@ -105,7 +105,8 @@ pub record ABatchIsGathered : Type 0 where
 abbrev pub AsideIsSilent : Type 0
 AsideIsSilent = (tables : Tables) (p : Plain) (k : Bytes) (row : Option Bytes) → IsTables tables p → IsTables tables (with p (aside_key k) row)
 
--- the batch stands, behind all its rows and their chunks: each of its changes is made, and nothing else
+-- the batch stands, after all its rows and their chunks: each of its changes is made, and nothing
+-- else
 abbrev pub MarkIsTheStep : Type 0
 MarkIsTheStep = (tables : Tables) (p : Plain) → IsTables tables p → HasAsides p → IsStanding (batched p) (with p stands_key (Some []))
 
@@ -114,7 +115,7 @@ abbrev pub CarryIsSilent : Type 0
 CarryIsSilent = (tables : Tables) (p : Plain) (k aside : Bytes) → IsStanding tables p → p (aside_key k) ≡ Some aside
     → IsStanding tables (after p (carry_of k (over (Some aside) None) (head_at p k)))
 
--- behind the last of them the batch stands no more: the tables stay
+-- after the last of them the batch stands no more: the tables stay
 abbrev pub EndIsSilent : Type 0
 EndIsSilent = (tables : Tables) (p : Plain) → IsStanding tables p → ((k : Bytes) → p (aside_key k) ≡ None) → IsTables tables (with p stands_key None)
 

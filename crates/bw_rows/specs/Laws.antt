@@ -63,7 +63,7 @@ ChunkIsLawful = (tables : Tables) (p : Plain) (n : Bytes) (i : ℕ) (chunk : Opt
 abbrev pub FreeIsLawful : Type 0
 FreeIsLawful = (tables : Tables) (p : Plain) (n : Bytes) (mark : Option Bytes) → IsTables tables p → IsTables tables (with p (free_key n) mark)
 
--- behind its last chunk a number is doomed no more: the tables stay
+-- after its last chunk a number is doomed no more: the tables stay
 abbrev pub EndIsLawful : Type 0
 EndIsLawful = (tables : Tables) (p : Plain) (n : Bytes) → IsTables tables p → HasNoChunk p n → IsTables tables (with p (doomed_key n) None)
 
@@ -74,7 +74,8 @@ abbrev pub ShortIsTheStep : Type 0
 ShortIsTheStep = (tables : Tables) (p : Plain) (name t key : Bytes) (row : Option Bytes) → IsTables tables p → HasNumber p name t → head_in row ≡ None
     → IsTables (with_value tables name key (option_map (value_of p) row)) (after p (step_of (row_place t key) row (head_at p (row_place t key))))
 
--- a row that names chunks is written, behind all of them: one key has them, and all others have theirs
+-- a row that names chunks is written, after all of them: one key has them, and all others have
+-- theirs
 abbrev pub HeadIsTheStep : Type 0
 HeadIsTheStep = (tables : Tables) (p : Plain) (name t key row n : Bytes) (len : ℕ) → IsTables tables p → HasNumber p name t
     → head_in (Some row) ≡ Some (n, len) → 0 < chunks_in len → is_doomed p n ≡ true → HasChunks p n (chunks_in len)

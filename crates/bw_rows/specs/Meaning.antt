@@ -45,7 +45,7 @@ abbrev pub over : Option Bytes → Option Bytes → Option Bytes
 over None row = row
 over (Some aside) row = cond (same aside no_row) None (Some aside)
 
--- the row that counts: where a batch stands, the one aside
+-- the row that counts: if a batch stands, the one aside
 abbrev pub counted : Plain → Bytes → Option Bytes
 counted p place = cond (is_some (p stands_key)) (over (p (aside_key place)) (p (row_key place))) (p (row_key place))
 

@@ -82,7 +82,7 @@ head_row n len = 1 ∷ (n ++ eight len)
 abbrev pub no_row : Bytes
 no_row = 2 ∷ []
 
--- the number and the length that a row names; none, where it is the value itself
+-- the number and the length that a row names; none, if it is the value itself
 abbrev pub head_of : Bytes → Option (Bytes × ℕ)
 head_of [] = None
 head_of (kind ∷ rest) = cond (nat_eq kind 1 && nat_eq (length rest) 16) (Some (take 8 rest, number_in (drop 8 rest))) None

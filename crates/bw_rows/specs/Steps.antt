@@ -44,11 +44,12 @@ dooms (Some head) = Put (doomed_key head.0) [] ∷ []
 abbrev pub row_group : Bytes → Option Bytes → Option (Bytes × ℕ) → Option (Bytes × ℕ) → List Record
 row_group place row next old = row_change place row ∷ (spared next ++ dooms old)
 
--- the same, and the row aside goes away
+-- the records of a row that stood aside: it changes, the row aside goes away, the next number is
+-- spared, the old one is doomed
 abbrev pub aside_group : Bytes → Option Bytes → Option (Bytes × ℕ) → Option (Bytes × ℕ) → List Record
 aside_group place row next old = row_change place row ∷ Del (aside_key place) ∷ (spared next ++ dooms old)
 
--- the group that makes a step, where the row before it named this
+-- the group that makes a step, if the row before it named this
 abbrev pub step_of : Bytes → Option Bytes → Option (Bytes × ℕ) → List Record
 step_of place row old = row_group place row (head_in row) old
 

@@ -26,7 +26,7 @@ const CHUNK: u8 = 7;
 
 const ROW: u8 = 8;
 
-// The key of a kind, and of what stands behind it in two parts.
+// The key of a kind, and of what stands after it in two parts.
 fn spelled(kind: u8, front: &[u8], back: &[u8]) -> Key
     requires { length front.now + length back.now < 128 }
     ensures { result ≡ kind ∷ (front.now ++ back.now) }
@@ -107,7 +107,7 @@ pub fn row_key(table: TableNumber, key: &RowKey) -> Key
     spelled(ROW, &table.bytes, key.as_slice())
 }
 
-/// The number of a row's table, and its own key; `None` where this is the key of no row.
+/// The number of a row's table, and its own key; `None` if this is the key of no row.
 pub fn read_row_key(bytes: &[u8]) -> Option<(TableNumber, &[u8])>
     ensures { MatchOption result (spelled.row_of bytes.now ≡ None)
         (λ row. spelled.row_of bytes.now ≡ Some (row.0.bytes, row.1.now)) }

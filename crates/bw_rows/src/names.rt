@@ -27,7 +27,7 @@ impl Model for Name {
 }
 
 impl Name {
-    /// A name of these bytes, or their length where it is no name's.
+    /// A name of these bytes, or their length if it is no name's.
     pub fn new(bytes: &[u8]) -> Result<Name, LengthError>
         ensures variant { IsOk result ↔ ((1 ≤ length bytes.now) × (length bytes.now ≤ 127)) }
         ensures ok { IfOk result (λ name. name ≡ bytes.now) }
@@ -72,7 +72,7 @@ impl Model for RowKey {
 }
 
 impl RowKey {
-    /// A key of these bytes, or their length where it is no key's.
+    /// A key of these bytes, or their length if it is no key's.
     pub fn new(bytes: &[u8]) -> Result<RowKey, LengthError>
         ensures variant { IsOk result ↔ ((1 ≤ length bytes.now) × (length bytes.now ≤ 124)) }
         ensures ok { IfOk result (λ key. key ≡ bytes.now) }

@@ -22,7 +22,7 @@ pub struct Head {
     pub len: u64,
 }
 
-// The row of a kind, and of what stands behind it in two parts.
+// The row of a kind, and of what stands after it in two parts.
 fn spelled(kind: u8, front: &[u8], back: &[u8]) -> Value
     requires { length front.now + length back.now < 512 }
     ensures { result ≡ kind ∷ (front.now ++ back.now) }
@@ -72,7 +72,7 @@ impl Head {
         spelled(HEAD, &self.number.bytes, &Number::of(self.len).bytes)
     }
 
-    /// What a row names; `None` where it is the value itself.
+    /// What a row names; `None` if it is the value itself.
     pub fn read(row: &[u8]) -> Option<Head>
         ensures { MatchOption result (head_of row.now ≡ None)
             (λ head. head_of row.now ≡ Some (head.number.bytes, head.len)) }

@@ -1,4 +1,5 @@
--- The machine values of the crate's structs: what is owned tells them, and is made of nothing. Assumes `Logic`.
+-- The machine values of the crate's structs: what is owned says them, and is made of nothing.
+-- Assumes `Logic`.
 use Rattle.std.proofs.Common.{◌≡◌, ℕ, ◌^◌, ◌<◌, List, [], ◌∷◌, ◌++◌, refl, ◌∙◌, w64}
 use seplogic.Ra.Ura.{Ura}
 use mir.Syntax.{Ty, Sym, ty_int, ty_ptr, ty_struct, tcons, tnil}
@@ -16,7 +17,7 @@ use Rattle.std_heap.proofs.Global.TheLaws as laws
 use Rattle.std_heap.proofs.Handle.{heap_val, heap_Tells}
 use Rattle.std_heap.specs.contracts.Global as heap
 
--- a struct by its fields alone: what it owns does not read its name
+-- a struct only by its fields: what it owns does not read its name
 abbrev pub plainly : List RattleType → RattleType
 plainly Rs = Struct (record { name = []; args = []; types = []; fields = Rs })
 

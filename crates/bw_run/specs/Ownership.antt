@@ -1,4 +1,5 @@
--- The block of a run: a count, the length, and the bytes behind them. Its owners share it by count, as those of an `Arc` do.
+-- The block of a run: a count, the length, and the bytes after them. Its owners share it by count,
+-- as those of an `Arc` do.
 use Rattle.core.specs.Prelude.{ℕ, ◌+◌, ◌^◌, List, [], ◌∷◌, length}
 use Rattle.core.specs.Thread.Scope.{refcount_invariant}
 use mir.Syntax.{Ty, w8, w16, w64, ty_int, ty_array, ty_struct, tcons, tnil}

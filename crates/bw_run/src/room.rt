@@ -9,7 +9,7 @@ use core::slots::Slots;
 use std::alloc::{AllocError, Allocator, Global};
 use std::marker::Model;
 
-// How a block begins. The bytes lie right behind the length, at 10, where this type has padding.
+// How a block begins. The bytes lie right after the length, at 10, where this type has padding.
 pub(crate) struct Head {
     pub(crate) count: u64,
     pub(crate) len: u16,
@@ -25,7 +25,7 @@ impl Model for Room {
     ghost also_owns = { λ r. room_owns r.ptr r.len };
 }
 
-// The same without the room for the bytes.
+// A block with room for a count and a length, without the room for the bytes.
 pub(crate) struct Front {
     pub(crate) ptr: *mut Head,
     pub(crate) len: usize,

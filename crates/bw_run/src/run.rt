@@ -27,8 +27,8 @@ impl Model for Run {
 }
 
 impl Run {
-    /// A run of this byte and, behind it, of the bytes of both. It takes memory, whose refusal is the
-    /// only error but for a run of more than 65,535 bytes.
+    /// A run of this byte and, after it, of the bytes of both. It takes memory, whose refusal is
+    /// the only error but for a run of more than 65,535 bytes.
     pub fn of_parts(alloc: Global, head: u8, first: &[u8], second: &[u8]) -> Result<Run, AllocError>
         ensures { IfOk result (λ run. run.bytes ≡ head ∷ first.now ++ second.now) }
     {
@@ -50,8 +50,8 @@ impl Run {
         unsafe { slice::from_raw_parts((ptr as *const u8).add(10), (*ptr).len as usize) }
     }
 
-    /// One more owner of the same bytes. No memory is taken; it is refused alone where the count of
-    /// the owners is full.
+    /// One more owner of the same bytes. No memory is taken; it is refused only if the count of the
+    /// owners is full.
     pub fn share(&self) -> Result<Run, AllocError>
         ensures { IfOk result (λ run. run.bytes ≡ self.now.bytes) }
     {
@@ -78,8 +78,8 @@ impl Run {
         self.alloc
     }
 
-    // The last owner gets the block. No clause tells that it does: where it did not, memory would
-    // grow, which tests/program/steady.py asks of the program.
+    // The last owner gets the block. No clause says that it does: if it did not, memory would grow,
+    // which tests/program/steady.py asks of the program.
     fn release(self) -> Option<Room>
         ensures { IfSome result (λ room. room.len < 2 ^ 16) }
     {

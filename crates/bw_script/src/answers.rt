@@ -59,7 +59,7 @@ pub enum Answer {
     Rolled,
     /// The bytes of a segment.
     Dump(Vec<u8>),
-    /// A spare was made. It is told of once it was added.
+    /// A spare was made. It is reported once it was added.
     Spare,
     /// What a new folder holds.
     Copied(Copied),
@@ -71,7 +71,7 @@ pub enum Answer {
     History,
     Cuts,
     Segments,
-    /// With what is told of the store beside what it says itself.
+    /// With what is said of the store beside what it says itself.
     Stats(Standing),
     /// What a call on tables comes to.
     Tables(TableAnswer),
@@ -172,7 +172,7 @@ fn write_of_key<O: Write>(out: &mut Printer<'_, O>, answer: &Answer) {
     }
 }
 
-/// The history, behind a line that says how much of it left memory, where some did.
+/// The history, after a line that says how much of it left memory, if some did.
 fn write_history<O: Write>(out: &mut Printer<'_, O>, forgotten: u64, entries: &[PackedEntry]) {
     if forgotten > 0 {
         out.line("forgotten ", forgotten);

@@ -16,7 +16,7 @@ use std::alloc::{AllocError, Global};
 use std::str;
 
 /// Whether the group found a place in its writer's queue, before which the store takes all that
-/// waits where that is full.
+/// waits if that is full.
 pub fn put_taking(home: &mut Home, writer: usize, group: Group) -> Result<Answer, Miss>
     requires { IsReady home.old holding }
     ensures { IsReady home.new holding }
@@ -75,7 +75,7 @@ fn page(home: &mut Home, page: u32) -> Result<Answer, Miss>
     Ok(Answer::Page(home.store.page(page)?))
 }
 
-/// Whether the page left memory; it stays where it is evicted, or where no frame has all of it.
+/// Whether the page left memory; it stays if it is evicted, or if no frame has all of it.
 fn evict(home: &mut Home, page: u32) -> Result<Answer, Miss>
     requires { IsReady home.old holding }
     ensures { IsReady home.new holding }
@@ -110,7 +110,7 @@ fn roll(home: &mut Home) -> Answer
     Answer::Rolled
 }
 
-/// The bytes of a live segment. It is a fault where none has the number.
+/// The bytes of a live segment. It is a fault if none has the number.
 fn dump(alloc: Global, home: &mut Home, segment: u32) -> Result<Answer, Miss>
     requires { IsReady home.old holding }
     ensures { IsReady home.new holding }
@@ -180,7 +180,7 @@ fn not_copied(folder: Result<String, AllocError>, fault: FolderFault) -> Result<
     Ok(Answer::NotCopied(folder?, fault))
 }
 
-/// Copies the store into a new folder, once all that waits was taken and flushed. Where the folder
+/// Copies the store into a new folder, once all that waits was taken and flushed. If the folder
 /// cannot be made, that is an answer.
 fn backup<R: System>(rt: &R, home: &mut Home, to: &Value) -> Result<Answer, Miss>
     requires { IsReady home.old holding }
@@ -230,8 +230,8 @@ pub fn call<R: System>(rt: &R, home: &mut Home, command: Command) -> Result<Answ
     }
 }
 
-/// Lets go of the history as far as readers have it, behind what made some of it durable: a
-/// program that is served asks for pairs and pages, and never for the history.
+/// Lets go of the history as far as readers have it, after what made some of it durable: a program
+/// that is served asks for pairs and pages, and never for the history.
 fn forget_behind(home: &mut Home, answer: &Answer)
     requires { IsReady home.old holding }
     ensures { IsReady home.new holding }
@@ -257,7 +257,7 @@ pub fn live_bytes(home: &Home) -> u64
     bytes
 }
 
-/// Gives up the oldest segment, and tells what that won.
+/// Gives up the oldest segment, and says what that won.
 fn clean_served<R: System>(rt: &R, home: &mut Home) -> Result<Answer, Miss>
     requires { IsReady home.old holding }
     ensures { IsReady home.new holding }
@@ -268,7 +268,7 @@ fn clean_served<R: System>(rt: &R, home: &mut Home) -> Result<Answer, Miss>
     Ok(Answer::Won(cleaned, won))
 }
 
-/// Does what a command asks for; a cleaning tells what it won.
+/// Does what a command asks for; a cleaning says what it won.
 fn call_winning<R: System>(rt: &R, home: &mut Home, command: Command) -> Result<Answer, Miss>
     requires { IsReady home.old holding }
     ensures { IsReady home.new holding }
@@ -307,7 +307,7 @@ fn number_in(value: &[u8]) -> Option<i64> {
     }
 }
 
-/// The number at a key once so much is added to it; `None` where it has no number, or the sum is none.
+/// The number at a key once so much is added to it; `None` if it has no number, or the sum is none.
 fn sum_at(home: &mut Home, key: &Key, added: i64) -> Result<Option<i64>, Miss>
     requires { IsReady home.old holding }
     ensures { IsReady home.new holding }

@@ -1,4 +1,4 @@
-//! What an operator is told of a store that is served: its numbers, and what happens to it.
+//! What an operator hears of a store that is served: its numbers, and what happens to it.
 
 ghost use Rattle.bw_home.specs.Ready.{IsReady};
 
@@ -28,7 +28,7 @@ impl Tally {
     };
 }
 
-/// What is told of a store beside what it says itself.
+/// What is said of a store beside what it says itself.
 #[derive(Debug, Clone, Copy)]
 pub struct Standing {
     /// Whether an append failed, so that no other goes.
@@ -86,7 +86,7 @@ pub fn numbers_of(home: &Home, standing: Standing) -> [(&'static str, u64); 17]
     ]
 }
 
-/// Tells an event with all numbers of a store.
+/// Writes an event with all numbers of a store.
 pub fn tell_numbers<W: Watch>(watch: &mut W, name: &'static str, home: &Home, standing: Standing)
     requires { IsReady home.now holding }
 {
@@ -97,7 +97,7 @@ pub fn tell_numbers<W: Watch>(watch: &mut W, name: &'static str, home: &Home, st
     });
 }
 
-/// Tells that the oldest segment was given up.
+/// Writes that the oldest segment was given up.
 pub fn tell_cleaned<W: Watch>(watch: &mut W, home: &Home, cleaned: Cleaned)
     requires { IsReady home.now holding }
 {
@@ -115,7 +115,7 @@ pub fn tell_cleaned<W: Watch>(watch: &mut W, home: &Home, cleaned: Cleaned)
     });
 }
 
-/// Tells that a segment was added.
+/// Writes that a segment was added.
 pub fn tell_segment<W: Watch>(watch: &mut W, home: &Home, most: u32)
     requires { IsReady home.now holding }
 {
@@ -130,7 +130,7 @@ pub fn tell_segment<W: Watch>(watch: &mut W, home: &Home, most: u32)
     });
 }
 
-/// Tells that the request of a line was refused, and how many were so far.
+/// Writes that the request of a line was refused, and how many were so far.
 pub fn tell_refused<W: Watch>(watch: &mut W, refusal: Refusal, line: u64, refused: u64) {
     let numbers = [
         ("error", refusal.number()),
@@ -143,7 +143,7 @@ pub fn tell_refused<W: Watch>(watch: &mut W, refusal: Refusal, line: u64, refuse
     });
 }
 
-/// Tells that a store was opened once more, and how many records are gone.
+/// Writes that a store was opened once more, and how many records are gone.
 pub fn tell_reopened<W: Watch>(watch: &mut W, frame: u64, lost: u64) {
     watch.happened(&Event {
         name: "reopened",

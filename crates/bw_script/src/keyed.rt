@@ -1,6 +1,6 @@
 //! `bwlog put`, `get`, `del`, `list`, `count`, `import`, `export` and `tables`: what `bw_keys` does
-//! with the keys of a folder, and `bw_named` with its tables. Here is what is told of it, all but the
-//! pairs on standard error, and the exit status.
+//! with the keys of a folder, and `bw_named` with its tables. Here is what is said of it, all but
+//! the pairs on standard error, and the exit status.
 
 use bw_core::StoreFault;
 use bw_device::MAX_LEASES;
@@ -263,8 +263,8 @@ fn tell_files<R: Host, E: Write>(
     }
 }
 
-/// Does a task, and tells on standard error how far it is. Where standard output is shown on a
-/// terminal, no more is told of a listing.
+/// Does a task, and says on standard error how far it is. If standard output is shown on a
+/// terminal, no more is said of a listing.
 fn performed<R: Host, I: Read, O: Write, E: Write + IsTerminal>(
     rt: &R,
     dir: &str,
@@ -280,7 +280,7 @@ fn performed<R: Host, I: Read, O: Write, E: Write + IsTerminal>(
     end
 }
 
-/// Does a task over tables, and tells the same of it.
+/// Does a task over tables, and says on standard error how far it is.
 fn performed_named<R: Host, I: Read, O: Write, E: Write + IsTerminal>(
     rt: &R,
     dir: &str,
@@ -318,9 +318,9 @@ fn finished<R: Host, O: Write, E: Write>(
     }
 }
 
-/// Does a task over the keys of a folder, and answers the exit status: 0, also where nobody reads
-/// the output any more; 1 where a key has no value; 2 where a word is no key or value; 3 at a line
-/// that is no pair; 4, 5 and 6 as of `run`. The outputs are flushed before it answers.
+/// Does a task over the keys of a folder, and answers the exit status: 0, also if nobody reads the
+/// output any more; 1 if a key has no value; 2 if a word is no key or value; 3 at a line that is no
+/// pair; 4, 5 and 6 as of `run`. The outputs are flushed before it answers.
 pub fn keys<R: Host, I: Read, O: Write, E: Write + IsTerminal>(
     rt: &R,
     dir: &str,

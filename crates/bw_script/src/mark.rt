@@ -17,7 +17,7 @@ pub enum Kind {
     /// No pair.
     Empty,
     /// Tables: their mark, and no pair that is none of theirs as far as the first and the last one
-    /// tell.
+    /// show.
     Tables,
     /// Pairs of its own.
     Plain,

@@ -14,7 +14,7 @@ use bw_writers::threads;
 use clap::Error;
 use std::io::{ErrorKind, IsTerminal, Read, Write};
 
-/// Does what the command line asks for, and tells how far that is.
+/// Does what the command line asks for, and says how far that is.
 fn go<R: Host, I: Read, O: Write, W: Watch>(
     rt: &R,
     mode: &Mode<'_>,
@@ -114,7 +114,7 @@ struct Folders<'a> {
 }
 
 impl<'a> Folders<'a> {
-    /// Those of a mode. Where it has none, none is told.
+    /// Those of a mode. If it has none, none is named.
     fn of(mode: &Mode<'a>) -> Folders<'a> {
         Folders {
             dir: mode.dir().unwrap_or(""),
@@ -231,7 +231,7 @@ fn tell_not_noted<E: Write>(
     }
 }
 
-/// What to do where the log had no room. A mode tells it whose lines can make some.
+/// What to do if the log had no room. A mode says it whose lines can make some.
 fn advice_of(mode: &Mode<'_>) -> Option<&'static [u8]> {
     match mode {
         Mode::Lines(_, manner) if manner.is_served() || manner.is_shell() => None,
@@ -249,7 +249,7 @@ fn advice_of(mode: &Mode<'_>) -> Option<&'static [u8]> {
     }
 }
 
-/// Says what to do where the log had no room, behind what was printed.
+/// Says what to do if the log had no room, after what was printed.
 fn hint<O: Write, E: Write>(output: &mut O, errors: &mut E, advice: &[u8]) -> Result<(), Stop> {
     if output.flush().is_err() {
         return Err(Stop::Output);
@@ -260,7 +260,7 @@ fn hint<O: Write, E: Write>(output: &mut O, errors: &mut E, advice: &[u8]) -> Re
     Ok(())
 }
 
-/// The exit status of a run that came to its end, where it says what to do in a full log.
+/// The exit status of a run that came to its end, if it says what to do in a full log.
 fn status_of_end<O: Write, E: Write>(
     met: Met,
     advice: Option<&[u8]>,
@@ -356,13 +356,13 @@ fn tell_typed<E: Write>(errors: &mut E, manner: Option<Manner>) -> Result<(), St
     Ok(())
 }
 
-/// Runs the program on the words after its name, and answers its exit status: 0; 1 where `get` finds
-/// no value; 2 where the words are no command line; 3 at a fault of the script; 4 where something
-/// was refused, a writer gave up, or a file of the folder is damaged; 5 at once where a growth was
-/// refused; 6 where a read or a write failed; 7 where `verify` found no fault, and bytes without a
-/// digest. The outputs are flushed before it answers. Where the
-/// errors go to a terminal, it tells there how far long work is; of a listing only where the output
-/// is not shown on one. Where the input is typed on a terminal, a mode that reads it says so before.
+/// Runs the program on the words after its name, and answers its exit status: 0; 1 if `get` finds
+/// no value; 2 if the words are no command line; 3 at a fault of the script; 4 if something was
+/// refused, a writer gave up, or a file of the folder is damaged; 5 at once if a growth was
+/// refused; 6 if a read or a write failed; 7 if `verify` found no fault, and bytes without a
+/// digest. The outputs are flushed before it answers. If the errors go to a terminal, it shows
+/// there how far long work is; of a listing only if the output is not shown on one. If the input is
+/// typed on a terminal, a mode that reads it says so before.
 pub fn run<R: Host, I: Read, O: Write, E: Write + IsTerminal>(
     rt: &R,
     words: &[&str],

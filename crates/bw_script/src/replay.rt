@@ -57,12 +57,12 @@ enum Done {
     Add,
     /// The folder is to be opened once more.
     Reopen,
-    /// A spare was made, of which no line tells: the line is answered, or is asked again then.
+    /// A spare was made, of which no line speaks: the line is answered, or is asked again then.
     Room,
 }
 
-/// What comes of room that is made behind an answer, or is not. The line is answered already, so a
-/// spare that cannot be made is none: `stats` tells it. A refused growth ends the run.
+/// What comes of room that is made after an answer, or is not. The line is answered already, so a
+/// spare that cannot be made is none: `stats` shows it. A refused growth ends the run.
 fn done_of_room(room: Result<bool, Miss>) -> Result<Done, Miss> {
     match room {
         Ok(true) => Ok(Done::Room),
@@ -136,7 +136,7 @@ struct Ended {
     accepted: u64,
     /// How many of them are durable.
     durable: u64,
-    /// How many are where the frame of a failed append is found whole.
+    /// How many there are if the frame of a failed append is found whole.
     sealed: u64,
     /// The number of that frame.
     next: u64,
@@ -156,7 +156,7 @@ impl Ended {
         }
     }
 
-    /// How many records are gone, where this frame is the last that was found.
+    /// How many records are gone, if this frame is the last that was found.
     fn lost(self, last: u64) -> u64 {
         let kept = if last >= self.next {
             self.sealed
@@ -204,7 +204,7 @@ struct Script<'a, I, O, W> {
     tending: Tending,
     /// Whether the store stands in a folder.
     in_folder: bool,
-    /// Whether it was told that there are nearly as many segments as there may be.
+    /// Whether it was said that there are nearly as many segments as there may be.
     has_warned: bool,
     /// What the store before this one had.
     ended: Option<Ended>,
@@ -383,7 +383,7 @@ impl<I: Read + Drop, O: Write, W: Watch> Script<'_, I, O, W> {
         }
     }
 
-    /// Writes out what was printed, where the answer is a receipt.
+    /// Writes out what was printed, if the answer is a receipt.
     fn write_receipt(&mut self) -> Result<(), Stop> {
         if self.is_receipt {
             write_out(self.output)
@@ -412,7 +412,7 @@ impl<I: Read + Drop, O: Write, W: Watch> Script<'_, I, O, W> {
     }
 
     /// Does what a command asks for, but that a spare is only made. The file of what was given up
-    /// is emptied behind its line, before the next segment can be given up.
+    /// is emptied after its line, before the next segment can be given up.
     fn do_command<R: System>(
         &mut self,
         rt: &R,
@@ -443,8 +443,8 @@ impl<I: Read + Drop, O: Write, W: Watch> Script<'_, I, O, W> {
         Ok(Done::Add)
     }
 
-    /// Does what a request asks for, and makes room behind it where one spare is left. A spare is
-    /// only made.
+    /// Does what a request asks for, and makes room after it if one spare is left. A spare is only
+    /// made.
     fn do_request<R: System>(
         &mut self,
         rt: &R,
@@ -475,7 +475,7 @@ impl<I: Read + Drop, O: Write, W: Watch> Script<'_, I, O, W> {
         done_of_room(home.make_spare(rt).map(|()| true).map_err(Miss::from))
     }
 
-    /// Puts some pairs, and makes room behind them where one spare is left. A spare is only made.
+    /// Puts some pairs, and makes room after them if one spare is left. A spare is only made.
     fn do_puts<R: System>(
         &mut self,
         rt: &R,
@@ -587,7 +587,7 @@ impl<I: Read + Drop, O: Write, W: Watch> Script<'_, I, O, W> {
         Ok(Done::Answered)
     }
 
-    /// Ends a shell. Behind a prompt that has no line a line is ended.
+    /// Ends a shell. After a prompt that has no line a line is ended.
     fn do_over(&mut self) -> Result<Done, Miss> {
         if self.manner == Manner::Prompted && !self.shell.is_over() {
             tell_text(self.output, "\n")?;
@@ -650,7 +650,7 @@ impl<I: Read + Drop, O: Write, W: Watch> Script<'_, I, O, W> {
         }
     }
 
-    /// Counts a refusal, and tells an operator of it.
+    /// Counts a refusal, and reports it to an operator.
     fn count_refusal(&mut self, refusal: Refusal) {
         let tally = &mut self.tending.tally;
         tally.refused = tally.refused.saturating_add(1);
@@ -737,7 +737,7 @@ impl<I: Read + Drop, O: Write, W: Watch> Script<'_, I, O, W> {
         }
     }
 
-    /// Tells that a store is there.
+    /// Says that a store is there.
     fn begin(&mut self, home: &Home)
         requires { IsReady home.now holding }
     {
@@ -750,8 +750,8 @@ impl<I: Read + Drop, O: Write, W: Watch> Script<'_, I, O, W> {
         }
     }
 
-    /// Tells what came of a spare that was made, where it is told. A request that is asked again for
-    /// room that was not added would be so for ever.
+    /// Says what came of a spare that was made, if that is wanted. A request that is asked again
+    /// for room that was not added would be so for ever.
     fn tell_spare(&mut self, home: &Home, added: Added)
         requires { IsReady home.now holding }
     {
@@ -771,7 +771,7 @@ impl<I: Read + Drop, O: Write, W: Watch> Script<'_, I, O, W> {
         }
     }
 
-    /// Tells of a segment that was added to make room for a script. A program that is served asks
+    /// Reports a segment that was added to make room for a script. A program that is served asks
     /// `stats` for that, and an operator hears it as an event.
     fn tell_further(&mut self, home: &Home)
         requires { IsReady home.now holding }
@@ -788,7 +788,7 @@ impl<I: Read + Drop, O: Write, W: Watch> Script<'_, I, O, W> {
         }
     }
 
-    /// Tells an operator of a cleaning that made room.
+    /// Reports a cleaning to an operator that made room.
     fn tell_cleaning(&mut self, home: &Home)
         requires { IsReady home.now holding }
     {
@@ -797,7 +797,7 @@ impl<I: Read + Drop, O: Write, W: Watch> Script<'_, I, O, W> {
         }
     }
 
-    /// Warns once, where a store is served or typed to, that it uses nearly as many segments as it may
+    /// Warns once, if a store is served or typed to, that it uses nearly as many segments as it may
     /// have.
     fn warn(&mut self, home: &Home)
         requires { IsReady home.now holding }
@@ -810,7 +810,7 @@ impl<I: Read + Drop, O: Write, W: Watch> Script<'_, I, O, W> {
         }
     }
 
-    /// Tells what is due behind a line: its frame's time, a warning, and the numbers of the store.
+    /// Says what is due after a line: its frame's time, a warning, and the numbers of the store.
     fn tell_due(&mut self, home: &Home)
         requires { IsReady home.now holding }
     {
@@ -821,7 +821,7 @@ impl<I: Read + Drop, O: Write, W: Watch> Script<'_, I, O, W> {
         }
     }
 
-    /// Tells that a store ends, or is to be opened once more.
+    /// Says that a store ends, or is to be opened once more.
     fn tell_end(&mut self, home: &Home)
         requires { IsReady home.now holding }
     {
@@ -903,7 +903,7 @@ impl<R: System, I: Read + Drop, O: Write, W: Watch> Legs<R> for Script<'_, I, O,
     }
 }
 
-/// How many bytes the folder of a run has, where it has one and somebody is told of it.
+/// How many bytes the folder of a run has, if it has one and somebody hears of it.
 fn held_in<R: System, W: Watch>(rt: &R, options: &Options<'_>, watch: &W) -> u64 {
     match options.dir {
         Some(dir) => folder_bytes(rt, dir, MAX_LEASES, watch),

@@ -131,7 +131,7 @@ impl Shell {
         }
     }
 
-    /// Prints pairs, as far as a listing goes that these are a part of, and goes on behind them.
+    /// Prints pairs, as far as a listing goes that these are a part of, and goes on after them.
     fn tell_pairs<O: Write>(&mut self, output: &mut O, pairs: &[Pair]) -> io::Result<()> {
         let walk = self.walk.take();
         let prefix = match &walk {
@@ -180,7 +180,7 @@ impl Shell {
     }
 }
 
-/// How a listing goes on behind these pairs: not, where there were fewer than were asked for.
+/// How a listing goes on after these pairs: not, if there were fewer than were asked for.
 fn next_walk(walk: Option<Walk>, pairs: &[Pair]) -> Option<Walk> {
     let walk = walk?;
     if pairs.len() < PART as usize {

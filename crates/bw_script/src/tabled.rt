@@ -131,7 +131,7 @@ impl Tending {
         }
     }
 
-    /// Whether there is room for a call, as far as that is told without a look at the store.
+    /// Whether there is room for a call, as far as that is known without a look at the store.
     fn has_quick_room(&mut self, home: &Home, call: &TableCall) -> bool
         requires { IsReady home.now holding }
     {

@@ -1,7 +1,7 @@
-//! A store that is served, or over which a script with `--most-segments` runs, makes room by itself,
-//! as `bw_keys` does it. A spare that was made is added before the next leg, and the line that wants
-//! it is asked again then. Where no room can be made, a store that is served refuses puts while
-//! deletes, flushes and a cleaning still find room.
+//! A store that is served, or over which a script with `--most-segments` runs, makes room by
+//! itself, as `bw_keys` does it. A spare that was made is added before the next leg, and the line
+//! that wants it is asked again then. If no room can be made, a store that is served refuses puts
+//! while deletes, flushes and a cleaning still find room.
 
 ghost use Rattle.bw_home.specs.Ready.{IsReady};
 
@@ -86,12 +86,12 @@ impl Tending {
         }
     }
 
-    /// Whether an append failed, behind which no other goes.
+    /// Whether an append failed, after which no other goes.
     pub fn has_failed(&self) -> bool {
         self.has_failed
     }
 
-    /// What is told of the store beside what it says itself.
+    /// What is said of the store beside what it says itself.
     pub fn standing(&self) -> Standing {
         Standing {
             has_failed: self.has_failed,
@@ -100,7 +100,7 @@ impl Tending {
         }
     }
 
-    /// Makes room where a segment was begun since the spares were looked at last, or a cleaning left
+    /// Makes room if a segment was begun since the spares were looked at last, or a cleaning left
     /// one spare: as `bw_keys` says.
     pub fn look<R: System>(&mut self, rt: &R, home: &mut Home) -> Result<bool, Miss>
         requires { IsReady home.old holding }
@@ -114,7 +114,7 @@ impl Tending {
         made
     }
 
-    /// Notes whether an append failed, behind which no other goes: a flush tells it.
+    /// Notes whether an append failed, after which no other goes: a flush says it.
     pub(crate) fn note(&mut self, home: &mut Home, miss: Option<&Miss>)
         requires { IsReady home.old holding }
         ensures { IsReady home.new holding }
@@ -129,7 +129,7 @@ impl Tending {
         self.room.take_told_segment()
     }
 
-    /// The last cleaning, as `bw_keys` tells it.
+    /// The last cleaning, as `bw_keys` answers it.
     pub fn take_told_cleaning(&mut self) -> Option<Cleaned> {
         self.room.take_told_cleaning()
     }
@@ -149,8 +149,8 @@ impl Tending {
         }
     }
 
-    /// The answer, where a flush finds nothing that a cleaning did not make durable since the last
-    /// one: the number of the last frame tells that it is.
+    /// The answer, if a flush finds nothing that a cleaning did not make durable since the last
+    /// one: the number of the last frame shows that it is.
     pub fn told(&mut self, home: &Home, answer: Answer) -> Answer
         requires { IsReady home.now holding }
     {
@@ -165,7 +165,7 @@ impl Tending {
         }
     }
 
-    /// The answer of a request; or room, where it was refused for want of some.
+    /// The answer of a request; or room, if it was refused for want of some.
     fn answered<R: System>(
         &mut self,
         rt: &R,
@@ -195,7 +195,7 @@ impl Tending {
         }
     }
 
-    /// Whether room was made for what waits, where a request has all of that taken before.
+    /// Whether room was made for what waits, if a request has all of that taken before.
     fn take_waiting<R: System>(
         &mut self,
         rt: &R,
@@ -211,8 +211,8 @@ impl Tending {
         Ok(self.room.take_waiting(rt, home)?)
     }
 
-    /// Whether a request may be done: a put where the log has room for it, a cleaning where it finds
-    /// room for what it writes, and any other.
+    /// Whether a request may be done: a put if the log has room for it, a cleaning if it finds room
+    /// for what it writes, and any other.
     fn admits<R: System>(
         &mut self,
         rt: &R,
@@ -270,9 +270,9 @@ impl Tending {
         self.answered(rt, home, request)
     }
 
-    /// Does what a request asks for, and makes room where it wants some. What was accepted is taken
+    /// Does what a request asks for, and makes room if it wants some. What was accepted is taken
     /// before anything is read, so a program reads what it put. A spare that is asked for is not
-    /// added here. Behind an append that failed every put is refused.
+    /// added here. After an append that failed every put is refused.
     pub fn serve<R: System>(
         &mut self,
         rt: &R,
@@ -371,7 +371,7 @@ impl Tending {
         }
     }
 
-    /// The answer of a put that hangs on its key, behind a take of all that was put before.
+    /// The answer of a put that hangs on its key, after a take of all that was put before.
     fn served_if<R: System>(
         &mut self,
         rt: &R,

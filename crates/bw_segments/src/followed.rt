@@ -26,13 +26,13 @@ fn tell<O: Write>(output: &mut O, followed: Followed) -> Result<(), Stop> {
     }
 }
 
-/// Whether a later round may go where this one did not.
+/// Whether a later round may go if this one did not.
 fn may_go_on(fault: FollowFault) -> bool {
     matches!(fault, FollowFault::Source(FolderFault::InUse))
 }
 
-/// One round. It is told where it changed something, and the first one in any case; the first one has
-/// to be done, and a later one is left out where the folder that is followed was not read.
+/// One round. It is reported if it changed something, and the first one in any case; the first one
+/// has to be done, and a later one is left out if the folder that is followed was not read.
 fn round<R: Host, O: Write, W: Watch>(
     rt: &R,
     follower: &mut Follower,

@@ -1,5 +1,5 @@
-//! What is told of a folder beside the answers of a run: options that it does not heed, and files for
-//! which there is no lease.
+//! What is said of a folder beside the answers of a run: options that it does not heed, and files
+//! for which there is no lease.
 
 use crate::images::LEAST;
 use bw_care::RecoverCause;
@@ -12,7 +12,7 @@ use bw_words::{Options, Stop, System, leases_in};
 use std::io::Write;
 
 /// The limits with which the store in a folder goes on, as its first file that has a whole frame
-/// tells them. A folder that cannot be looked at has none: the run itself says why.
+/// says them. A folder that cannot be looked at has none: the run itself says why.
 fn limits_of<R: System>(rt: &R, path: &str) -> Result<Option<Limits>, FolderFault> {
     let reader = FolderReader::open(rt, path)?;
     for lease in &reader.leases(rt)? {
@@ -24,7 +24,7 @@ fn limits_of<R: System>(rt: &R, path: &str) -> Result<Option<Limits>, FolderFaul
     Ok(None)
 }
 
-/// Tells which limits were asked for and are not heeded, since the store goes on with its own.
+/// Says which limits were asked for and are not heeded, since the store goes on with its own.
 fn write_unheeded<E: Write>(
     out: &mut Printer<'_, E>,
     dir: &str,
@@ -43,8 +43,8 @@ fn write_unheeded<E: Write>(
     }
 }
 
-/// Tells that new segments would have no room for a frame, and how long these are: in a folder that has
-/// some, and else as the options say.
+/// Says that new segments would have no room for a frame, and how long these are: in a folder that
+/// has some, and else as the options say.
 fn write_short<E: Write>(
     out: &mut Printer<'_, E>,
     dir: &str,
@@ -60,12 +60,12 @@ fn write_short<E: Write>(
     }
 }
 
-/// Whether something may have to be told of these options.
+/// Whether something may have to be said of these options.
 fn are_told(options: &Options<'_>) -> bool {
     options.gives_m || options.gives_f || options.store.capacity < LEAST
 }
 
-/// Tells what the folder of a run does not heed of its options, and why it refuses them.
+/// Says what the folder of a run does not heed of its options, and why it refuses them.
 pub fn tell_unheeded<R: System, E: Write>(
     rt: &R,
     dir: &str,

@@ -60,7 +60,7 @@ pub fn images_stood<R: System, W: Watch>(
     }
 }
 
-/// The bytes that a line stands for. The first fault in the order of the list is told.
+/// The bytes that a line stands for. The first fault in the order of the list is the answer.
 fn bytes_of(alloc: Global, line: &[u8]) -> Result<Vec<u8>, Miss> {
     if line.len() > LONGEST as usize {
         return Err(Miss::Fault(Fault::LineTooLong));
@@ -75,7 +75,7 @@ fn bytes_of(alloc: Global, line: &[u8]) -> Result<Vec<u8>, Miss> {
     }
 }
 
-/// The segment of the next line; `None` where there is no further one.
+/// The segment of the next line; `None` if there is no further one.
 fn next_image<I: Read>(alloc: Global, lines: &mut Lines<&mut I>) -> Result<Option<Image>, Miss> {
     if !lines.read_line().map_err(no_input)? {
         return Ok(None);

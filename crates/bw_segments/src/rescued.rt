@@ -10,7 +10,7 @@ use bw_rescue::{Copied, Hurt, Loss, RescueFault, Salvaged, Verdict, Verified};
 use bw_words::{AsOf, Ends, Met, Miss, Refusal, Report, Stop, System, missed};
 use std::io::Write;
 
-/// What was met where something is damaged.
+/// What was met if something is damaged.
 const DAMAGE: Met = Met {
     refusal: true,
     ..Met::NOTHING
@@ -123,7 +123,7 @@ fn write_losses<O: Write>(out: &mut Printer<'_, O>, losses: &[Loss]) {
     }
 }
 
-/// Writes all that a folder still has into a new store, and tells what was lost.
+/// Writes all that a folder still has into a new store, and says what was lost.
 pub fn salvage<R: System, O: Write, W: Watch>(
     rt: &R,
     ends: Ends<'_>,
@@ -178,7 +178,7 @@ fn is_bare<R: System>(rt: &R, dir: &str) -> bool {
     }
 }
 
-/// What was met where recovery refused a folder.
+/// What was met if recovery refused a folder.
 fn met_of(refusal: Refusal) -> Met {
     Met {
         refusal: true,

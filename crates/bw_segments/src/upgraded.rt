@@ -12,7 +12,7 @@ use bw_words::{LEASES, Met, Miss, Stop, System, leases_in, missed, write_dump};
 use std::alloc::Global;
 use std::io::{Read, Write};
 
-/// How many spares stand behind the segments that are lines.
+/// How many spares stand after the segments that are lines.
 const SPARES: usize = 4;
 
 fn write_upgraded<O: Write>(out: &mut Printer<'_, O>, upgraded: &Upgraded) {
@@ -118,7 +118,7 @@ impl<R: System, O: Write> Course<R> for Upgrading<'_, O> {
     }
 }
 
-/// The segments, and the spares behind them, with leases of this desk.
+/// The segments, and the spares after them, with leases of this desk.
 fn with_spares(
     alloc: Global,
     desk: &mut Desk,

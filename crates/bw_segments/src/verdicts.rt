@@ -51,8 +51,8 @@ pub(crate) fn write_faults<O: Write>(out: &mut Printer<'_, O>, hurts: &[Hurt]) {
     out.text(b"]}\n");
 }
 
-/// Writes a folder that recovery refuses, though none of its segments has a fault. What is printed of
-/// the refusal is its text behind the word `refused`.
+/// Writes a folder that recovery refuses, though none of its segments has a fault. What is printed
+/// of the refusal is its text after the word `refused`.
 pub(crate) fn write_refused<O: Write>(out: &mut Printer<'_, O>, refusal: &str) {
     let word = refusal.strip_prefix("refused ").unwrap_or(refusal);
     out.named("{\"verified\":false,\"refused\":\"", word);

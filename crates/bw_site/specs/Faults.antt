@@ -5,7 +5,7 @@ use Rattle.bw_terms.specs.declared.fault.StoreFault.TheVariants as store
 use Rattle.bw_site.specs.declared.fault.HomeFault.{HomeFault}
 use Rattle.bw_site.specs.declared.fault.HomeFault.TheVariants.{NoMemory, Folder, Made, Lease, Recovery, Store}
 
--- why the store was refused, as a home tells it
+-- why the store was refused, as a home says it
 abbrev pub fault_of_store : StoreFault → HomeFault
 fault_of_store store.NoMemory = NoMemory
 fault_of_store store.BadConfig = Store store.BadConfig

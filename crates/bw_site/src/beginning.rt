@@ -19,8 +19,8 @@ pub struct Beginning {
     bytes: u64,
 }
 
-/// The beginning of a first frame, where that is all there is in what was not recovered; else why
-/// it was not. The boxes are dropped.
+/// The beginning of a first frame, if that is all there is in what was not recovered; else why it
+/// was not. The boxes are dropped.
 pub fn beginning_of(fault: RecoverFault) -> Result<Beginning, HomeFault> {
     let RecoverFault { mut boxes, cause } = fault;
     if matches!(cause, RecoverCause::Empty) {
@@ -34,8 +34,8 @@ pub fn beginning_of(fault: RecoverFault) -> Result<Beginning, HomeFault> {
 /// Why there is no store in boxes.
 pub enum NotHeld {
     Fault(HomeFault),
-    /// There was the beginning of a first frame only, as this tells. It was cleared, so another attempt
-    /// finds a folder of no bytes.
+    /// There was the beginning of a first frame only, as this says. It was cleared, so another
+    /// attempt finds a folder of no bytes.
     Cleared(Found),
 }
 
@@ -45,8 +45,8 @@ impl From<HomeFault> for NotHeld {
     }
 }
 
-// Empties the file of the beginning of a first frame, if that is all there was in so many segments, and
-// tells what was found.
+// Empties the file of the beginning of a first frame, if that is all there was in so many segments,
+// and says what was found.
 fn cleared<R: System>(
     rt: &R,
     site: &mut Site,

@@ -29,7 +29,7 @@ fn longest_of(log: &Log) -> u64
     longest
 }
 
-/// The length of the longest of these segments, where a store would go on from them; 0 where it would
+/// The length of the longest of these segments, if a store would go on from them; 0 if it would
 /// begin anew in their place.
 fn would_begin(alloc: Global, boxes: Vec<Box<dyn Segment>>) -> Result<u64, HomeFault> {
     match recover(alloc, boxes) {
@@ -41,7 +41,8 @@ fn would_begin(alloc: Global, boxes: Vec<Box<dyn Segment>>) -> Result<u64, HomeF
     }
 }
 
-/// The same of copies. Their boxes are made here alone.
+/// The length of the longest of these copies, if a store would go on from them; 0 if it would begin
+/// anew in their place. Their boxes are made here only.
 fn would_go_on(alloc: Global, copies: Vec<MemSegment>) -> Result<u64, HomeFault> {
     let mut boxes: Vec<Box<dyn Segment>> = Vec::new(alloc);
     for copy in copies {
@@ -50,7 +51,7 @@ fn would_go_on(alloc: Global, copies: Vec<MemSegment>) -> Result<u64, HomeFault>
     would_begin(alloc, boxes)
 }
 
-/// A copy of the file of the desk's next lease; an empty segment where that is none of these leases.
+/// A copy of the file of the desk's next lease; an empty segment if that is none of these leases.
 pub fn copy_of<R: System>(
     rt: &R,
     reader: &FolderReader,
@@ -88,9 +89,9 @@ fn copies_of<R: System>(
     Ok(copies)
 }
 
-/// Looks at the folder of this path, where there is one, and changes nothing there. It would be
-/// opened with so many segments at least, of this capacity in bytes, by a desk of so many leases.
-/// Answers how many bytes the longest of its live segments has; 0 where it has none.
+/// Looks at the folder of this path, if there is one, and changes nothing there. It would be opened
+/// with so many segments at least, of this capacity in bytes, by a desk of so many leases. Answers
+/// how many bytes the longest of its live segments has; 0 if it has none.
 ///
 /// What recovery refuses of its segments is refused, but for the beginning of a first frame.
 /// Whoever opens it looks again at what is opened, so nothing hangs on what somebody else does in
@@ -126,7 +127,7 @@ pub struct Old {
     pub capacity: u64,
     /// How many pages were last set in segments of format 1.
     pub pages: usize,
-    /// The number of the next frame; 0 where there is none.
+    /// The number of the next frame; 0 if there is none.
     pub next: u64,
 }
 
@@ -159,7 +160,7 @@ fn old_pages(log: &Log) -> usize
     pages
 }
 
-/// What a log has of format 1, in segments of this capacity; refused where it has no such segment.
+/// What a log has of format 1, in segments of this capacity; refused if it has no such segment.
 fn old_of(log: &Log, capacity: u64) -> Result<Old, HomeFault>
     requires { IsSound log.now holding }
 {
@@ -173,7 +174,8 @@ fn old_of(log: &Log, capacity: u64) -> Result<Old, HomeFault>
     })
 }
 
-/// The same of the log in these segments.
+/// What the log in these segments has of format 1, in segments of this capacity; refused if it has
+/// no such segment.
 fn found_old(alloc: Global, boxes: Vec<Box<dyn Segment>>, capacity: u64) -> Result<Old, HomeFault> {
     match recover(alloc, boxes) {
         Ok(found) => old_of(&found.log, capacity),
@@ -181,7 +183,8 @@ fn found_old(alloc: Global, boxes: Vec<Box<dyn Segment>>, capacity: u64) -> Resu
     }
 }
 
-/// The same of copies, whose greatest capacity is taken. Their boxes are made here alone.
+/// What the log in these copies has of format 1, in segments of the greatest of their capacities.
+/// Their boxes are made here only.
 fn old_in(alloc: Global, copies: Vec<MemSegment>) -> Result<Old, HomeFault> {
     let mut boxes: Vec<Box<dyn Segment>> = Vec::new(alloc);
     let mut capacity = LEAST;
@@ -192,7 +195,7 @@ fn old_in(alloc: Global, copies: Vec<MemSegment>) -> Result<Old, HomeFault> {
     found_old(alloc, boxes, capacity)
 }
 
-/// Looks at the folder of this path, which has to be there, and changes nothing: what recovery
+/// Looks at the folder of this path, which has to be there, and changes nothing. What recovery
 /// refuses of its segments is refused, and then a log without a segment of format 1.
 pub fn look_for_old<R: System>(rt: &R, path: &str, leases: u32) -> Result<Old, HomeFault> {
     let reader = FolderReader::open(rt, path)?;

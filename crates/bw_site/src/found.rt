@@ -1,4 +1,4 @@
-//! What recovery found where a store goes on.
+//! What recovery found if a store goes on.
 
 ghost use Rattle.bw_care.specs.Views.{IsSound};
 
@@ -13,9 +13,9 @@ pub struct Found {
     pub spares: u32,
     /// How many held a part of a header, and were dropped.
     pub dropped: u32,
-    /// The number of the first whole frame; 0 where there is none.
+    /// The number of the first whole frame; 0 if there is none.
     pub first: u64,
-    /// The number of the last whole frame; 0 where there is none.
+    /// The number of the last whole frame; 0 if there is none.
     pub last: u64,
     /// How many bytes follow the last whole frames of all segments.
     pub tail: u64,

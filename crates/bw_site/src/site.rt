@@ -84,8 +84,8 @@ pub struct Site {
 }
 
 impl Site {
-    /// The folder of this path, made where it is missing and locked; memory where there is none. It
-    /// has a desk of so many leases.
+    /// The folder of this path, made if it is missing, and locked; memory if there is none. It has
+    /// a desk of so many leases.
     pub fn open<R: System>(rt: &R, dir: Option<&str>, leases: u32) -> Result<Site, HomeFault> {
         let desk = desk_of(rt.alloc(), leases)?;
         match dir {
@@ -209,7 +209,8 @@ impl Site {
         }
     }
 
-    /// The same of each of these leases that came back, in this order.
+    /// The file of each of these leases that came back has no bytes any more. They are emptied in
+    /// this order.
     pub fn empty_free<R: System>(&mut self, rt: &R, leases: &[u32]) -> Result<(), FolderFault> {
         let _ = self.desk.collect();
         for lease in leases {

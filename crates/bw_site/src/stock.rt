@@ -37,7 +37,7 @@ pub struct Stock {
     pub added: Option<Added>,
 }
 
-// The leases of a list that are not in a row go behind those in it.
+// The leases of a list that are not in a row go after those in it.
 fn add_missing(row: &mut Vec<u32>, leases: &[u32]) -> Result<(), AllocError>
     ensures { OnOk result (take (length row.old.items) row.new.items ≡ row.old.items) }
 {

@@ -1,5 +1,5 @@
 -- What the core's call leaves, a store's call leaves too, beside readers that see what they saw; and
--- behind a publication, or one that was refused.
+-- after a publication, or one that was refused.
 
 use Rattle.std.proofs.Common.{◌≡◌, ◌∙◌, ◌⊎◌, inl, Result, Ok, Err}
 use Rattle.bw_device.specs.Holding.{Holding}

@@ -84,6 +84,6 @@ versions_stay s t h g f same v = record {
   ends = subst (λ (x : Versioned). EndAtCuts t x.entered) (sym same) (ends_stay s t h f v);
 }
 
--- the core is sound, and nothing was taken back: then the store is sound, where readers see the same
+-- the core is sound, and nothing was taken back: then the store is sound, if readers see the same
 pub beside_sound : (s t : Kept) → IsSound s → core.IsSound (core_of t) → follow.Continues (core_of s) (core_of t) → t.versions ≡ s.versions → IsSound t
 beside_sound s t h g f same = record { base = g; shown = versions_stay s t h.base g f same h.shown }

@@ -93,7 +93,7 @@ hides_follows old middle new first x =
     follow_then old middle new first
     (subst (Follows middle) (sym x.is) (batched_follows middle middle.versions.published new.versions.entered [] (sym (append-nil middle.versions.published))))
 
--- the same behind a cleaning
+-- the same after a cleaning
 pub shows_continues : (old middle new : Kept) → Continues old middle → Shows middle new → Continues old new
 shows_continues old middle new first x =
     continue_then old middle new first
@@ -161,7 +161,7 @@ pub may_want : (o : Option StoreFault) (x : Option ℕ) → FlushAnswers o (Ok x
 may_want None x a = tt
 may_want (Some fault) x a = absurd cc
 
--- where the last cut is the whole history, all entries are published
+-- if the last cut is the whole history, all entries are published
 pub shows_all : (middle new : Kept) → IsAllCut middle → Shows middle new
     → posted_of new.versions.published ≡ Some (record { start = start_of new; entries = new.entries })
 shows_all middle new all x =

@@ -14,7 +14,7 @@ pub record Continues (old new : Kept) : Type 0 where
   pub batches_more : List BatchData
   pub published : new.versions.published ≡ old.versions.published ++ batches_more
 
--- the same of a call that gives up no segment: the floor is what it was
+-- what a call does not take back that gives up no segment: the floor, too, is what it was
 pub record Follows (old new : Kept) : Type 0 where
   pub continues : Continues old new
   pub floor : new.floor ≡ old.floor
@@ -33,7 +33,7 @@ Turned n old new = Beside (core.Turned n) old new
 abbrev pub groups_since : Kept → Kept → ℕ
 groups_since old new = core.groups_since (core_of old) (core_of new)
 
--- so many records were taken, group after group; where an append failed before, none was
+-- so many records were taken, group after group; if an append failed before, none was
 abbrev pub TookInTurn : ℕ → Kept → Kept → Type 0
 TookInTurn n old new = Beside (core.TookInTurn n) old new
 
@@ -41,7 +41,7 @@ TookInTurn n old new = Beside (core.TookInTurn n) old new
 abbrev pub RefusedAfter : ℕ → Kept → List Lane → (ℕ → Bool) → StoreFault → Kept → Type 0
 RefusedAfter n old lanes away cause new = Beside (λ o s. core.RefusedAfter n o lanes away cause s) old new
 
--- the same without a number
+-- some records were taken, group after group, whatever their number
 abbrev pub TookSome : Kept → Kept → Type 0
 TookSome old new = Beside core.TookSome old new
 

@@ -1,4 +1,4 @@
--- The goal: what a settlement promises where it answers Ok, and that readers see it.
+-- The goal: what a settlement promises if it answers Ok, and that readers see it.
 
 use Rattle.std.specs.Prelude.{ℕ, ◌≡◌, Some, List}
 use Rattle.bw_ring.specs.declared.feed.Feed.{Feed}
@@ -18,7 +18,8 @@ pub record Goal (feeds : List Feed) (old new : Kept) (told : ℕ) : Type 0 where
   pub settles : Settles old new
   pub published : posted_of new.versions.published ≡ Some (record { start = start_of new; entries = new.entries })
 
--- what no call takes back, whatever its answer; and a stop behind it, or in the middle of its last append, leaves a whole store
+-- what no call takes back, whatever its answer; and a stop after it, or in the middle of its last
+-- append, leaves a whole store
 pub record Sequel (old new : Kept) (was now : Noted) : Type 0 where
   pub each_cut : EachCutStands new
   pub follows : Follows old new

@@ -34,7 +34,7 @@ pub record Kept : Type 0 where
   pub log : logs.Contents
   pub versions : Versioned
 
--- the same without the readers
+-- a store as its core has it, without the readers
 abbrev pub core_of : Kept → core.Kept
 core_of s = record {
   rings = s.rings;

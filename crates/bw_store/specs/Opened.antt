@@ -19,7 +19,7 @@ use Rattle.bw_core.specs.Reopened as core_again
 use Rattle.bw_store.specs.Kept.{Kept, with_versions}
 use Rattle.bw_store.specs.declared.config.Config.{Config}
 
--- a store of one empty page over spares alone
+-- a store of one empty page over spares only
 abbrev pub opened : List Ring → ℕ → ℕ → List Holding → Versioned → Kept
 opened rings m f spares versions = with_versions (core.opened rings m f spares) versions
 

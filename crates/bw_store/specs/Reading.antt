@@ -1,5 +1,5 @@
--- What the calls leave that only ask or read, or change the boxes alone: what the core's call leaves,
--- beside readers that see the same.
+-- What the calls leave that only ask or read, or change only the boxes: what the core's call
+-- leaves, beside readers that see the same.
 
 use Rattle.std.specs.Prelude.{ℕ, Result, List}
 use Rattle.bw_record.specs.declared.leaf.Leaf.{Leaf}
@@ -28,7 +28,7 @@ rolled s = with_versions (core.rolled (core_of s)) s.versions
 abbrev pub ReadLeaves : {A : Type 0} → (ℕ → Type 0) → Kept → Result A StoreFault → Kept → Type 0
 ReadLeaves reads old result new = Beside (λ o s. core.ReadLeaves reads o result s) old new
 
--- the same of a page, which there may not be
+-- what a read of a page leaves, which there may not be
 abbrev pub PageLeaves : (ℕ → Type 0) → Kept → Result Leaf StoreFault → Kept → Type 0
 PageLeaves reads old result new = Beside (λ o s. core.PageLeaves reads o result s) old new
 

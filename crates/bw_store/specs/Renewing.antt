@@ -1,4 +1,4 @@
--- What is left where segments were given up, or pages written again, and then what is durable was
+-- What is left if segments were given up, or pages written again, and then what is durable was
 -- published.
 
 use Rattle.std.specs.Prelude.{ℕ, ◌≡◌, ◌⊎◌, Result, Ok, Err, List, drop}
@@ -28,13 +28,14 @@ abbrev pub RewriteShows : Kept → List ℕ → Result ℕ StoreFault → Kept �
 RewriteShows old pages result new =
     ThenShows (λ r middle. Beside (λ o s. rewriting.RewriteLeaves o pages r s) old middle) result new
 
--- the row of all boxes lacks its first so many on Ok, and also where nothing but the publication was refused; it is the same else
+-- the row of all boxes lacks its first so many on Ok, and also if nothing but the publication was
+-- refused; it is the same else
 abbrev pub HasBoxesAfter : {A : Type 0} → ℕ → Kept → Result A StoreFault → Kept → Type 0
 HasBoxesAfter k old (Ok given) new = roster new.log ≡ drop k (roster old.log)
 HasBoxesAfter k old (Err fault) new =
     (roster new.log ≡ roster old.log) ⊎ ((fault ≡ NoMemory) × (roster new.log ≡ drop k (roster old.log)))
 
--- the floor is what is durable where so many segments were given up, and what it was else
+-- the floor is what is durable if so many segments were given up, and what it was else
 abbrev pub HasFloorAfter : {A : Type 0} → ℕ → Kept → Result A StoreFault → Kept → Type 0
 HasFloorAfter k old (Ok given) new = new.floor ≡ new.durable
 HasFloorAfter k old (Err fault) new =

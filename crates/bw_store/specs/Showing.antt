@@ -50,7 +50,7 @@ IsSettled s = core_settled.IsSettled (core_of s)
 abbrev pub IsLevel : Kept → Type 0
 IsLevel s = IsUpTo s.versions (upto s.cuts s.entries s.durable)
 
--- the start and the entries up to the durable cut are published, all at once; nothing is where readers
+-- the start and the entries up to the durable cut are published, all at once; nothing is if readers
 -- have them already
 pub record Shows (old new : Kept) : Type 0 where
   pub is : new ≡ with_batches old new.versions.published new.versions.entered
@@ -60,12 +60,12 @@ pub record Shows (old new : Kept) : Type 0 where
   pub level : IsLevel new
   pub idle : IsLevel old → new ≡ old
 
--- a publication was refused, where there was something to publish: what is published stays
+-- a publication was refused, when there was something to publish: what is published stays
 pub record Hides (old new : Kept) : Type 0 where
   pub is : new ≡ with_batches old old.versions.published new.versions.entered
   pub fresh : IsLevel old → ⊥
 
--- a flush, and then a publication; where that finds no memory the frame is durable
+-- a flush, and then a publication; if that finds no memory the frame is durable
 abbrev pub FlushShows : Kept → Result (Option ℕ) StoreFault → Kept → Type 0
 FlushShows old (Ok number) new = (middle : Kept) × FlushLeaves old (Ok number) middle × Shows middle new
 FlushShows old (Err fault) new =
@@ -76,7 +76,7 @@ abbrev pub FlushStops : Kept → StoreFault → Kept → Type 0
 FlushStops old fault new =
     (middle : Kept) × TookSome old middle × FlushAnswers (flush_refusal middle) (Err fault) × FlushLeaves middle (Err fault) new
 
--- why a settlement was refused: a record was, or the flush behind all of them, or the publication
+-- why a settlement was refused: a record was, or the flush after all of them, or the publication
 abbrev pub SettleRefuses : Kept → List Lane → (ℕ → Bool) → StoreFault → Kept → Type 0
 SettleRefuses old lanes away fault new =
     RefusedAt old lanes away fault new
@@ -88,7 +88,7 @@ abbrev pub Settles : Kept → Kept → Type 0
 Settles old new =
     (middle : Kept) × TookSome old middle × ((flushed : Kept) × Emptied false middle flushed × Shows flushed new)
 
--- a call, and then a publication; where that finds no memory the call is done
+-- a call, and then a publication; if that finds no memory the call is done
 abbrev pub ThenShows : {A : Type 0} → (Result A StoreFault → Kept → Type 0) → Result A StoreFault → Kept → Type 0
 ThenShows leaves (Ok x) new = (middle : Kept) × leaves (Ok x) middle × Shows middle new
 ThenShows {A} leaves (Err fault) new =

@@ -19,13 +19,14 @@ impl Store {
     /// Gives up the oldest live segment: what waits is flushed, then each page that was last set in
     /// that segment is written again, and its box is dropped.
     ///
-    /// Refused `NothingOld`, exactly where fewer than two segments are live, before anything else;
-    /// then as `flush` is, but `NoSegment` only where no spare stands at all; then `NoMemory`; then
-    /// as the cleaner is. A refused step leaves the steps before it done: frames that were appended
-    /// stay and are durable, each with a cut at the end of the history, and no box is dropped.
-    /// After a refusal other than `Failed` and a failed append it may be called again.
+    /// Refused `NothingOld`, exactly if fewer than two segments are live, before anything else.
+    /// Then it is refused as `flush` is, but `NoSegment` only if no spare stands at all. Then it is
+    /// refused `NoMemory`, and then as the cleaner is. A refused step leaves the steps before it
+    /// done: frames that were appended stay and are durable, each with a cut at the end of the
+    /// history, and no box is dropped. After a refusal other than `Failed` and a failed append it
+    /// may be called again.
     ///
-    /// Then what is durable is published, as `flush` does it. Where that alone finds no memory the
+    /// Then what is durable is published, as `flush` does it. If only that finds no memory, the
     /// call is refused `NoMemory`, though the segment is given up: its box is dropped.
     ///
     /// It costs what a flush and `bw_care::clean` cost, and a look at each page's line in memory.
@@ -37,7 +38,7 @@ impl Store {
         ensures nothing_old { IsErrOf result StoreFault.NothingOld
             ↔ (length (kept_by self.old holding).log.live < 2) }
 
-        // The floor is what is durable once a segment is given up, and stays else.
+        // The floor is what is durable once a segment is given up, and otherwise stays.
         ensures floor { HasFloorAfter 1 (kept_by self.old holding) result (kept_by self.new holding) }
 
         // Nothing is forgotten, and what is counted is what the cleaner did.
@@ -59,15 +60,15 @@ impl Store {
     /// Gives up all live segments of format 1: what waits is flushed, then each page that was last
     /// set in one of them is written again in format 2, and their boxes are dropped, oldest first.
     ///
-    /// Refused `NothingOld`, exactly where no live segment has format 1, before anything else; then
-    /// as `flush` is, but `NoSegment` only where no spare stands at all; then `NoMemory`; then as
-    /// the upgrade of `bw_care` is. A refused step leaves the steps before it done: frames that
-    /// were appended stay and are durable, each with a cut at the end of the history, and no box is
-    /// dropped. After a refusal other than `Failed` and a failed append it may be called again: it
-    /// does not write a page again that stands in a segment of format 2 by then. So where the
-    /// spares run out (`NoSegment`), `add_segment` and a second call go on.
+    /// Refused `NothingOld`, exactly if no live segment has format 1, before anything else. Then it
+    /// is refused as `flush` is, but `NoSegment` only if no spare stands at all. Then it is refused
+    /// `NoMemory`, and then as the upgrade of `bw_care` is. A refused step leaves the steps before
+    /// it done: frames that were appended stay and are durable, each with a cut at the end of the
+    /// history, and no box is dropped. After a refusal other than `Failed` and a failed append it
+    /// may be called again: it does not write a page again that stands in a segment of format 2 by
+    /// then. So if the spares run out (`NoSegment`), `add_segment` and a second call go on.
     ///
-    /// Then what is durable is published, as `flush` does it. Where that alone finds no memory the
+    /// Then what is durable is published, as `flush` does it. If only that finds no memory, the
     /// call is refused `NoMemory`, though the segments are given up: their boxes are dropped.
     ///
     /// It costs what a flush and `bw_care::upgrade` cost, and a look at each page's line in memory.
@@ -80,7 +81,7 @@ impl Store {
             ↔ (old_segments (kept_by self.old holding).log ≡ 0) }
         ensures none_left { IfOk result (λ _. old_segments (kept_by self.new holding).log ≡ 0) }
 
-        // The floor is what is durable once segments are given up, and stays else.
+        // The floor is what is durable once segments are given up, and otherwise stays.
         ensures floor { HasFloorAfter (old_segments (kept_by self.old holding).log)
             (kept_by self.old holding) result (kept_by self.new holding) }
 
@@ -105,16 +106,16 @@ impl Store {
     /// page changes, and no segment is given up.
     ///
     /// A page that is evicted is read back from all frames that touched it since it was last
-    /// written whole; behind this call it is read from one. So whoever evicts pages that many
+    /// written whole; after this call it is read from one. So whoever evicts pages that many
     /// flushes changed calls it first. A page that is named twice is written twice.
     ///
-    /// Refused `NoPage`, exactly where one of the numbers is no page's, before anything else; then
-    /// as `flush` is, but `NoSegment` only where no spare stands at all; then `NoMemory`; then as
-    /// `bw_care::rewrite` is. A refused step leaves the steps before it done: frames that were
-    /// appended stay and are durable, each with a cut at the end of the history. After a refusal
-    /// other than `Failed` and a failed append it may be called again.
+    /// Refused `NoPage`, exactly if one of the numbers is no page's, before anything else. Then it
+    /// is refused as `flush` is, but `NoSegment` only if no spare stands at all. Then it is refused
+    /// `NoMemory`, and then as `bw_care::rewrite` is. A refused step leaves the steps before it
+    /// done: frames that were appended stay and are durable, each with a cut at the end of the
+    /// history. After a refusal other than `Failed` and a failed append it may be called again.
     ///
-    /// Then what is durable is published, as `flush` does it. Where that alone finds no memory the
+    /// Then what is durable is published, as `flush` does it. If only that finds no memory, the
     /// call is refused `NoMemory`, though the pages are written.
     ///
     /// It costs what a flush and reading these pages cost, the bytes of the new frames, and a look

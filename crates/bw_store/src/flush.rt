@@ -13,19 +13,20 @@ impl Store {
     ghost use Rattle.bw_store.specs.Going.{GoesOn};
     ghost use Rattle.bw_store.specs.Views.{kept_by, lanes_of, IsSound};
 
-    /// Seals the frame in the making and appends it; answers its number, or `None` where nothing
+    /// Seals the frame in the making and appends it; answers its number, or `None` if nothing
     /// waited.
     ///
-    /// Refused `Failed`, where an append failed before; then `Spent`, where there is no number for
-    /// a frame, even if nothing waits; then, where something waits, `NoSegment`, `Spent` and
-    /// `NoMemory` as the log's append is: nothing was changed. `Device`: the frame stays sealed and
-    /// kept, and every later flush is refused `Failed`.
+    /// Refused `Failed` if an append failed before. Then it is refused `Spent` if there is no
+    /// number for a frame, even if nothing waits. Then, if something waits, it is refused
+    /// `NoSegment`, `Spent` and `NoMemory` as the log's append is. After each of these nothing was
+    /// changed. `Device`: the frame stays sealed and kept, and every later flush is refused
+    /// `Failed`.
     ///
-    /// Then what is durable is published, all at once; where nothing is new, nothing is done. It
-    /// may wait for readers. Where that finds no memory the call is refused `NoMemory`, though the
-    /// frame is durable: readers see what they saw, and the next `flush`, `clean` or `settle`
-    /// publishes. Time is linear in the frame, and in what its records cost to apply twice; the
-    /// first publication also brings all pages of the start.
+    /// Then what is durable is published, all at once; if nothing is new, nothing is done. It may
+    /// wait for readers. If that finds no memory, the call is refused `NoMemory`, though the frame
+    /// is durable: readers see what they saw, and the next `flush`, `clean` or `settle` publishes.
+    /// Time is linear in the frame, and in what its records cost to apply twice; the first
+    /// publication also brings all pages of the start.
     pub fn flush<R: Wait>(&mut self, rt: &R) -> Result<Option<u64>, StoreFault>
         requires sound { IsSound self.old holding }
         ensures goes { GoesOn self.old self.new holding }

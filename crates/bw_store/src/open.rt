@@ -33,9 +33,9 @@ impl Store {
     /// A store of one empty page over empty segments, and a feed for each writer, which may go to
     /// another thread. The first page is the first block of frame 1.
     ///
-    /// Refused `BadConfig`, where a value is out of its range, there are more than 4,096 boxes, or
-    /// one of them is not empty or has not room for 24 + `f` bytes to 1,073,741,824; or `NoMemory`.
-    /// The boxes then come back as they were.
+    /// Refused `BadConfig` if a value is out of its range, there are more than 4,096 boxes, or one
+    /// of them is not empty or has not room for 24 + `f` bytes to 1,073,741,824; or `NoMemory`. The
+    /// boxes then come back as they were.
     pub fn open<R: Wait>(
         rt: &R,
         alloc: Global,

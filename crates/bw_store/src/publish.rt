@@ -26,7 +26,7 @@ impl Publications {
         }
     }
 
-    // The history is published up to this length, or it was refused. It counts where that is new.
+    // The history is published up to this length, or it was refused. It counts if that is new.
     fn count_upto(&mut self, end: usize, is_shown: bool) {
         if is_shown && self.end != Some(end) {
             self.count = self.count.saturating_add(1);
@@ -41,8 +41,8 @@ impl Store {
 
     /// A reader of what this store publishes, which may go to another thread. It saw nothing yet.
     ///
-    /// Refused `NoReader` exactly where no place for a reader is left: a dropped reader frees none;
-    /// or `NoMemory`.
+    /// Refused `NoReader` exactly if no place for a reader is left: a dropped reader frees none; or
+    /// `NoMemory`.
     pub fn reader(&mut self) -> Result<Reader, ReadFault>
         requires sound { IsSound self.old holding }
         ensures goes { GoesOn self.old self.new holding }

@@ -88,8 +88,8 @@ impl Store {
     }
 
     /// From how many frames a page would be read, if it were evicted: those that were appended and
-    /// have a block of it, from the last that says all of it on. It is 0 where no frame has the page
-    /// yet, and `None` where there is no such page, evicted or not. `rewrite` makes it 1.
+    /// have a block of it, from the last that says all of it on. It is 0 if no frame has the page
+    /// yet, and `None` if there is no such page, evicted or not. `rewrite` makes it 1.
     ///
     /// No memory is taken, and it costs the same for each page. Whoever evicts pages asks this first,
     /// and writes a page again whose walk is long, so that bringing it back stays cheap.
@@ -134,8 +134,8 @@ impl Store {
 
     /// How many bytes of the i-th live segment, from 0, are still needed: those that the pages have
     /// whose last setting block stands there, each as a Base as it stands. So many bytes of blocks
-    /// `clean` writes again where it is the oldest, nothing waits in the frame in the making, and no
-    /// append fails. `None` where there is no such segment. `bwlog stats` tells this as `rewritten`.
+    /// `clean` writes again if it is the oldest, nothing waits in the frame in the making, and no
+    /// append fails. `None` if there is no such segment. `bwlog stats` shows this as `rewritten`.
     ///
     /// No memory is taken and nothing is read. It costs a look at the line of each frame and of each
     /// page, and at the pairs of each page that is counted and in memory.
@@ -149,9 +149,9 @@ impl Store {
     }
 
     /// Whether it pays to clean: two segments are live or more, and the oldest has twice as many
-    /// bytes as are still needed of it, and 88 more. Then `clean` gives back more than it writes, so
-    /// that there is more room behind it than before: beside what is needed it writes 20 bytes for
-    /// each frame, and 24 for each segment that it begins.
+    /// bytes as are still needed of it, and 88 more. Then `clean` gives back more than it writes,
+    /// so that there is more room after it than before: beside what is needed it writes 20 bytes
+    /// for each frame, and 24 for each segment that it begins.
     ///
     /// It costs what `needed` does.
     pub fn pays(&self) -> bool

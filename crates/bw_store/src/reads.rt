@@ -22,9 +22,10 @@ impl Store {
     /// A copy of a page as all records of the history leave it, flushed or not, in memory or
     /// evicted. A page that is evicted is read from the log, and stays evicted.
     ///
-    /// Refused `NoPage`, where the number is 0 or above the number of pages; `NoMemory`; and, where
-    /// the page is evicted, `Device`, where the read failed: the next one may not; `Spent`, where
-    /// one more failure of a segment that has to be read could not be counted.
+    /// Refused `NoPage` if the number is 0 or above the number of pages, and `NoMemory`. If the
+    /// page is evicted, it is also refused `Device` if the read failed: the next one may not. And
+    /// it is refused `Spent` if one more failure of a segment that has to be read could not be
+    /// counted.
     pub fn page(&mut self, page: u32) -> Result<Leaf, StoreFault>
         requires { IsSound self.old holding }
         ensures value { IfOk result (λ leaf.
@@ -41,9 +42,9 @@ impl Store {
     }
 
     /// The value of a key as all records of the history leave it, flushed or not, in memory or
-    /// evicted. It is refused as `page` is, but never `NoPage`, and its page stays where it is.
-    /// Where the page is evicted, it is read from its newest block back, up to the first that
-    /// speaks of the key: a key that changed lately costs one frame.
+    /// evicted. It is refused as `page` is, but never `NoPage`, and its page stays where it is. If
+    /// the page is evicted, it is read from its newest block back, up to the first that speaks of
+    /// the key: a key that changed lately costs one frame.
     pub fn get(&mut self, key: &Key) -> Result<Option<Value>, StoreFault>
         requires { IsSound self.old holding }
         ensures value { IfOk result (λ value. value
@@ -60,11 +61,11 @@ impl Store {
     }
 
     /// The pair with the least key at or above this one, as all records of the history leave it,
-    /// flushed or not, in memory or evicted; `None` behind the last pair. Pages that are evicted
-    /// are read from the log, and stay evicted.
+    /// flushed or not, in memory or evicted; `None` after the last pair. Pages that are evicted are
+    /// read from the log, and stay evicted.
     ///
-    /// It costs a search and a look at a page; and, where that page has no such pair, another
-    /// search and look for each page behind it that has none. Refused as `get` is.
+    /// It costs a search and a look at a page; and, if that page has no such pair, another search
+    /// and look for each page after it that has none. Refused as `get` is.
     pub fn next_at(&mut self, key: &Key) -> Result<Option<(Key, Value)>, StoreFault>
         requires { IsSound self.old holding }
         ensures value { IfOk result (λ pair. IsFirst (plain (kept_by self.old holding).start
@@ -79,8 +80,8 @@ impl Store {
     /// flushed or not, in memory or evicted; `None` before the first pair. Pages that are evicted
     /// are read from the log, and stay evicted.
     ///
-    /// It costs a search and a look at a page; and, where that page has no such pair, two searches
-    /// and a look for each page before it that has none. Refused as `get` is.
+    /// It costs a search and a look at a page; and, if that page has no such pair, two searches and
+    /// a look for each page before it that has none. Refused as `get` is.
     pub fn prev_at(&mut self, key: &Key) -> Result<Option<(Key, Value)>, StoreFault>
         requires { IsSound self.old holding }
         ensures value { IfOk result (λ pair. IsLast (plain (kept_by self.old holding).start
@@ -91,8 +92,9 @@ impl Store {
         self.core.prev_at(key)
     }
 
-    /// The same, but of the keys below this one alone: where a walk back goes on behind the pair
-    /// that it came to.
+    /// The pair with the greatest key below this one, as all records of the history leave it;
+    /// `None` before the first pair. A walk back goes on so after the pair that it came to. As
+    /// `prev_at` otherwise.
     pub fn prev_below(&mut self, key: &Key) -> Result<Option<(Key, Value)>, StoreFault>
         requires { IsSound self.old holding }
         ensures value { IfOk result (λ pair. IsLastBelow (plain (kept_by self.old holding).start
@@ -105,11 +107,11 @@ impl Store {
 
     /// Puts the pairs at or above a key into `found`, as all records of the history leave them, in
     /// the order of keys and no more than so many. What stood in `found` is dropped before. A walk
-    /// goes on behind the last of them. Pages that are evicted are read from the log, and stay
+    /// goes on after the last of them. Pages that are evicted are read from the log, and stay
     /// evicted.
     ///
     /// It costs a search and a look for each page, and a copy of each pair. Refused as `get` is, or
-    /// `NoMemory` where `found` does not grow; it then has some of the pairs.
+    /// `NoMemory` if `found` does not grow; it then has some of the pairs.
     pub fn scan(
         &mut self,
         key: &Key,
@@ -130,7 +132,7 @@ impl Store {
     /// becomes of the page, and they stay in memory as long as it does.
     ///
     /// It costs a search and a look for each page, and a look at each pair. Refused as `scan` is;
-    /// `NoMemory` also where the count of those that share a pair is full.
+    /// `NoMemory` also if the count of those that share a pair is full.
     pub fn scan_shared(
         &mut self,
         key: &Key,
@@ -162,10 +164,10 @@ impl Store {
     }
 
     /// Drops a page from memory; answers whether it left. The page stays: it is then read from the
-    /// log, and the records that no frame has yet are kept. It does not leave where it is evicted,
-    /// nor where the frame in the making makes it or cuts it.
+    /// log, and the records that no frame has yet are kept. It does not leave if it is evicted, nor
+    /// if the frame in the making makes it or cuts it.
     ///
-    /// Refused `NoPage`, where the number is 0 or above the number of pages. No memory is taken.
+    /// Refused `NoPage` if the number is 0 or above the number of pages. No memory is taken.
     pub fn evict(&mut self, page: u32) -> Result<bool, StoreFault>
         requires { IsSound self.old holding }
         ensures left { IfOk result (λ left. left

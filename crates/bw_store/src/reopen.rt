@@ -62,11 +62,11 @@ impl Store {
     /// recovered ones, all of them in memory, its history is empty, and its next frame is the one
     /// after the last: it begins over the boxes that recovery was given, as a core does.
     ///
-    /// Refused `BadConfig`, where a number is out of its range: then nothing is read; `NoMemory`;
-    /// `Device`, where the segment with this lease failed and counts it; or `Spent`, where no more
-    /// failure of a segment that has to be read could be counted. What was recovered then comes back,
-    /// and may have pages in memory that it had not. It costs a read of each page, a copy of it, which
-    /// is what readers will see, and a look at its line.
+    /// Refused `BadConfig` if a number is out of its range: then nothing is read. Refused
+    /// `NoMemory`. Refused `Device` if the segment with this lease failed and counts it, or `Spent`
+    /// if no more failure of a segment that has to be read could be counted. What was recovered
+    /// then comes back, and may have pages in memory that it had not. It costs a read of each page,
+    /// a copy of it, which is what readers will see, and a look at its line.
     pub fn reopen<R: Wait>(
         rt: &R,
         alloc: Global,

@@ -19,8 +19,8 @@ impl Store {
     ghost use Rattle.bw_store.specs.Views.{kept_by, kept_beside, noted_of, IsSound, IsSoundBeside};
 
     /// A further spare, which goes last. A box that is not empty or has not the room that `open`
-    /// asks, or one above 4,096, comes back with `BadConfig`, and any box with `NoMemory` where a
-    /// growth is refused; the store is then as it was.
+    /// asks, or one above 4,096, comes back with `BadConfig`. Any box comes back with `NoMemory` if
+    /// a growth is refused. The store is then as it was.
     pub fn add_segment(
         &mut self,
         one: Box<dyn Segment>,
@@ -55,10 +55,10 @@ impl Store {
         self.core.roll();
     }
 
-    /// Appends the bytes of the live segment with this number to a `Vec`; answers `false` where no
-    /// live segment has it. A refusal leaves the `Vec` as it was. Refused `NoMemory`; `Device`,
-    /// where the read failed: the next one may not; `Spent`, where one more failure of that segment
-    /// could not be counted.
+    /// Appends the bytes of the live segment with this number to a `Vec`; answers `false` if no
+    /// live segment has it. A refusal leaves the `Vec` as it was. Refused `NoMemory`. Refused
+    /// `Device` if the read failed: the next one may not. Refused `Spent` if one more failure of
+    /// that segment could not be counted.
     pub fn dump(&mut self, segment: u64, out: &mut Vec<u8>) -> Result<bool, StoreFault>
         requires { IsSound self.old holding }
         ensures found { IfOk result (λ found.
@@ -82,12 +82,12 @@ impl Store {
     /// theirs. Nothing is flushed. It may wait for readers; from then on they are refused. No
     /// memory is taken.
     ///
-    /// Where an append failed, `recover` is the way on, and the only one: the box may hold any
-    /// beginning of the piece, also all of it. It finds the pages up to the last durable cut or,
-    /// where that piece was a whole frame, up to the cut of this frame. A stop in the middle of any
-    /// call leaves no other boxes, since nothing is appended behind a failed append. Where none
-    /// failed, the newest segment may even be shortened, as a file is by a loss of power: what is
-    /// left shows the pages up to a cut.
+    /// If an append failed, `recover` is the way on, and the only one: the box may hold any
+    /// beginning of the piece, also all of it. It finds the pages up to the last durable cut or, if
+    /// that piece was a whole frame, up to the cut of this frame. A stop in the middle of any call
+    /// leaves no other boxes, since nothing is appended after a failed append. If none failed, the
+    /// newest segment may even be shortened, as a file is by a loss of power: what is left shows
+    /// the pages up to a cut.
     pub fn shut<R: Wait>(self, rt: &R) -> (Vec<Box<dyn Segment>>, Vec<Box<dyn Segment>>)
         requires { IsSoundBeside self holding }
         ensures live { map holding result.0.items ≡ (kept_beside self holding).log.live }
@@ -96,7 +96,7 @@ impl Store {
         // What the boxes hold up to each durable cut from the floor on are the pages of that cut.
         ensures each_cut { EachCutStands (kept_beside self holding) }
 
-        // After a stop, and behind a cut of the newest segment, recovery finds the pages of a cut.
+        // After a stop, and after a cut of the newest segment, recovery finds the pages of a cut.
         ensures stops { (kept_beside self holding).log.is_failed ≡ true
             → FindsStop (core_of (kept_beside self holding))
             (map holding result.0.items ++ map holding result.1.items) }

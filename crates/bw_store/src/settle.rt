@@ -20,9 +20,8 @@ impl Store {
     /// are those that `open` or `reopen` gave, all of them, in order.
     ///
     /// On Ok the segments hold, page for page, each accepted record exactly once, and readers see
-    /// them. A refusal leaves what a refused `turn` or `flush` leaves, and tells its cause;
-    /// `settle` may be called again. The time is that of a turn over what was accepted, and of a
-    /// flush.
+    /// them. A refusal leaves what a refused `turn` or `flush` leaves, and says its cause; `settle`
+    /// may be called again. The time is that of a turn over what was accepted, and of a flush.
     pub fn settle<R: Wait>(&mut self, rt: &R, feeds: &mut Vec<Feed>) -> Result<u64, StoreFault>
         requires sound { IsSound self.old holding }
         requires feeds { map ring_of_feed feeds.old.items ≡ (kept_by self.old holding).rings }

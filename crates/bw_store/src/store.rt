@@ -8,7 +8,7 @@ use crate::publish::Publications;
 use bw_core::Core;
 use bw_versions::Versions;
 
-/// Pages that writers change, a log keeps and readers see. It is ended by `shut` alone, which tells
+/// Pages that writers change, a log keeps and readers see. It is ended only by `shut`, which tells
 /// its readers.
 pub struct Store {
     pub(crate) core: Core,

@@ -15,16 +15,15 @@ impl Store {
 
     /// Takes groups in rounds over lanes 0, 1, .., one from each that has one, until `limit` of
     /// them are taken or a round took none; answers how many records these have. A group's blocks
-    /// go into one frame: they are put into the frame in the making, and where they do not fit
-    /// there, that one is appended first.
+    /// go into one frame: they are put into the frame in the making, and if they do not fit there,
+    /// that one is appended first.
     ///
-    /// A refusal tells how many records were taken before it. The refused group is still the first
+    /// A refusal says how many records were taken before it. The refused group is still the first
     /// in its ring, whole: all growths, reads and appends come before a group is taken. `Failed`
-    /// comes only where a group is found, and so do `Spent`, `NoSegment`, `NoMemory` and `Device`.
-    /// A record costs a search among the pages, work in one page, and its blocks; in a group of
-    /// more than one, the work in its page comes twice. Where a page is evicted, it is read from
-    /// the log and is in memory from then on, unless that read is refused `Device`, `Spent` or
-    /// `NoMemory`.
+    /// comes only if a group is found, and so do `Spent`, `NoSegment`, `NoMemory` and `Device`. A
+    /// record costs a search among the pages, work in one page, and its blocks; in a group of more
+    /// than one, the work in its page comes twice. If a page is evicted, it is read from the log
+    /// and is in memory from then on, unless that read is refused `Device`, `Spent` or `NoMemory`.
     pub fn turn(&mut self, limit: u32) -> Result<u64, TurnFault>
         requires sound { IsSound self.old holding }
         ensures quiet { IsQuiet self.old self.new holding }
@@ -39,7 +38,7 @@ impl Store {
             groups_since (kept_by self.old holding) (kept_by self.new holding) < limit
             → AreDry (lanes_of self.new)) }
 
-        // One group after the other, and no frame before one that fits. `Failed` exactly where an
+        // One group after the other, and no frame before one that fits. `Failed` exactly if an
         // append failed before; every other cause with its reason. The refused group is still the
         // first of its lane, and was tried within the limit.
         ensures took { IfOk result (λ n.

@@ -8,7 +8,7 @@
 //!
 //!     bw_tabled --times [COUNT ROUNDS]
 //!
-//! Runs such calls in memory, and tells their times (`times`).
+//! Runs such calls in memory, and prints their times (`times`).
 #![tactic(auto)]
 
 mod meter;

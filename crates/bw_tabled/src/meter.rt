@@ -1,4 +1,4 @@
-//! What is measured, and how it is told.
+//! What is measured, and how it is printed.
 
 use anyhow::Result;
 use std::time::CpuClock;
@@ -8,7 +8,7 @@ pub trait Host: Print + CpuClock {}
 
 impl<R: Print + CpuClock> Host for R {}
 
-/// Tells what each span took, if it is asked for times; else how many operations it had.
+/// Prints what each span took, if it is asked for times; else how many operations it had.
 #[derive(Clone, Copy)]
 pub struct Meter {
     pub is_timed: bool,
@@ -21,7 +21,7 @@ pub fn now(host: &impl Host) -> Result<u64> {
 }
 
 impl Meter {
-    /// Tells of so many operations that began then.
+    /// Prints so many operations that began then, and their time if that is asked for.
     pub fn tell(self, host: &impl Host, name: &str, count: u64, start: u64) -> Result<()> {
         let nanos = now(host)?.saturating_sub(start);
         if self.is_timed {
@@ -33,7 +33,7 @@ impl Meter {
         Ok(())
     }
 
-    /// Tells how many of so many were read back as they were put.
+    /// Prints how many of so many were read back as they were put.
     pub fn tell_right(self, host: &impl Host, count: u64, right: u64) -> Result<()> {
         if right != count {
             println!(host; "  {right} of {count} are right")?;

@@ -1,4 +1,5 @@
-//! The same pairs, set in the store itself, put in a table one by one, or put in batches.
+//! Pairs that are set in the store itself, put in a table one by one, or put in batches: the same
+//! ones each way.
 
 ghost use Rattle.bw_home.specs.Ready.{IsReady};
 

@@ -46,7 +46,7 @@ fn row_key_of(alloc: Global, word: Option<&str>) -> Result<RowKey> {
     Ok(RowKey::new(bytes_of(alloc, word)?.as_slice())?)
 }
 
-// A pair of the store itself, without a value where it is to go.
+// A pair of the store itself, without a value if it is to go.
 fn raw_of(alloc: Global, key: Option<&str>, value: Option<&str>) -> Result<Request> {
     let key = Key::new(bytes_of(alloc, key)?.as_slice())?;
     if value.is_none() {
@@ -56,7 +56,7 @@ fn raw_of(alloc: Global, key: Option<&str>, value: Option<&str>) -> Result<Reque
     Ok(Request::Raw(key, Some(value)))
 }
 
-// A put, or a delete where there is no value.
+// A put, or a delete if there is no value.
 fn change_of(
     alloc: Global,
     table: Option<&str>,

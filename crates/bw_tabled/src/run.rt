@@ -74,7 +74,7 @@ impl<'a> Run<'a> {
         Ok(())
     }
 
-    // Does what the next line asks, and answers it; `false` behind the last line.
+    // Does what the next line asks, and answers it; `false` after the last line.
     fn step<R: System + Print>(&mut self, rt: &R, home: &mut Home) -> Result<bool>
         requires { IsReady home.old holding }
         ensures { IsReady home.new holding }

@@ -41,8 +41,9 @@ fn round<R: Host + System>(rt: &R, count: u64, meter: Meter) -> Result<()> {
     Ok(())
 }
 
-/// Runs what the words `COUNT ROUNDS` ask for: so many keys, and all subjects in turn so often, with
-/// the processor time of this thread. Without them there is one round, of which no times are told.
+/// Runs what the words `COUNT ROUNDS` ask for: so many keys, and all subjects in turn so often,
+/// with the processor time of this thread. Without them there is one round, of which no times are
+/// printed.
 pub fn measure<R: Host + System>(rt: &R, words: &[String]) -> Result<()> {
     let [count, rounds, ..] = words else {
         return round(rt, COUNT, Meter { is_timed: false });

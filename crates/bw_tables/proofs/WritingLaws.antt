@@ -93,7 +93,7 @@ pub from_first : (n value : Bytes) (i to : ℕ) → i < to → (chunk_record n v
 from_first n value i to less =
     first_chunk n value i (to - (i + 1)) ∙ ap (chunk_records n value i) (let e : suc (to - (i + 1)) ≡ to - i = omega arith in e)
 
--- one more behind them
+-- one more after them
 pub one_more : (g old new : List Record) (n value : Bytes) (from i : ℕ) → from ≤ i → old ≡ g ++ chunk_records n value from (i - from)
     → new ≡ old ++ chunk_record n value i ∷ [] → new ≡ g ++ chunk_records n value from ((i + 1) - from)
 one_more g old new n value from i upto was is =

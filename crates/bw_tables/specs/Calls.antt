@@ -10,7 +10,7 @@ use Rattle.bw_rows.specs.Laws.{IsTables, IsUnnamed, IsNoTable, HasNoRow, HasNoCh
 use Rattle.bw_rows.specs.Batches.{said, batched, FitsAside, HasAsides, IsGathering, IsStanding}
 use Rattle.bw_tables.specs.Writing.{IsWriting}
 
--- the tables stay, and the first chunks of a value are there behind its number, which no row named
+-- the tables stay, and the first chunks of a value are there after its number, which no row named
 abbrev pub Begins : Bytes → Bytes → ℕ → List Record → Type 0
 Begins n value count group = (tables : Tables) (p : Plain) → IsTables tables p → IsUnnamed p n → IsWriting tables (after p group) n value count
 

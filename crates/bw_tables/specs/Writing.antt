@@ -41,7 +41,7 @@ row_to key (Some row) = Put key row
 
 -- ---- the laws of these groups
 
--- where no row names a number, it may be taken
+-- if no row names a number, it may be taken
 abbrev pub TakingIsLawful : Type 0
 TakingIsLawful = (tables : Tables) (p : Plain) (n value : Bytes) → IsTables tables p → IsUnnamed p n → IsWriting tables (after p (taking n)) n value 0
 
@@ -50,7 +50,7 @@ abbrev pub ChunksAreLawful : Type 0
 ChunksAreLawful = (tables : Tables) (p : Plain) (n value : Bytes) (i k : ℕ) → length n ≡ 8 → i + k < 2 ^ 32 → IsWriting tables p n value i
     → IsWriting tables (after p (chunk_records n value i k)) n value (i + k)
 
--- behind the last chunk the group of the row is the step
+-- after the last chunk the group of the row is the step
 abbrev pub LongIsTheStep : Type 0
 LongIsTheStep = (tables : Tables) (p : Plain) (name t key n value : Bytes) → length n ≡ 8 → 0 < length value → length value < 2 ^ 64
     → IsWriting tables p n value (chunks_in (length value)) → HasNumber p name t

@@ -1,5 +1,5 @@
 //! The groups that calls write. Each is one step of the store, and its contract says which tables
-//! stand behind it.
+//! stand after it.
 
 ghost use Rattle.std.specs.Prelude.{◌≡◌, ◌+◌, ◌-◌, ◌*◌, ◌≤◌, ◌<◌, ◌∷◌, ◌++◌, [], None, Some, length};
 ghost use Rattle.bw_record.specs.declared.record.Record.TheVariants.{Put};
@@ -115,7 +115,7 @@ fn row_change(
     group
 }
 
-/// The step of a put of a long value, behind the group of its last chunk.
+/// The step of a put of a long value, after the group of its last chunk.
 ///
 /// `old` is what the row of the key names so far. Its chunks are collected from then on.
 pub fn long_step(
@@ -150,7 +150,7 @@ pub fn delete_step(table: TableNumber, key: &RowKey, old: Option<Head>) -> Group
     row_change(table, key, None, None, old)
 }
 
-/// The last group of a collection, behind the last chunk: the number may be taken again.
+/// The last group of a collection, after the last chunk: the number may be taken again.
 pub fn free_group(number: Number) -> Group
     ensures frees { Frees number.bytes result }
     ensures marks { KeepsMarks result }
@@ -169,14 +169,14 @@ pub fn aside_row(table: TableNumber, key: &RowKey, row: Value) -> Group
     Group::one(Record::Put(aside_key(table, key), row))
 }
 
-/// The step of a batch, behind its rows aside and their chunks.
+/// The step of a batch, after its rows aside and their chunks.
 pub fn batch_step() -> Group
     ensures { MakesBatch result }
 {
     Group::one(Record::Put(stands_key(), nothing()))
 }
 
-// The row that a row aside becomes; `None` where it takes its row away.
+// The row that a row aside becomes; `None` if it takes its row away.
 fn carried(aside: Value) -> Option<Value>
     ensures { result ≡ over (Some aside) None }
 {

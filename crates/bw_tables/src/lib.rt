@@ -1,8 +1,8 @@
 //! The groups that calls on tables write to a store of small pairs.
 //!
 //! A call on tables is a row of groups, each of which the store takes as one step. One of them is
-//! the step of the call: before it the tables are the old ones, behind it the new ones. The
-//! contract of each group says so of every lawful map, so it does not matter where a stop comes.
+//! the step of the call: before it the tables are the old ones, after it the new ones. The contract
+//! of each group says so of every lawful map, so it does not matter where a stop comes.
 #![tactic(auto)]
 
 mod groups;

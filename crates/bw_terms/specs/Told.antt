@@ -1,4 +1,4 @@
--- The faults of a log, of a page and of a cleaning, as a store tells them.
+-- The faults of a log, of a page and of a cleaning, as a store says them.
 
 use Rattle.bw_page.specs.declared.fault.ApplyError.{ApplyError}
 use Rattle.bw_page.specs.declared.fault.ApplyError.TheVariants as apply

@@ -66,7 +66,7 @@ pub struct OpenFault {
     pub cause: StoreFault,
 }
 
-// Boxes of other crates' kinds need not be told.
+// Boxes of other crates' kinds need not be shown.
 impl Debug for OpenFault {
     fn fmt<W: fmt::Write>(&self, f: &mut Formatter<W>) -> fmt::Result {
         write!(f, "OpenFault({:?})", self.cause)

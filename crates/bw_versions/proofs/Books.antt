@@ -98,7 +98,7 @@ fresh-fits : (m : Reach) (v : Option Reach) → Fits m v → Fits m (fresh v)
 fresh-fits m None f = tt
 fresh-fits m (Some p) f = (f.0, (m.log, refl))
 
--- the writer may tell the book alone
+-- the writer may say only the book
 pub forks : (seat : ℕ) (v : Option Reach) → Forks Keeps seat v v (fresh v)
 forks seat v x views h at = (
   h.0,
@@ -108,7 +108,7 @@ forks seat v x views h at = (
       (at_snoc (slice_set views seat v) (fresh v) u j e),
 )
 
--- a reader may take in what it was told
+-- a reader may take in what it heard
 pub merges : (seat : ℕ) (v : Option Reach) (other : ℕ) (w : Option Reach) → Merges Keeps seat v other w w None
 merges seat v other w x views h at apart there =
     let theirs : Fits x.mark w =

@@ -7,7 +7,7 @@ use Rattle.bw_versions.specs.Batches.{BatchData, entries_of}
 use Rattle.bw_versions.specs.Posted.{brings, begun}
 use Rattle.bw_versions.specs.Laws.{AreJoined}
 
--- more batches bring their entries alone
+-- more batches bring only their entries
 pub onward : (start : Shown) (es : List Entry) (bs : List BatchData) → fold brings (begun (Some start) es) bs ≡ begun (Some start) (es ++ entries_of bs)
 onward start es [] = ap (begun (Some start)) (sym (append-nil es))
 onward start es (b ∷ bs) = onward start (es ++ b.entries) bs ∙ ap (begun (Some start)) (append_assoc es b.entries (entries_of bs))

@@ -5,7 +5,7 @@ use Rattle.std.specs.List.{flat_map}
 use Rattle.bw_page.specs.Shown.{Shown}
 use Rattle.bw_history.specs.declared.entry.Entry.{Entry}
 
--- entries, and the start leaves where the batch is the first
+-- entries, and the start leaves if the batch is the first
 pub record BatchData : Type 0 where
   pub start : Option Shown
   pub entries : List Entry

@@ -13,7 +13,8 @@ pub record IsKept (cells : List Cell) (log : List BatchData) : Type 0 where
 abbrev pub head_of : Book → Named
 head_of b = record { tracked = true; key = 0; book = b }
 
--- where the word was the number seen, the batch is added to what was seen; else more stood there, which is seen now
+-- if the word was the number seen, the batch is added to what was seen; else more stood there,
+-- which is seen now
 abbrev pub Adds : Step BatchData → View BatchData ℕ → ℕ → View BatchData ℕ → Type 0
 Adds s v found w = MatchBool (found == s.old) (w.0 ≡ v.0 ++ s.ask ∷ []) (length w.0 ≡ found)
 

@@ -1,4 +1,4 @@
--- What a reader saw and was told.
+-- What a reader saw and heard.
 
 use Rattle.std.specs.Prelude.{◌≡◌, List, Option, Some, None}
 use mathlib.Core.List.{IsPrefix}
@@ -10,7 +10,8 @@ pub record Heard : Type 0 where
   -- the book of the reader's store
   pub book : Book
   pub seen : List BatchData
-  -- of the lists told since the last read the longest, of which the others are beginnings; `seen` where none was told
+  -- of the lists heard since the last read the longest, of which the others are beginnings; `seen`
+  -- if none was heard
   pub learnt : List BatchData
 
 -- what a reader's seat knows begins with m

@@ -36,7 +36,7 @@ abbrev pub Follows : Reach → List Operation → Type 0
 Follows m [] = Unit {0}
 Follows m (op ∷ ops) = (op.mark.book ≡ m.book) × (op.mark.log ≡ m.log ++ op.batch ∷ []) × Follows op.mark ops
 
--- ---- a new reader is told its book
+-- ---- a new reader hears its book
 
 -- the book, with nothing seen
 abbrev pub fresh : Option Reach → Option Reach

@@ -29,7 +29,7 @@ use std::marker::Model;
 use std::snapshot::Snapshot;
 
 /// Published pages: the fold of the published entries, from the start leaves. Start and entries
-/// take no bytes: the proof alone knows them.
+/// take no bytes: only the proof knows them.
 #[derive(Drop)]
 pub struct Board {
     leaves: Leaves,
@@ -63,7 +63,7 @@ impl Board {
         })
     }
 
-    /// The same, where the start leaves wait.
+    /// A board without entries, whose start leaves waited until now.
     pub(crate) fn at(alloc: Global, start: &Start) -> Result<Board, AllocError>
         requires here { start.now.evicted ≡ [] }
         ensures made { IfOk result (λ b. b ≡ record { start = start.now; entries = [] }) }
@@ -121,8 +121,8 @@ impl Board {
         ensures added { OnOk result
             (self.new ≡ record self.old { entries = self.old.entries ++ more.now }) }
 
-        // As a batch of records: `Spent` only where one of them needs a page number that does not
-        // exist, and a refusal wherever one does, perhaps for want of memory before that record.
+        // As a batch of records: `Spent` only if one of them needs a page number that does not
+        // exist, and a refusal whenever one does, perhaps for want of memory before that record.
         ensures spent { SomeIsSpent (pages_of self.old) (records more.now) → IsErr result }
         ensures only_spent { result ≡ Err ApplyError.Spent
             → SomeIsSpent (pages_of self.old) (records more.now) }
@@ -151,7 +151,7 @@ fn append(entries: &mut Vec<Snapshot<PackedEntry>>, more: &[PackedEntry])
     }
 }
 
-/// Entries, and the start leaves where the batch is the first.
+/// Entries, and the start leaves if the batch is the first.
 #[derive(Drop)]
 pub struct Batch {
     /// All of them in memory.
@@ -183,7 +183,7 @@ impl Batch {
         }
     }
 
-    /// The same, where the start leaves wait.
+    /// A batch of these entries, with start leaves that wait, if it brings them.
     pub(crate) fn of(start: Option<Start>, entries: Vec<PackedEntry>) -> Batch
         requires here { ForSome start (λ leaves. leaves.evicted ≡ []) }
         ensures { result ≡ record { start = start; entries = entries.items } }
@@ -292,7 +292,7 @@ impl Posts {
     }
 }
 
-// Adds a batch to a board, which is made first where there is none.
+// Adds a batch to a board, which is made first if there is none.
 fn bring(alloc: Global, board: &mut Option<Board>, batch: &Batch) -> Result<(), AllocError>
     ensures ok { OnOk result (board.new ≡ brings board.old batch.now) }
     ensures unchanged { OnErr result (board.new ≡ board.old) }

@@ -1,6 +1,6 @@
 //! The book of all batches of a store, and beginnings of it.
 //!
-//! A reader must never go back behind what it saw or was told, and it learns that in threads that
+//! A reader must never go back before what it saw or heard, and it learns that in threads that
 //! share no lock. The book only grows, so whoever saw it has a beginning of it, its front, and of
 //! two fronts one is a beginning of the other. That is all that a reader has to compare. The
 //! batches themselves take no bytes there: what is shared is one word, which counts them.
@@ -107,7 +107,7 @@ impl Front {
         self.count
     }
 
-    /// The same front.
+    /// A copy of this front.
     pub fn again(&self) -> Front
         ensures { result ≡ self.now }
     {
@@ -131,7 +131,7 @@ impl Front {
         false
     }
 
-    /// Enters a batch behind all that was seen, where the book has no more.
+    /// Enters a batch after all that was seen, if the book has no more.
     pub fn add(&mut self, head: &Head, batch: &Batch) -> bool
         requires room { length self.old.log < 2 ^ 62 }
         requires own { head.now.word.book ≡ self.old.book }

@@ -1,4 +1,4 @@
-//! Laws of the definitions alone. Their functions do nothing.
+//! Laws of the definitions only. Their functions do nothing.
 
 ghost use Rattle.bw_versions.specs.Laws.{AreJoined};
 

@@ -49,8 +49,8 @@ fn hand_over(writer: &mut VersionWriter, waiting: &mut Option<Operation>) -> Res
     }
 }
 
-// Enters a batch in the book. It comes back where the book has more than was seen, which it never
-// has: its word is here alone.
+// Enters a batch in the book. It comes back if the book has more than was seen, which it never has:
+// its word is here only.
 fn enter(head: &Head, front: &mut Front, batch: Batch) -> Result<Operation, Batch>
     requires { head.now.word.book ≡ front.old.book }
     ensures entered { IfOk result (λ o. (o.batch ≡ batch) × (o.mark ≡ front.new)
@@ -92,7 +92,7 @@ fn post(
     }
 }
 
-/// What a store publishes by. It is ended by `shut` alone.
+/// What a store publishes by. It is ended only by `shut`.
 pub struct Publisher {
     writer: VersionWriter,
     head: Head,
@@ -174,8 +174,8 @@ impl Publisher {
         Ok(())
     }
 
-    /// Publishes what was refused before; where nothing was, nothing is done. It may wait for
-    /// readers. A refused growth is the only error.
+    /// Publishes what was refused before; if nothing was, nothing is done. It may wait for readers.
+    /// A refused growth is the only error.
     pub fn catch_up<R: Wait>(&mut self, rt: &R) -> Result<(), AllocError>
         ensures same { (self.new.entered ≡ self.old.entered)
             × (self.new.places ≡ self.old.places) }

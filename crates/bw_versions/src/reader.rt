@@ -1,8 +1,8 @@
 //! Readers, and news.
 //!
 //! A reader looks at the board that is shown, and the two boards change places while it asks. What
-//! it saw last, and what news told it, are fronts of one book: an answer whose front is shorter is
-//! none. Without that, a thread that was told of a record could ask for it and be shown the board
+//! it saw last, and what it heard by news, are fronts of one book: an answer whose front is shorter
+//! is none. Without that, a thread that heard of a record could ask for it and be shown the board
 //! before.
 
 ghost use Rattle.std.specs.Prelude.{◌≡◌, ◌⊎◌, OnOk, OnErr, IfOk, IfSome};
@@ -98,7 +98,7 @@ impl<L: Looker> ReaderOf<L> {
     /// The value of a key in what was published, if it has one; before the first publication none
     /// has. No memory is taken.
     ///
-    /// Refused where the reader's place was not entered: its store is shut.
+    /// Refused if the reader's place was not entered: its store is shut.
     pub fn get(&mut self, key: &Key) -> Result<Option<Value>, NoReader>
         ensures reads { OnOk result (Reads self.old self.new) }
         ensures answer { IfOk result (λ v. v ≡ value_in (posted_of self.new.seen) key.now) }
@@ -229,7 +229,7 @@ fn looked<L: Looker, Q: Question>(
     let (answer, mark) = replace_with(inner, (seen, question), |reader, asked| {
         reader.look(asked.0, asked.1)
     })?;
-    // What was told was published before, so the machine's steps never bring this about; no clause
+    // What was heard was published before, so the machine's steps never bring this about; no clause
     // of the versions says so.
     if !mark.has(learnt) {
         return None;

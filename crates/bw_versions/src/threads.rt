@@ -1,4 +1,4 @@
-//! That what crosses threads may: the check refuses these functions where it may not.
+//! That what crosses threads may: the check refuses these functions if it may not.
 
 use crate::board::Version;
 use crate::reader::{News, Reader};

@@ -22,7 +22,7 @@ use std::snapshot::Snapshot;
 use std::sync::Wait;
 
 /// What a store publishes by. The history is the store's: of the entries published nothing is kept
-/// but how many they are. It is ended by `shut` alone.
+/// but how many they are. It is ended only by `shut`.
 pub struct Versions {
     alloc: Global,
     publisher: Publisher,
@@ -30,7 +30,7 @@ pub struct Versions {
     start: Option<Start>,
     /// How many entries of the history the book has.
     count: usize,
-    /// The start leaves, which the proof alone knows.
+    /// The start leaves, which only the proof knows.
     began: Snapshot<Start>,
 }
 
@@ -65,7 +65,7 @@ impl Versions {
         Versions::open_at(rt, alloc, places, Start::of(start))
     }
 
-    /// The same, where the start leaves wait already.
+    /// Versions of a store that starts at these leaves, which wait already.
     pub fn open_at<R: Wait>(
         rt: &R,
         alloc: Global,
@@ -97,8 +97,8 @@ impl Versions {
     }
 
     /// Publishes the history up to `end`, all of it at once. `fresh` are its entries that the book
-    /// does not have: they are one batch, and the first also brings the start leaves. Where nothing
-    /// is new, nothing is done. Readers' copies share the bytes of the entries, and look for a record
+    /// does not have: they are one batch, and the first also brings the start leaves. If nothing is
+    /// new, nothing is done. Readers' copies share the bytes of the entries, and look for a record
     /// on the page that was guessed for its entry.
     ///
     /// It may wait for readers. A refused growth is the only error: then what is published stays,
@@ -163,8 +163,8 @@ impl Versions {
 
     /// One more reader, which saw nothing.
     ///
-    /// Refused `NoReader` exactly where no place is left: a dropped reader frees none. Else a
-    /// refused growth is the only error.
+    /// Refused `NoReader` exactly if no place is left: a dropped reader frees none. Else a refused
+    /// growth is the only error.
     pub fn reader(&mut self) -> Result<Reader, ReadFault>
         ensures made { IfOk result (λ r.
             r ≡ record { book = self.old.book; seen = []; learnt = [] }) }
@@ -189,7 +189,7 @@ impl Versions {
     }
 }
 
-// The same entries, which share their bytes with these.
+// Copies of these entries, which share their bytes.
 fn copies(alloc: Global, entries: &[PackedEntry]) -> Result<Vec<PackedEntry>, AllocError>
     ensures { IfOk result (λ v. v.items ≡ entries.now) }
 {

@@ -1,10 +1,10 @@
 //! The readers' rule, and one read.
 //!
-//! Two versions change places at a publication, and news of it go another way: so a reader may
-//! have learnt of batches that the version which it enters does not show. An answer from there
-//! would go back behind what the reader was told. Each version has a mark of how far into the book
-//! it goes, and the read gives that mark with its answer: whoever asked compares it with what was
-//! seen and learnt before, and counts a shorter one as not entered.
+//! Two versions change places at a publication, and news of it go another way: so a reader may have
+//! learnt of batches that the version which it enters does not show. An answer from there would go
+//! back before what the reader heard. Each version has a mark of how far into the book it goes, and
+//! the read gives that mark with its answer: whoever asked compares it with what was seen and
+//! learnt before, and counts a shorter one as not entered.
 
 ghost use Rattle.std.specs.Prelude.{◌≡◌, IfSome};
 ghost use mathlib.Core.List.{IsPrefix};
@@ -33,7 +33,7 @@ impl Protocol<Version, View> for OneBook {
     ghost first = { None };
 }
 
-/// What an entry, and a publication, tells.
+/// What an entry, and a publication, says.
 pub struct Looks;
 
 impl Outcome<Version, View> for Looks {
@@ -132,7 +132,7 @@ pub trait Looker: Drop {
 
     ghost knows: { Self → Option Reach };
 
-    /// Asks by a seat that knows its book: the answer, and the front of what was asked. Where the
+    /// Asks by a seat that knows its book: the answer, and the front of what was asked. If the
     /// versions have ended it is none.
     fn look<Q: Question>(self, seen: &Front, question: &Q) -> (Self, Option<(Q::Answer, Front)>)
         requires { Beyond seen.now (knows self) }

@@ -1,8 +1,8 @@
 //! The writer of the versions, what it takes, and the readers that it makes.
 //!
 //! It has two versions, and each publication is applied to both: first to the one that readers do
-//! not look at, and to the other once they look at this one. A reader that is made later is told
-//! the book at once, and has seen nothing of it: it may be shown any board.
+//! not look at, and to the other once they look at this one. A reader that is made later hears the
+//! book at once, and has seen nothing of it: it may be shown any board.
 
 ghost use Rattle.std.specs.Prelude.{◌≡◌, [], Some, IfOk, MatchResult, drop};
 ghost use Rattle.left_right.specs.Sides.{view};
@@ -59,7 +59,7 @@ pub fn publish<R: Wait>(writer: VersionWriter, rt: &R) -> (VersionWriter, Result
     writer.publish_as::<Looks, R>(rt)
 }
 
-// The writer keeps what it knows, and tells the book alone.
+// The writer keeps what it knows, and says only the book.
 struct ItsBook;
 
 impl Split<View> for ItsBook {
@@ -70,7 +70,7 @@ impl Split<View> for ItsBook {
     ghost right = { fresh };
 }
 
-// A reader that knew nothing knows what it was told.
+// A reader that knew nothing knows what it heard.
 struct AsTold;
 
 impl Join<View> for AsTold {
@@ -81,7 +81,7 @@ impl Join<View> for AsTold {
     ghost spent = { None };
 }
 
-/// One more reader, which is told its book at once.
+/// One more reader, which hears its book at once.
 pub fn informed(writer: &mut VersionWriter) -> Result<VersionReader, AllocError>
     ensures view { IfOk result (λ r. view r.place ≡ fresh (view writer.old.desk.place)) }
     ensures kept { (view writer.new.desk.place ≡ view writer.old.desk.place)

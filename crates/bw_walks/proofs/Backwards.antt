@@ -56,7 +56,7 @@ below_longer : (front : Bytes) (b : ℕ) → Below front (front ++ b ∷ [])
 below_longer [] b = refl
 below_longer (x ∷ xs) b = same_first x x xs (xs ++ b ∷ []) refl ∙ below_longer xs b
 
--- and where that byte is 0, nothing is between
+-- and if that byte is 0, nothing is between
 none_above_front : (front q : Bytes) → Below q (front ++ 0 ∷ []) → UpTo q front
 none_above_front front [] b = upto_empty front
 none_above_front [] (y ∷ ys) b = elim (first_or_rest y 0 ys [] b) [ inl less ↦ absurd (omega arith) | inr same ↦ not_both (is_below ys []) same.1 (upto_empty ys) ]
@@ -71,7 +71,7 @@ below_less : (front rest : Bytes) (b : ℕ) → Below (front ++ b ∷ rest) (fro
 below_less [] rest b = below_first b (suc b) rest [] (omega arith)
 below_less (x ∷ xs) rest b = same_first x x (xs ++ b ∷ rest) (xs ++ suc b ∷ []) refl ∙ below_less xs rest b
 
--- and where the greatest bytes follow, nothing is between
+-- and if the greatest bytes follow, nothing is between
 none_above_filled : (front q : Bytes) (b n : ℕ) → IsBytes q → length q ≤ length front + 1 + n → Below q (front ++ suc b ∷ []) → UpTo q (front ++ b ∷ filled n)
 none_above_filled front [] b n bytes few h = upto_empty (front ++ b ∷ filled n)
 none_above_filled [] (y ∷ ys) b n bytes few h =
@@ -156,7 +156,7 @@ none_within reach key q p ps u b r =
       all-map (λ y. Below p.0 y.0) (λ y. eq_by_cmp order q y.0 ≡ false) (λ y h. below_apart q y.0 (below-trans q p.0 y.0 under h)) ps r,
     )
 
--- where the search ended at a pair with the key itself
+-- if the search ended at a pair with the key itself
 last_at : (reach : Reach) (key : Bytes) (p : Bytes × Bytes) (ps : Pairs) → key ≡ p.0 → All (λ y. Below p.0 y.0) ps
     → IsLastOn reach key (p ∷ ps) (pair_before (count_of (Ok 0) reach) (p ∷ ps))
 last_at With key p ps same r = record {
@@ -171,7 +171,7 @@ last_at Without key p ps same r = λ q w.
       all-map (λ y. Below p.0 y.0) (λ y. eq_by_cmp order q y.0 ≡ false) (λ y h. below_apart q y.0 (below-trans q p.0 y.0 under h)) ps r,
     )
 
--- the pair before the place that a search tells is the last within reach
+-- the pair before the place that a search finds is the last within reach
 pub last_sought : (reach : Reach) (key : Bytes) (ps : Pairs) → Rises ps → count_of (seek_of key ps) reach ≤ length ps
     → IsLastOn reach key ps (pair_before (count_of (seek_of key ps) reach) ps)
 last_sought reach key [] r few = λ q w. refl
@@ -330,7 +330,7 @@ split_last key some =
     let whole : take (length key - 1 + 1) key ≡ key = take_all (length key - 1 + 1) key (omega arith) in
     sym whole ∙ take_more key (length key - 1) 0 (omega arith)
 
--- a row of the greatest byte, with a front and a byte behind it written over
+-- a row of the greatest byte, with a front and a byte after it written over
 written_over : (mid front row rest : Bytes) (x at b : ℕ) → mid ≡ front → length front ≡ at → drop at row ≡ x ∷ rest
     → set (mid ++ drop at row) at b ≡ front ++ b ∷ rest
 written_over mid front row rest x at b same long e =
@@ -374,12 +374,12 @@ pub front_or_none : (front : Bytes) → (front ≡ []) ⊎ (1 ≤ length front)
 front_or_none [] = inl refl
 front_or_none (x ∷ xs) = inr (omega arith)
 
--- ---- what a look tells
+-- ---- what a look says
 
 pub base_at : (m page : ℕ) (leaves : List Leaf) (leaf : Leaf) → AreLeaves m leaves → leaf_at page leaves ≡ Some leaf → IsBase m leaf
 base_at m page leaves leaf a e = all_at (IsBase m) page leaves leaf a.each e
 
--- what was told of pages that stay, by the look that it was
+-- what was said of pages that stay, by the look that it was
 pub told_as : (reach : Reach) (key : Bytes) (page : ℕ) (was now : Shown) (look is : Look) → was ≡ now → look ≡ is
     → TellsOfPage reach key page was.leaves look → TellsOfPage reach key page now.leaves is
 told_as reach key page was now look is same e h =

@@ -22,16 +22,16 @@ pub record IsGreatestPair (value_of : Bytes → Option Bytes) (Meant : Bytes →
   pub meant : Meant pair.0
   pub none : (q : Bytes) → Meant q → IsTrue (is_below pair.0 q) → value_of q ≡ None
 
--- the pair with the greatest key that is meant, where one of them has a value
+-- the pair with the greatest key that is meant, if one of them has a value
 abbrev pub IsGreatest : (Bytes → Option Bytes) → (Bytes → Type 0) → Option (Bytes × Bytes) → Type 0
 IsGreatest value_of Meant None = (q : Bytes) → Meant q → value_of q ≡ None
 IsGreatest value_of Meant (Some pair) = IsGreatestPair value_of Meant pair
 
--- the pair of a map with the greatest key at or below this one, where there is one
+-- the pair of a map with the greatest key at or below this one, if there is one
 abbrev pub IsLast : Map → Bytes → Option (Bytes × Bytes) → Type 0
 IsLast map key pair = IsGreatest (λ q. finite.get map q) (λ q. is_below key q ≡ false) pair
 
--- the pair of a map with the greatest key below this one, where there is one
+-- the pair of a map with the greatest key below this one, if there is one
 abbrev pub IsLastBelow : Map → Bytes → Option (Bytes × Bytes) → Type 0
 IsLastBelow map key pair = IsGreatest (λ q. finite.get map q) (λ q. IsTrue (is_below q key)) pair
 
@@ -42,17 +42,17 @@ abbrev pub IsInReach : Reach → Bytes → Bytes → Type 0
 IsInReach With key q = is_below key q ≡ false
 IsInReach Without key q = IsTrue (is_below q key)
 
--- how many pairs of a page are in reach, where the search for the key ended so
+-- how many pairs of a page are in reach, if the search for the key ended so
 abbrev pub count_of : Result ℕ ℕ → Reach → ℕ
 count_of (Ok at) With = suc at
 count_of (Ok at) Without = at
 count_of (Err at) reach = at
 
--- the pair of a page with the greatest key in reach, where there is one
+-- the pair of a page with the greatest key in reach, if there is one
 abbrev pub IsLastOn : Reach → Bytes → Pairs → Option (Bytes × Bytes) → Type 0
 IsLastOn reach key pairs pair = IsGreatest (λ q. find order q pairs) (IsInReach reach key) pair
 
--- what a look at a page tells: its last pair in reach; or that there is none, and the page's low
+-- what a look at a page says: its last pair in reach; or that there is none, and the page's low
 abbrev pub TellsOn : Reach → Bytes → Leaf → Look → Type 0
 TellsOn reach key leaf (Found pair) = IsLastOn reach key leaf.pairs (Some pair)
 TellsOn reach key leaf (Before low) = IsLastOn reach key leaf.pairs None × (low ≡ leaf.low)
@@ -84,7 +84,7 @@ abbrev pub HasComeTo : Map → List Leaf → Reach → Bytes → Leaf → Type 0
 HasComeTo map leaves reach key leaf =
     (q : Bytes) → IsInReach reach key q → IsTrue (is_below leaf.low (home q leaves).low) → finite.get map q ≡ None
 
--- the same of a page
+-- a walk back has come to the leaf of this page, which is there
 abbrev pub HasComeBack : Map → List Leaf → Reach → Bytes → ℕ → Type 0
 HasComeBack map leaves reach key page = IsSomeAnd (leaf_at page leaves) (HasComeTo map leaves reach key)
 

@@ -13,13 +13,13 @@ use bw_codec::{Key, Leaf, Pair, Value};
 use bw_leaf::find_key;
 use bw_page::Leaves;
 
-/// Whether a walk back may answer the key that it begins at: it may where nothing was answered yet,
-/// and not where it goes on behind the pair of that key.
+/// Whether a walk back may answer the key that it begins at: it may if nothing was answered yet,
+/// and not if it goes on after the pair of that key.
 #[derive(Clone, Copy)]
 pub enum Reach {
     /// The keys at or below it are in reach.
     With,
-    /// Those below it alone.
+    /// Only those below it.
     Without,
 }
 
@@ -34,7 +34,7 @@ pub enum Look {
     End,
 }
 
-/// The greatest key below this one; `None` where there is none.
+/// The greatest key below this one; `None` if there is none.
 fn last_below(key: &Key) -> Option<Key>
     ensures some { IfSome result (λ last. IsNextBelow key.now last) }
     ensures none { result ≡ None → key.now ≡ 0 ∷ [] }
@@ -61,7 +61,7 @@ pub fn page_before(leaves: &Leaves, low: &Key) -> u32
         return 1;
     };
     match leaves.low_above(&last) {
-        // That it is a key tells the proof that no low stands between the two.
+        // That it is a key shows the proof that no low stands between the two.
         Some(next) => {
             let _ = next.head(); // For the proof.
             let _ = next.as_slice(); // For the proof.
@@ -71,7 +71,7 @@ pub fn page_before(leaves: &Leaves, low: &Key) -> u32
     }
 }
 
-/// How many of a page's pairs are in reach, where the search for the key ended so.
+/// How many of a page's pairs are in reach, if the search for the key ended so.
 fn count_within(pairs: &[Pair], found: Result<usize, usize>, reach: Reach) -> usize
     requires { IsWithin (length pairs.now) found }
     ensures count { result ≡ count_of found reach }
@@ -103,8 +103,8 @@ fn last_pair(leaf: &Leaf, key: &Key, reach: Reach) -> Option<(Key, Value)>
 /// What a walk back from a key finds on this page, which is that of the key, or one before it. It
 /// takes no memory: a pair that is found is a copy. It costs a search among the page's pairs.
 ///
-/// Where it finds none and the page is not the first, the walk goes on with `page_before` of the
-/// low that is told. It comes to an end: each page's low is below the last one's.
+/// If it finds none and the page is not the first, the walk goes on with `page_before` of the low
+/// that is given. It comes to an end: each page's low is below the last one's.
 pub fn found_on(leaf: &Leaf, key: &Key, reach: Reach) -> Look
     requires ascends { IsTrue (ascends leaf.now.pairs) }
     requires low { length leaf.now.low ≤ 128 }

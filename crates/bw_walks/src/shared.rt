@@ -27,7 +27,7 @@ fn first_from(pairs: &Pairs, key: &Key) -> usize
 }
 
 /// Reads the first byte of each run, which may be far away in memory: the processor waits for many
-/// of them at once. What it answers is of no use; but the reads are made only where it is used.
+/// of them at once. What it answers is of no use; but the reads are made only if it is used.
 fn read_runs(pairs: &[Pair]) -> usize {
     let mut sum = 0;
     for pair in pairs {
@@ -50,9 +50,8 @@ fn push_shared(found: &mut Vec<Pair>, pairs: &[Pair]) -> Result<(), AllocError>
 /// Adds the pairs of a page at or above a key, in order, until `found` has so many: what stood
 /// there is counted too, and stays.
 ///
-/// It costs a search among the page's pairs, and a look at each that is added. Refused where
-/// `found` does not grow, or the count of those that share a pair is full; some pairs may be added
-/// then.
+/// It costs a search among the page's pairs, and a look at each that is added. Refused if `found`
+/// does not grow, or the count of those that share a pair is full; some pairs may be added then.
 pub fn share_pairs(
     leaf: &Leaf,
     key: &Key,
@@ -71,7 +70,8 @@ pub fn share_pairs(
     push_shared(found, pairs)
 }
 
-/// The same of the page on which a record of the key would stand, where no page is evicted.
+/// Adds the pairs at or above a key of the page on which a record of the key would stand, in order,
+/// until `found` has so many. No page is evicted.
 fn share_home(
     leaves: &Leaves,
     key: &Key,
@@ -89,8 +89,8 @@ fn share_home(
     }
 }
 
-/// Puts the pairs at or above a key into `found`, in order and no more than so many, where no page
-/// is evicted. What stood in `found` is dropped before.
+/// Puts the pairs at or above a key into `found`, in order and no more than so many; no page is
+/// evicted. What stood in `found` is dropped before.
 ///
 /// It costs a search and a look for each page, and a look at each pair. Refused as `share_pairs`
 /// is; `found` then has some of the pairs.

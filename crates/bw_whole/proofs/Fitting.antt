@@ -1,4 +1,4 @@
--- A page fits an empty frame, and stands behind all others.
+-- A page fits an empty frame, and stands after all others.
 
 use Rattle.std.proofs.Common.{◌≡◌, ℕ, ◌≤◌, true, List, [], ◌∷◌, ◌++◌, refl, arith}
 use Rattle.bw_record.specs.declared.block.Block.{Block}

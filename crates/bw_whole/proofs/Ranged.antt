@@ -1,4 +1,4 @@
--- Pages whose pairs ascend one behind the other are lawful: each key lies in its page's range.
+-- Pages whose pairs ascend one after the other are lawful: each key lies in its page's range.
 
 use Rattle.std.proofs.Common.{◌≡◌, ℕ, ◌+◌, ◌≤◌, ◌==◌, Bool, false, if◌then◌else◌, IsTrue, List, [], ◌∷◌, ◌++◌, length, refl, sym, ap, ◌∙◌, subst, arith}
 use Rattle.std.proofs.lemmas.Bool.Decides.{nat_tests}
@@ -93,7 +93,7 @@ swapped : {X Y : Type 0} (R : X → Y → Type 0) (xs : List X) (ys : List Y) �
 swapped R [] ys h = all-always (λ y. Unit {0}) (λ y. tt) ys
 swapped R (x ∷ xs) ys h = all-zip (R x) (λ y. All (λ z. R z y) xs) (λ y. R x y × All (λ z. R z y) xs) (λ y a b. (a, b)) ys h.0 (swapped R xs ys h.1)
 
--- a leaf behind the first one: it has a pair, and begins at its first key
+-- a leaf after the first one: it has a pair, and begins at its first key
 abbrev Later : Leaf → Type 0
 Later l = (1 ≤ length l.pairs) × (l.low ≡ first_key l.pairs)
 

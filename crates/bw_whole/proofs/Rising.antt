@@ -1,4 +1,4 @@
--- One more pair behind pairs that ascend.
+-- One more pair after pairs that ascend.
 
 use Rattle.std.proofs.Common.{◌≡◌, ℕ, zero, suc, ◌-◌, ◌&&◌, Bool, true, false, Some, List, [], ◌∷◌, ◌++◌, length, refl, ap, ◌∙◌, arith, slice_get}
 use Rattle.bw_record.specs.Keys.{is_below, ascends}

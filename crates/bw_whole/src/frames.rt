@@ -1,6 +1,6 @@
 //! Pages in frames, and frames in segments.
 //!
-//! Each begins the next one where it would be too long. All that may be refused is asked before
+//! Each begins the next one if it would be too long. All that may be refused is asked before
 //! anything changes, so that a refusal leaves what stands as it was.
 
 ghost use Rattle.std.specs.Prelude.{◌≡◌, ◌≤◌, ◌+◌, ◌++◌, ◌∷◌, [], true, false, if◌then◌else◌, length, OnOk, OnErr, IfOk, IfErr};
@@ -47,7 +47,7 @@ impl Model for Frames {
     ghost invariant = { IsFramed };
 }
 
-// Appends where there is room.
+// Appends if there is room.
 fn push(out: &mut Vec<u8>, bytes: &[u8])
     requires { HasRoom out.old (length bytes.now) }
     ensures { Adds out.old out.new bytes.now }
@@ -198,7 +198,7 @@ impl Frames {
         ensures spent { IfErr result (λ cause. cause ≡ FaultValue.Spent → IsLastFrame self.old) }
         ensures err { OnErr result (self.new ≡ self.old) }
     {
-        // Both calls tell the proof that each page fits an empty frame.
+        // Both calls show the proof that each page fits an empty frame.
         largest_blocks();
         let _ = self.filling.limit();
         if self.filling.has_room(slice::from_ref(page)) {
@@ -207,7 +207,7 @@ impl Frames {
         self.end_frame()
     }
 
-    /// Puts a page, a Base, behind all others. A refusal changes nothing.
+    /// Puts a page, a Base, after all others. A refusal changes nothing.
     pub fn put(&mut self, page: &Block) -> Result<(), WholeFault>
         requires { IsPageBlock 32 page.now }
         ensures ok { OnOk result (self.new ≡ with_page self.old page.now) }

@@ -207,7 +207,7 @@ impl Writer {
         requires next { is_next self.old pair ≡ true }
         ensures { self.new ≡ record self.old { page = page_with self.old.page pair } }
     {
-        // The calls tell the proof how long both are at most.
+        // The calls show the proof how long both are at most.
         let _ = (pair.key().len(), pair.value().len());
         self.pairs.push_reserved(pair);
     }

@@ -15,7 +15,7 @@ pub fn write_found<O: Write>(out: &mut Printer<'_, O>, found: Found) {
     out.line(" tail ", found.tail);
 }
 
-/// Prints these lines alone, where something was found.
+/// Prints only these lines, if something was found.
 pub fn print_found<O: Write>(output: &mut O, found: Option<Found>) -> Result<(), Stop> {
     let mut out = Printer::new(output);
     if let Some(found) = found {

@@ -49,7 +49,7 @@ pub enum View {
     Frames,
 }
 
-/// How it is told what comes of a folder.
+/// How it is said what comes of a folder.
 #[derive(Debug, Clone, Copy, PartialEq, Eq)]
 pub enum Report {
     Lines,
@@ -72,7 +72,7 @@ pub enum Mode<'a> {
     Scan(Option<&'a str>),
     /// The segments of a folder, or lines in hex, are shown in this view.
     Look(View, Option<&'a str>),
-    /// A folder is verified; what comes of it is told as an object of JSON, or in lines.
+    /// A folder is verified; what comes of it is said as an object of JSON, or in lines.
     Verify(&'a str, Report),
     /// A folder is copied as it is.
     Copy(Ends<'a>),
@@ -127,7 +127,7 @@ impl Ends<'_> {
 }
 
 impl<'a> Mode<'a> {
-    /// The mode as it is on a terminal, where a shell has a prompt.
+    /// The mode as it is on a terminal, if a shell has a prompt.
     pub fn on_terminal(self) -> Mode<'a> {
         match self {
             Mode::Lines(options, Manner::Shell) => Mode::Lines(options, Manner::Prompted),
@@ -143,7 +143,7 @@ impl<'a> Mode<'a> {
         }
     }
 
-    /// What an operator is told of it.
+    /// What an operator hears of it.
     pub fn hearing(&self) -> Hearing {
         match self {
             Mode::Lines(options, _) => options.hearing,
@@ -212,7 +212,7 @@ pub struct Options<'a> {
     /// The store: 2 to 64 segments at the beginning, with room for 65,560 to 16,777,216 bytes each; in
     /// a folder up to 4,096, and up to 1 GiB.
     pub store: bw_home::Options,
-    /// The folder in which they are; in memory where there is none.
+    /// The folder in which they are; in memory if there is none.
     pub dir: Option<&'a str>,
     /// Whether a segment that was given up comes back as the last spare.
     pub reuse: bool,
@@ -225,7 +225,7 @@ pub struct Options<'a> {
     pub gives_m: bool,
     /// Whether `f` was given.
     pub gives_f: bool,
-    /// What an operator is told of it.
+    /// What an operator hears of it.
     pub hearing: Hearing,
 }
 
@@ -236,11 +236,11 @@ pub struct Pace {
     pub limit: u32,
     /// After how many turns a flush comes, 1 to 4,096.
     pub flush_every: u32,
-    /// After a flush the oldest segment is given up where so many are live, 0 to 64; 0 for never.
+    /// After a flush the oldest segment is given up if so many are live, 0 to 64; 0 for never.
     pub clean_at: u32,
     /// How often a group is tried, and how many turns there are, at most: 1 to 1,000,000,000.
     pub tries: u32,
-    /// Whether the history leaves memory behind each flush.
+    /// Whether the history leaves memory after each flush.
     pub forgets: bool,
     /// How many readers look keys up meanwhile, 0 to 64.
     pub readers: u32,

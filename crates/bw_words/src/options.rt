@@ -40,11 +40,11 @@ fn with_range<'a>(option: Arg<'a>, least: i64, most: i64) -> Arg<'a> {
 enum Room {
     /// Wherever it is.
     Anywhere,
-    /// In memory, where they are smaller and fewer.
+    /// In memory, in which they are smaller and fewer.
     Memory,
 }
 
-/// The greatest value of a number, where its segments stand here.
+/// The greatest value of a number, if its segments stand here.
 fn most_in(row: &Row, most: i64, room: Room) -> i64 {
     match (room, row.name) {
         (Room::Memory, "capacity") => most.min(i64::from(LARGE.capacity)),
@@ -185,7 +185,7 @@ pub fn texts_in<'a>(
     Ok(texts)
 }
 
-/// How large pages and segments are where nothing is said of them.
+/// How large pages and segments are if nothing is said of them.
 #[derive(Clone, Copy)]
 struct Size {
     m: u16,
@@ -212,7 +212,7 @@ fn size_of(found: &ArgMatches<'_>) -> Size {
     }
 }
 
-/// The most bytes of a frame where nothing is said of them: in memory the fewest that are allowed.
+/// The most bytes of a frame if nothing is said of them: in memory the fewest that are allowed.
 fn frame_of(found: &ArgMatches<'_>, capacity: u32) -> u32 {
     match dir_of(found) {
         Some(_) => frame_in_folder(u64::from(capacity)),
@@ -225,7 +225,7 @@ fn number_in(found: &ArgMatches<'_>, name: &str, none: u32) -> u32 {
     found.get_one(name).unwrap_or(none)
 }
 
-/// What the words behind `replay`, `serve` or `threads` say of a store; a program is one writer.
+/// What the words after `replay`, `serve` or `threads` say of a store; a program is one writer.
 fn store_of(found: &ArgMatches<'_>, size: Size) -> bw_home::Options {
     let m: Option<u16> = found.get_one("m");
     let capacity = number_in(found, "capacity", size.capacity);
@@ -265,7 +265,7 @@ fn found_of<'a>(found: &ArgMatches<'a>, size: Size, most: u32) -> Options<'a> {
     }
 }
 
-/// What the words behind `shell` say: the store is as large as one that is served.
+/// What the words after `shell` say: the store is as large as one that is served.
 fn shell_of<'a>(found: &ArgMatches<'a>) -> Options<'a> {
     let other = bw_home::Options::default();
     Options {
@@ -286,7 +286,7 @@ fn shell_of<'a>(found: &ArgMatches<'a>) -> Options<'a> {
     }
 }
 
-/// What the words behind `threads` say of its writers.
+/// What the words after `threads` say of its writers.
 fn pace_of<'a>(found: &ArgMatches<'a>) -> Pace {
     Pace {
         limit: found.get_one("limit").unwrap_or(0),
@@ -332,7 +332,7 @@ fn as_of<'a>(found: &ArgMatches<'a>) -> AsOf<'a> {
     }
 }
 
-/// What the words behind `copy` say. The new store of `--compact` has one writer.
+/// What the words after `copy` say. The new store of `--compact` has one writer.
 fn copy_of<'a>(found: &ArgMatches<'a>) -> Mode<'a> {
     if !found.get_flag("compact") {
         return Mode::Copy(ends_of(found));
@@ -352,7 +352,7 @@ fn copy_of<'a>(found: &ArgMatches<'a>) -> Mode<'a> {
     )
 }
 
-/// How it is told what comes of a folder.
+/// How it is said what comes of a folder.
 fn report_of(found: &ArgMatches<'_>) -> Report {
     match text_in(found, "format") {
         Some("json") => Report::Json,
@@ -360,7 +360,7 @@ fn report_of(found: &ArgMatches<'_>) -> Report {
     }
 }
 
-/// What the words behind `follow` say.
+/// What the words after `follow` say.
 fn follow_of<'a>(found: &ArgMatches<'a>) -> Mode<'a> {
     let every = if found.get_flag("once") {
         None

@@ -458,7 +458,7 @@ fn del_in<'a>(alloc: Global, found: &ArgMatches<'a>) -> Result<Task<'a>, AllocEr
     Ok(Task::Del(words))
 }
 
-/// The mode that gets or deletes keys, where it was found.
+/// The mode that gets or deletes keys, if it was found.
 fn some_in<'a>(alloc: Global, matches: &ArgMatches<'a>) -> Result<Option<Mode<'a>>, AllocError> {
     if let Some(found) = matches.subcommand_matches("get") {
         let words = texts_in(alloc, found, "KEY")?;
@@ -479,7 +479,7 @@ fn put_in<'a>(found: &ArgMatches<'a>) -> Task<'a> {
     )
 }
 
-/// The mode over the keys of a folder, where one was found.
+/// The mode over the keys of a folder, if one was found.
 pub fn keys_in<'a>(
     alloc: Global,
     matches: &ArgMatches<'a>,

@@ -28,7 +28,7 @@ pub fn write_long_word<O: Write>(out: &mut Printer<'_, O>, bytes: &[u8]) {
     }
 }
 
-/// Prints a line of a text with a number or a name behind it.
+/// Prints a line of a text with a number or a name after it.
 pub fn print<O: Write, D: Display + Copy + Drop>(
     output: &mut O,
     text: &str,
@@ -49,7 +49,7 @@ pub fn write_pairs<O: Write>(out: &mut Printer<'_, O>, pairs: &[(Key, Value)]) {
     }
 }
 
-/// The line of a pair, where there is one.
+/// The line of a pair, if there is one.
 pub fn write_pair_line<O: Write>(out: &mut Printer<'_, O>, pair: Option<&(Key, Value)>) {
     match pair {
         Some((key, value)) => {

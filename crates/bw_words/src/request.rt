@@ -56,7 +56,7 @@ pub enum Request {
     Durable,
     /// All numbers of the store.
     Stats,
-    /// The folder is opened once more, behind a failed append.
+    /// The folder is opened once more, after a failed append.
     Reopen,
     /// A copy in a new folder, whose path is a text in these bytes.
     Backup(Value),
@@ -65,7 +65,7 @@ pub enum Request {
 }
 
 impl Request {
-    /// Whether its answer is a receipt, for which a program may wait before it tells others.
+    /// Whether its answer is a receipt, for which a program may wait before it speaks to others.
     pub fn is_receipt(&self) -> bool {
         match self {
             Request::Do(command) => command.is_receipt(),
@@ -119,7 +119,7 @@ fn scan_of(words: &mut SplitWhitespace<'_>, reading: Reading) -> Result<Request,
     }
 }
 
-/// The number of a word or of a value: decimal digits, behind a hyphen if it is below 0.
+/// The number of a word or of a value: decimal digits, after a hyphen if it is below 0.
 pub fn signed_of(text: &str) -> Result<i64, Fault> {
     let digits = text.strip_prefix("-").unwrap_or(text);
     if !digits.bytes().all(|byte| byte.is_ascii_digit()) {

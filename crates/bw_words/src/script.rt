@@ -9,8 +9,8 @@ use thiserror::Error;
 /// The most bytes of a line that is not skipped.
 pub const LONGEST: u32 = 4096;
 
-/// Why a line is no command, or no segment of a scan. Where a line has two faults, the one that
-/// stands first here is told.
+/// Why a line is no command, or no segment of a scan. If a line has two faults, the one that stands
+/// first here is the answer.
 #[derive(Debug, Clone, Copy, Error)]
 pub enum Fault {
     /// Over 4,096 bytes; of a scan over 2,097,152.
@@ -39,7 +39,7 @@ pub enum Fault {
 /// How a word gives its bytes.
 #[derive(Debug, Clone, Copy, PartialEq, Eq)]
 pub enum Reading {
-    /// They are its own, or those of its hex digits behind `0x`.
+    /// They are its own, or those of its hex digits after `0x`.
     Words,
     /// They are its own, whatever these are.
     Raw,
@@ -147,7 +147,7 @@ pub enum OpWords<'a> {
     Del(&'a str),
 }
 
-/// The words of one to four puts and deletes, from the left. There are none behind one that is not
+/// The words of one to four puts and deletes, from the left. There are none after one that is not
 /// there.
 #[derive(Clone, Copy)]
 pub struct Ops<'a> {
@@ -157,7 +157,7 @@ pub struct Ops<'a> {
     fourth: Option<OpWords<'a>>,
 }
 
-/// A put or delete, by the words behind its name.
+/// A put or delete, by the words after its name.
 fn op_of<'a>(name: &str, words: &mut SplitWhitespace<'a>) -> Result<OpWords<'a>, Fault> {
     let Some(key) = words.next() else {
         return Err(Fault::WrongNumberOfWords);
@@ -180,7 +180,7 @@ fn next_op<'a>(words: &mut SplitWhitespace<'a>) -> Result<Option<OpWords<'a>>, F
     }
 }
 
-/// The puts and deletes of a group, by all words behind the writer.
+/// The puts and deletes of a group, by all words after the writer.
 fn grouped_of<'a>(words: &mut SplitWhitespace<'a>) -> Result<Ops<'a>, Fault> {
     let Some(first) = next_op(words)? else {
         return Err(Fault::WrongNumberOfWords);
@@ -196,7 +196,7 @@ fn grouped_of<'a>(words: &mut SplitWhitespace<'a>) -> Result<Ops<'a>, Fault> {
     })
 }
 
-/// What a line of this name puts and deletes, by all words behind the writer.
+/// What a line of this name puts and deletes, by all words after the writer.
 pub fn ops_of<'a>(name: &str, words: &mut SplitWhitespace<'a>) -> Result<Ops<'a>, Fault> {
     let ops = match name {
         "group" => grouped_of(words)?,
@@ -234,7 +234,7 @@ fn push_op(group: &mut Group, reading: Reading, op: Option<OpWords<'_>>) -> Resu
     }
 }
 
-/// The group of these words; the first of them from the left that is wrong is told.
+/// The group of these words; the first of them from the left that is wrong is the fault.
 pub fn group_of(reading: Reading, ops: Ops<'_>) -> Result<Group, Fault> {
     let mut group = Group::one(record_of(reading, ops.first)?);
     push_op(&mut group, reading, ops.second)?;
@@ -282,7 +282,7 @@ pub fn asked_of(name: &str, word: &str, reading: Reading) -> Result<Command, Fau
     }
 }
 
-/// What a name asks for that takes no word, where it is known.
+/// What a name asks for that takes no word, if it is known.
 pub fn alone<T: Drop>(asked: Option<T>, one: Option<&str>) -> Result<T, Fault> {
     match (asked, one) {
         (None, _) => Err(Fault::UnknownCommand),
@@ -347,7 +347,7 @@ pub fn text_up_to(line: &[u8], longest: u32) -> Result<Option<&str>, Fault> {
     }
 }
 
-/// What a line asks for, where there are so many writers; nothing where it is skipped.
+/// What a line asks for, if there are so many writers; nothing if it is skipped.
 pub fn parse(line: &[u8], writers: usize, reading: Reading) -> Result<Option<Command>, Fault> {
     match text_of(line)? {
         Some(text) => Ok(Some(command_of(text, writers, reading)?)),
@@ -355,7 +355,7 @@ pub fn parse(line: &[u8], writers: usize, reading: Reading) -> Result<Option<Com
     }
 }
 
-/// A writer and what it puts, where a line may ask for nothing else; nothing where it is skipped.
+/// A writer and what it puts, if a line may ask for nothing else; nothing if it is skipped.
 pub fn parse_group(line: &[u8], writers: usize) -> Result<Option<(usize, Group)>, Fault> {
     let Some(text) = text_of(line)? else {
         return Ok(None);

@@ -57,7 +57,7 @@ pub enum Stop {
 }
 
 impl Stop {
-    /// A fault of the folder that is read, where another one is written.
+    /// A fault of the folder that is read, if another one is written.
     pub fn of_source(fault: FolderFault) -> Stop {
         match fault {
             FolderFault::NoMemory => Stop::NoMemory,
@@ -150,8 +150,8 @@ fn met_by(refusal: Refusal) -> Met {
     }
 }
 
-/// Prints a refusal, and says what was met. What was asked of the program may go on behind it, but not
-/// behind a refused growth.
+/// Prints a refusal, and says what was met. What was asked of the program may go on after it, but
+/// not after a refused growth.
 pub fn refuse<O: Write>(output: &mut O, refusal: Refusal) -> Result<Met, Stop> {
     if refusal.is_no_memory() {
         return Err(Stop::NoMemory);

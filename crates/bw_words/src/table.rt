@@ -15,7 +15,7 @@ const MOST_LEASES: i64 = MAX_LEASES as i64;
 /// What an option takes.
 #[derive(Clone, Copy)]
 pub enum Kind {
-    /// A number from one to another, and what it is where none is given.
+    /// A number from one to another, and what it is if none is given.
     Number(i64, i64, &'static str),
     /// A number from one to another; the help says what it is if none is given.
     Open(i64, i64),
@@ -38,7 +38,7 @@ pub enum Kind {
     Words,
     /// One text of these or more, if none of these options is given; and none if one is.
     WordsOr(&'static [&'static str]),
-    /// One of these texts, and which where none is given.
+    /// One of these texts, and which if none is given.
     Choice(&'static [&'static str], &'static str),
     /// Nothing.
     Flag,
@@ -494,7 +494,7 @@ pub const FORMS: [Form; 14] = [
     },
 ];
 
-/// What `--help` begins with. A text that was asked for is told as any other that is no run.
+/// What `--help` begins with. A text that was asked for is printed as any other that is no run.
 pub const ABOUT: &str =
     "Keeps keys and values in a folder: put, get, list, import. Runs scripts over the page store, and \
     says what segments hold. (This text goes to standard error, and the exit status is 2.)";
@@ -502,6 +502,6 @@ pub const ABOUT: &str =
 /// The program's version, and that of the format of its segments.
 pub const VERSION: &str = "0.1.0, format 2";
 
-/// The version of the protocol of `serve`. It goes up where a request or an answer that stands
-/// changes; a further request, or a further word behind an answer, is no change.
+/// The version of the protocol of `serve`. It goes up if a request or an answer that stands
+/// changes; a further request, or a further word after an answer, is no change.
 pub const PROTOCOL: u32 = 1;

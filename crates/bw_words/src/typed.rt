@@ -19,7 +19,7 @@ pub enum NotTyped {
     LineTooLong,
     /// A quote has no end.
     OpenQuote,
-    /// What stands behind a backslash is no escape.
+    /// What stands after a backslash is no escape.
     BadEscape,
     UnknownCommand,
     WrongNumberOfWords,
@@ -77,7 +77,8 @@ pub enum Typed {
 #[derive(Drop)]
 struct Word {
     bytes: Vec<u8>,
-    /// Whether it has a quote or an escape: then it is its own bytes, also where these begin with `0x`.
+    /// Whether it has a quote or an escape: then it is its own bytes, also if these begin with
+    /// `0x`.
     is_quoted: bool,
 }
 
@@ -131,11 +132,11 @@ enum At {
 enum Escape {
     /// In none.
     Outside,
-    /// Behind the backslash.
+    /// After the backslash.
     Begun,
-    /// Behind `\x`.
+    /// After `\x`.
     Digits,
-    /// Behind its first digit, which this is.
+    /// After its first digit, which this is.
     Half(u8),
 }
 
@@ -150,7 +151,7 @@ struct Reader {
     escape: Escape,
 }
 
-/// The byte that a letter behind a backslash stands for.
+/// The byte that a letter after a backslash stands for.
 fn escaped(letter: u8) -> Result<u8, NotTyped> {
     match letter {
         b'n' => Ok(b'\n'),
@@ -312,7 +313,7 @@ fn change(item: Record) -> Typed {
     Typed::Request(Request::Do(Command::Put(0, Group::one(item))))
 }
 
-/// What a command asks for that has no word behind it.
+/// What a command asks for that has no word after it.
 fn plain_of(name: &str) -> Result<Typed, NotTyped> {
     match name {
         "count" => Ok(Typed::Request(Request::Count)),
@@ -333,7 +334,7 @@ fn prefix_of(word: &Word) -> Result<Option<Key>, NotTyped> {
     Ok(Some(word.key()?))
 }
 
-/// What a command asks for with one word behind it.
+/// What a command asks for with one word after it.
 fn single_of(name: &str, word: &Word) -> Result<Typed, NotTyped> {
     match name {
         "get" => Ok(Typed::Request(Request::Do(Command::Get(word.key()?)))),
@@ -345,7 +346,7 @@ fn single_of(name: &str, word: &Word) -> Result<Typed, NotTyped> {
     }
 }
 
-/// What a command asks for with two words behind it.
+/// What a command asks for with two words after it.
 fn double_of(name: &str, one: &Word, two: &Word) -> Result<Typed, NotTyped> {
     match name {
         "put" => Ok(change(Record::Put(one.key()?, two.value()?))),

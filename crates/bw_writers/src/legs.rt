@@ -31,10 +31,11 @@ struct Held {
 
 /// What a leg may append, so that a segment holds all of it, and what its groups may cost so far.
 ///
-/// A record costs a Delta, and a Split where its page is cut. At the first cut of a page that stands
-/// before the leg its Split has no more than its pairs and those that came since. From then on it, and
-/// each page that the leg makes, is cut again behind two records or more of its own, and a Split has
-/// two pairs more than they are at most, its low key among them. No Split has more than 17 pairs.
+/// A record costs a Delta, and a Split if its page is cut. At the first cut of a page that stands
+/// before the leg its Split has no more than its pairs and those that came since. From then on it,
+/// and each page that the leg makes, is cut again after two records or more of its own, and a Split
+/// has two pairs more than they are at most, its low key among them. No Split has more than 17
+/// pairs.
 #[derive(Clone, Copy)]
 struct Room {
     /// How many bytes there may be.
@@ -70,7 +71,7 @@ fn longest_of(group: &Group) -> u64 {
     longest
 }
 
-/// The same of all groups of a script.
+/// How many bytes the longest record of all groups of a script has.
 fn longest_among(groups: &[Group]) -> u64 {
     let mut longest: u64 = 0;
     for group in groups {
@@ -79,7 +80,7 @@ fn longest_among(groups: &[Group]) -> u64 {
     longest
 }
 
-/// The same of all scripts.
+/// How many bytes the longest record of all scripts has.
 fn longest_in(scripts: &[Vec<Group>]) -> u64 {
     let mut longest: u64 = 0;
     for script in scripts {
@@ -164,7 +165,7 @@ fn records_of(groups: &[Group]) -> u64 {
     count
 }
 
-/// The group goes behind those of its writer.
+/// The group goes after those of its writer.
 pub fn put_behind(
     scripts: &mut Vec<Vec<Group>>,
     writer: usize,
@@ -211,7 +212,7 @@ impl Legs {
         !self.is_new && self.rest.iter().all(|script| script.is_empty())
     }
 
-    // The next group of a writer, where there is room for it.
+    // The next group of a writer, if there is room for it.
     fn next_of(&mut self, writer: usize, room: &mut Room) -> Option<Group> {
         let script = self.rest.get_mut(writer)?;
         let fits = match script.as_slice().last() {
@@ -244,7 +245,7 @@ impl Legs {
         Ok(leg)
     }
 
-    // A round: a group of each writer goes into the leg, where there is room for it. Answers whether
+    // A round: a group of each writer goes into the leg, if there is room for it. Answers whether
     // one did.
     fn round(&mut self, leg: &mut Vec<Vec<Group>>, room: &mut Room) -> Result<bool, AllocError>
         ensures { vec_len leg.new ≡ vec_len leg.old }
@@ -385,7 +386,7 @@ fn held_by(home: &SharedHome) -> Held
     }
 }
 
-// Lets go of what readers have of the history where the pace wants it.
+// Lets go of what readers have of the history if the pace wants it.
 fn forget_by(home: &mut SharedHome, pace: Pace)
     requires { IsShared home.old holding }
     ensures { IsShared home.new holding }
@@ -421,7 +422,7 @@ impl Legs {
         Ok(())
     }
 
-    // Makes a spare where the options want one: in place of the oldest segment, or a further one.
+    // Makes a spare if the options want one: in place of the oldest segment, or a further one.
     fn make_room<R: Host>(
         &self,
         rt: &R,
@@ -443,8 +444,8 @@ impl Legs {
         make_room(rt, home, options)
     }
 
-    /// Runs legs up to where a spare was made, in place of the oldest segment or as a further one:
-    /// it is one from the next leg on. `None` at the end of all scripts.
+    /// Runs legs until a spare was made, in place of the oldest segment or as a further one: it is
+    /// one from the next leg on. `None` at the end of all scripts.
     pub fn go_on<R: Host>(
         &mut self,
         rt: &R,
@@ -455,7 +456,7 @@ impl Legs {
         requires { IsShared home.old holding }
         ensures { IsShared home.new holding }
     {
-        // Nothing is given up within a leg where its room is to come back.
+        // Nothing is given up within a leg if its room is to come back.
         let within = Pace {
             clean_at: if self.most.is_some() {
                 0

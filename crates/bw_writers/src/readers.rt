@@ -25,7 +25,7 @@ struct Course {
     writer: usize,
     /// Whether it stands in another script, too: then nobody can say what it has in turn.
     is_shared: bool,
-    /// Nothing, as all keys before a publication; then what it has before the run, and behind each
+    /// Nothing, as all keys before a publication; then what it has before the run, and after each
     /// record of its writer: the bytes of a value, or none.
     states: Vec<Option<Vec<u8>>>,
 }
@@ -170,7 +170,7 @@ impl Courses {
         Ok(())
     }
 
-    /// Up to 64 keys of these scripts, those in one script alone, and what each has in turn. Costs a
+    /// Up to 64 keys of these scripts, only those in one script, and what each has in turn. Costs a
     /// look at each of them for each record.
     pub fn of(alloc: Global, scripts: &[Vec<Group>]) -> Result<Courses, AllocError> {
         let mut courses = Courses::none(alloc);
@@ -299,7 +299,7 @@ impl Watch {
         Ok(pairs)
     }
 
-    // Looks all keys up once more, and walks all pages. No answer where memory ran out.
+    // Looks all keys up once more, and walks all pages. No answer if memory ran out.
     fn end(mut self, courses: &Courses) -> Option<Seen> {
         self.round(courses);
         match self.count() {
@@ -316,7 +316,7 @@ impl Watch {
     }
 }
 
-// Looks all keys up again and again, up to where it is over.
+// Looks all keys up again and again, until it is over.
 fn watch_all(reader: Reader, courses: &Courses, is_over: &AtomicBool) -> Option<Seen> {
     let mut watch = Watch::new(reader);
     for _ in 0..u64::MAX {

@@ -21,7 +21,7 @@ pub enum Made {
 }
 
 /// Whether the room of the oldest segment is to come back: so many segments are live as the pace
-/// tells, and it pays.
+/// says, and it pays.
 pub fn is_due(home: &SharedHome, pace: Pace) -> bool
     requires { IsShared home.now holding }
 {
@@ -41,7 +41,7 @@ fn wins(home: &SharedHome, capacity: u64) -> bool
     }
 }
 
-// Whether the oldest segment was given up for a spare; `false` where there was too little room for
+// Whether the oldest segment was given up for a spare; `false` if there was too little room for
 // that.
 fn clean_for_room<R: Host>(rt: &R, home: &mut SharedHome) -> Result<bool, Miss>
     requires { IsShared home.old holding }
@@ -54,7 +54,7 @@ fn clean_for_room<R: Host>(rt: &R, home: &mut SharedHome) -> Result<bool, Miss>
     }
 }
 
-// A further segment, where there are fewer than are added by themselves.
+// A further segment, if there are fewer than are added by themselves.
 fn further<R: Host>(rt: &R, home: &mut SharedHome, most: u32) -> Result<Option<Made>, Miss>
     requires { IsShared home.old holding }
     ensures { IsShared home.new holding }
@@ -70,7 +70,7 @@ fn further<R: Host>(rt: &R, home: &mut SharedHome, most: u32) -> Result<Option<M
     }
 }
 
-// The room of the oldest segment, or a further one where there was too little for that.
+// The room of the oldest segment, or a further one if there was too little for that.
 fn won_or_further<R: Host>(rt: &R, home: &mut SharedHome, most: u32) -> Result<Option<Made>, Miss>
     requires { IsShared home.old holding }
     ensures { IsShared home.new holding }
@@ -81,8 +81,8 @@ fn won_or_further<R: Host>(rt: &R, home: &mut SharedHome, most: u32) -> Result<O
     further(rt, home, most)
 }
 
-/// Makes room where the options want it and one spare is left, or none: by a cleaning if that pays,
-/// and else by a further segment; `None` where there is no need, or no way. What a leg appends fits
+/// Makes room if the options want it and one spare is left, or none: by a cleaning if that pays,
+/// and else by a further segment; `None` if there is no need, or no way. What a leg appends fits
 /// one segment, so with two spares it finds its room.
 pub fn make_room<R: Host>(
     rt: &R,

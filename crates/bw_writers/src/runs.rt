@@ -21,7 +21,7 @@ pub struct Run {
     pub accepted: Vec<u64>,
 }
 
-// The pairs of a page go behind those of the pages before it.
+// The pairs of a page go after those of the pages before it.
 fn append(pairs: &mut Vec<(Key, Value)>, leaf: &Leaf) -> Result<(), AllocError> {
     for pair in leaf.pairs.as_slice() {
         pairs.push((pair.to_key(), pair.to_value()))?;
@@ -66,7 +66,7 @@ fn drive<R: Host>(
     }
 }
 
-// The pairs of a page go behind those of the pages before it; `false` where there is none of that
+// The pairs of a page go after those of the pages before it; `false` if there is none of that
 // number.
 fn append_page(
     home: &mut SharedHome,

@@ -19,7 +19,7 @@ use bw_words::{
 use std::alloc::{AllocError, Global};
 use std::io::{Read, Write};
 
-// Reads a line and does what it asks for; `false` where there was none.
+// Reads a line and does what it asks for; `false` if there was none.
 fn read_group<I: Read>(
     lines: &mut Lines<&mut I>,
     scripts: &mut Vec<Vec<Group>>,
@@ -96,7 +96,8 @@ fn write_reader<O: Write>(out: &mut Printer<'_, O>, number: usize, seen: Seen, p
     !seen.is_sound || is_behind
 }
 
-/// The same of all readers.
+/// Prints how many pairs each reader has, and answers whether one of them saw a key go back, or has
+/// not as many as the store.
 fn write_readers<O: Write>(out: &mut Printer<'_, O>, readers: &[Seen], pairs: u64) -> bool {
     let mut is_wrong = false;
     for (number, seen) in readers.iter().enumerate() {
@@ -143,7 +144,7 @@ struct Writers<'a, O> {
 }
 
 impl<O: Write> Writers<'_, O> {
-    /// Before the first leg: tells what was found, and starts the readers.
+    /// Before the first leg: says what was found, and starts the readers.
     fn begin<R: Host>(&mut self, rt: &R, home: &mut SharedHome) -> Result<(), Miss>
         requires { IsShared home.old holding }
         ensures { IsShared home.new holding }
@@ -161,7 +162,7 @@ impl<O: Write> Writers<'_, O> {
         self.added = (if first == 0 { segments } else { first }, segments);
     }
 
-    /// Tells what a run left in the store and beside it, and answers whether a writer gave up, or a
+    /// Says what a run left in the store and beside it, and answers whether a writer gave up, or a
     /// reader saw what it must not.
     fn tell_run<R: Host>(&mut self, rt: &R, home: &mut SharedHome) -> Result<Met, Stop>
         requires { IsShared home.old holding }
@@ -186,7 +187,7 @@ impl<O: Write> Writers<'_, O> {
 impl<R: Host, O: Write> SharedLegs<R> for Writers<'_, O> {
     type Answer = Result<Met, Stop>;
 
-    // Runs legs up to where a spare was made. One that cannot be added is none.
+    // Runs legs until a spare was made. One that cannot be added is none.
     fn leg(&mut self, rt: &R, home: &mut SharedHome) -> Option<Result<Met, Stop>> {
         if let Err(miss) = self.begin(rt, home) {
             return Some(missed(self.output, 0, miss));
@@ -194,7 +195,7 @@ impl<R: Host, O: Write> SharedLegs<R> for Writers<'_, O> {
         match self.legs.go_on(rt, home, self.options, self.pace) {
             Ok(Some(Made::Again)) => None,
             Ok(Some(Made::Further)) => {
-                // The spare that was made is added behind this leg.
+                // The spare that was made is added after this leg.
                 let segments = home.store.live().saturating_add(home.store.spares());
                 self.count_added(segments.saturating_add(1));
                 None
@@ -205,7 +206,7 @@ impl<R: Host, O: Write> SharedLegs<R> for Writers<'_, O> {
     }
 }
 
-/// Tells of the segments that were added by themselves, from so many on.
+/// Reports the segments that were added by themselves, from so many on.
 fn tell_added<W: Watch>(watch: &mut W, added: (u32, u32)) {
     let (first, last) = added;
     for segments in first..last.saturating_add(1) {
@@ -245,7 +246,7 @@ pub fn threads<R: Host, I: Read, O: Write, W: Watch>(
     let leases = leases_in(rt, options.dir);
     let places = pace.readers.max(1) as usize;
     let store = &options.store;
-    // Where a refusal ended the run, the store has shut its readers out, and they come to their end.
+    // If a refusal ended the run, the store has shut its readers out, and they come to their end.
     let end = with_readers(rt, options.dir, leases, places, store, &mut writers);
     tell_added(watch, writers.added);
     let met = match end {

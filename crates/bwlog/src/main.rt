@@ -16,8 +16,8 @@ fn words_of(rt: &HostRuntime, alloc: Global) -> io::Result<Vec<String>> {
     Ok(words)
 }
 
-/// Runs the program on the system's words and streams. The handle by which it may wait is told
-/// apart: only `main` knows that the system is one.
+/// Runs the program on the system's words and streams. The handle by which it may wait is given by
+/// itself: only `main` knows that the system is one.
 fn start<R: Host>(host: &HostRuntime, rt: &R) -> io::Result<u8> {
     let alloc = rt.alloc();
     let words = words_of(host, alloc)?;

@@ -1,4 +1,4 @@
-//! Steps of tables in a home, and what is left there behind them.
+//! Steps of tables in a home, and what is left there after them.
 #![tactic(auto)]
 
 #[cfg(test)]

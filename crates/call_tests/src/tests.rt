@@ -318,7 +318,7 @@ fn before(home: &mut Home, name: &[u8]) -> Result<Option<Name>, Fail>
     Ok(found)
 }
 
-// Whether the step goes as told.
+// Whether the step goes as expected.
 fn goes(
     alloc: Global,
     home: &mut Home,
@@ -393,7 +393,7 @@ struct Walks {
 }
 
 impl<R: System> Legs<R> for Walks {
-    // How many steps went as told before one did not.
+    // How many steps went as expected before one did not.
     type Answer = Result<usize, Fail>;
 
     fn leg(&mut self, rt: &R, home: &mut Home) -> Option<Result<usize, Fail>> {
@@ -411,7 +411,7 @@ impl<R: System> Legs<R> for Walks {
     }
 }
 
-// The first life in a folder, and the first step of that one, that goes otherwise than told.
+// The first life in a folder, and the first step of that one, that goes otherwise than expected.
 fn wrong_in<R: System>(
     rt: &R,
     path: &str,

@@ -1,5 +1,5 @@
 //! Runs of writers and streams as tables, each walked to the first step or row that goes otherwise
-//! than told.
+//! than expected.
 
 mod boxes;
 mod cleaned;

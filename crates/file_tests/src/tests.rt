@@ -1,4 +1,4 @@
-//! Folders as tables of steps, each walked to the first step that goes otherwise than told.
+//! Folders as tables of steps, each walked to the first step that goes otherwise than expected.
 
 mod again;
 mod failing;
@@ -23,7 +23,7 @@ fn clear(rt: HostRuntime, path: &str) {
     let _ = fs::remove_dir_all(&rt, path);
 }
 
-/// What went otherwise than told in a folder, which is gone then.
+/// What went otherwise than expected in a folder, which is gone then.
 fn cleared(
     rt: HostRuntime,
     path: &str,

@@ -64,7 +64,7 @@ first_of_lawful key value = record {
 pub first_frame_lawful : IsFrame 4 65536 first_example
 first_frame_lawful = first_of_lawful 107 118
 
--- ---- frames that stand for page 1 alone
+-- ---- frames that stand for only page 1
 
 pub only_one : (p : ℕ) → 1 ≤ p → p ≤ 1 → p ≡ 1
 only_one p from to = omega arith

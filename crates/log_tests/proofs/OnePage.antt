@@ -38,7 +38,7 @@ use Rattle.bw_log.proofs.Walks.{blocks_more, content_push}
 use Rattle.log_tests.specs.OnePage.{leaf_with, put_of, first_with, put_after, frame_of_one, Counts, HoldsOne, Opens}
 use Rattle.log_tests.proofs.Exampled.{only_one, not_one, first_of_lawful, first_of_stands, follows_of}
 
--- ---- one block more, behind frames that stand for one page
+-- ---- one block more, after frames that stand for one page
 
 pub block_stands : (fs : List Frame) (n : ℕ) (b : Block) (was is : Leaf) → Stand 4 fs (was ∷ []) → AreLeaves 4 (is ∷ [])
     → after 1 (Some was) b ≡ Some is → ((p : ℕ) → 2 ≤ p → touches p b ≡ false) → Stand 4 (fs ++ frame_of_one n b ∷ []) (is ∷ [])
@@ -144,7 +144,7 @@ holds_more old new x care was is one left lawful stands = record {
   stands = subst (λ (l : List Frame). Stand 4 l (is ∷ [])) (sym left.added.frames) stands;
 }
 
--- where nothing more counts, and the limits are the same
+-- if nothing more counts, and the limits are the same
 pub holds_same : (old new : Contents) (leaf : Leaf) → HoldsOne old leaf → IsSound new → new.m ≡ old.m → new.f ≡ old.f
     → counted new ≡ counted old → HoldsOne new leaf
 holds_same old new leaf one sound m f counts =

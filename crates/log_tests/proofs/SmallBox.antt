@@ -1,4 +1,4 @@
--- A log over one live box that has room for its bytes alone.
+-- A log over one live box that has room only for its bytes.
 
 use Rattle.std.proofs.Common.{◌≡◌, ℕ, ◌≤◌, ◌-◌, inl, true, inr, Some, None, List, [], ◌∷◌, slice_get}
 use Rattle.std.proofs.Common.{refl, sym, ap, subst, ◌∙◌, lit≤, lit<, arith, zero, suc}
@@ -24,7 +24,7 @@ use Rattle.log_tests.proofs.Vectors.{first_segment, first_is_read}
 abbrev pub small_pages : List PageAt
 small_pages = record { place = record { frame = 1; index = 1 }; base = record { frame = 1; index = 0 }; walk = 1 } ∷ []
 
--- a log of that box alone, which has the first frame
+-- a log of only that box, which has the first frame
 abbrev pub small : ℕ → Contents
 small lease = record (fresh 4 65536 []) {
   live = record { bytes = first_segment; room = 77; lease = lease; failed = 0 } ∷ [];

@@ -87,7 +87,7 @@ unfolding segment_frames frames_at heading_of front_at text_at value_at op_at pa
     head_at number_bytes rest_of first_such contents
 vectors_whole = (refl, (refl, (refl, (refl, (refl, (refl, tt))))))
 
--- vectors torn, and with bytes behind
+-- vectors torn, and with bytes after
 pub vectors_cut : AreTold (
     (box (take 296 second) ∷ [], found (page_one ((97 ∷ [], 49 ∷ []) ∷ (98 ∷ [], 50 ∷ []) ∷ (99 ∷ [], 51 ∷ []) ∷ (100 ∷ [], 52 ∷ []) ∷ []) ∷ []) 1 4 84 0) ∷
     (box (take 76 second) ∷ [], Err Empty) ∷
@@ -140,7 +140,8 @@ unfolding segment_frames frames_at heading_of front_at text_at value_at op_at pa
     head_at number_bytes rest_of first_such contents
 links_and_pages = (refl, (refl, (refl, (refl, (refl, tt)))))
 
--- two faults, of which the earlier one is told: rooms, bytes, limits, gaps, no frame and small spares, in this order
+-- two faults, of which the earlier one is said: rooms, bytes, limits, gaps, no frame and small
+-- spares, in this order
 pub two_faults : AreTold (
     (box (7 ∷ []) ∷ roomed 1073741825 ∷ [], Err BadConfig) ∷
     (box first_segment ∷ box (with 16 (5 ∷ []) (take 24 older_segment) ++ 88 ∷ []) ∷ [], Err (BadBytes 1 24)) ∷

@@ -1,5 +1,5 @@
-//! What no clause of segments, the log, the cleaner and recovery says, tried from outside: that calls
-//! succeed where memory is there, and the worked bytes.
+//! What no clause of segments, the log, the cleaner and recovery says, tried from outside: that
+//! calls succeed if memory is there, and the worked bytes.
 #![tactic(auto)]
 
 #[cfg(test)]

@@ -11,7 +11,7 @@ use bw_page::Leaves;
 use std::alloc::Global;
 use test_kit::vectors::{behind, behind_leaf, is_at_end};
 
-// What is left of a text behind one page: its number, its low key, and each pair after a space.
+// What is left of a text after one page: its number, its low key, and each pair after a space.
 fn behind_page<'a>(text: Option<&'a [u8]>, leaf: &Leaf) -> Option<&'a [u8]> {
     let number = [b'0' + (leaf.page % 10) as u8, b' '];
     behind(behind_leaf(behind(text, &number), leaf), b";")

@@ -11,7 +11,7 @@ pub enum Piece {
     Torn(&'static str, usize),
     /// With other bytes from an offset on.
     With(&'static str, usize, &'static [u8]),
-    /// With more bytes behind.
+    /// With more bytes at the end.
     Behind(&'static str, &'static [u8]),
 }
 

@@ -1,4 +1,4 @@
-//! What the crates of tests stand on: worked segments and bytes told as text, tables that are gone
+//! What the crates of tests stand on: worked segments and bytes shown as text, tables that are gone
 //! through, and calls whose memory is refused.
 #![tactic(auto)]
 

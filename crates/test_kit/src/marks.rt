@@ -1,8 +1,9 @@
 //! Marks by which a test speaks with the shim that refuses allocations (`tools/refuse.c`).
 //!
-//! A mark is an allocation of a length that no other call asks for. What is to be refused is said before
-//! what is asked stands, so that a test makes all that it needs with memory, and one call without. Where
-//! there is no shim, nothing is refused: each test then asks its calls with memory alone.
+//! A mark is an allocation of a length that no other call asks for. What is to be refused is said
+//! before what is asked stands, so that a test makes all that it needs with memory, and one call
+//! without. If there is no shim, nothing is refused: each test then asks its calls only with
+//! memory.
 
 use std::alloc::Global;
 
@@ -15,7 +16,7 @@ const BEGIN: usize = 1 << 61;
 /// A window in which each one is.
 const WITHOUT: usize = (1 << 61) + 1;
 
-/// The shim grants so many bytes where it refused none in the window, which this ends.
+/// The shim grants so many bytes if it refused none in the window, which this ends.
 const END: usize = 1_000_003;
 
 /// Whether so many bytes are refused.

@@ -13,15 +13,15 @@ pub const MOST: u32 = 100_000;
 /// How a call went in a window.
 #[derive(Clone, Copy, PartialEq, Drop)]
 pub enum Try {
-    /// As told, with memory.
+    /// As expected, with memory.
     Went,
-    /// As told, although memory was refused: what is only there to be fast was left out.
+    /// As expected, although memory was refused: what is only there to be fast was left out.
     Spared,
     /// It was refused, and left what it is told to leave.
     Refused,
 }
 
-/// How a call went that answered Ok or not, where what it left is as told.
+/// How a call went that answered Ok or not, where what it left is as expected.
 pub fn tried(went: bool, refused: bool, is_so: bool) -> Option<Try> {
     match (went, refused, is_so) {
         (true, false, true) => Some(Try::Went),
@@ -31,7 +31,7 @@ pub fn tried(went: bool, refused: bool, is_so: bool) -> Option<Try> {
     }
 }
 
-/// A first try, where the second one went.
+/// A first try, if the second one went.
 pub fn then(first: Try, second: Option<Try>) -> Option<Try> {
     if second == Some(Try::Went) {
         Some(first)
@@ -45,7 +45,7 @@ pub fn was_refused(first: Option<Try>) -> bool {
     first == Some(Try::Refused)
 }
 
-/// A first try that was refused, where the second one went.
+/// A first try that was refused, if the second one went.
 pub fn refused_then(second: Option<Try>) -> Option<Try> {
     then(Try::Refused, second)
 }
@@ -56,7 +56,7 @@ pub trait Ask {
     fn asks<R: AllocGlobal + Wait>(&self, rt: &R) -> Option<Try>;
 }
 
-/// A call is asked, and once more where it was refused.
+/// A call is asked, and once more if it was refused.
 pub fn asked_again<R: AllocGlobal + Wait, A: Ask>(rt: &R, call: &A) -> Option<Try> {
     let first = call.asks(rt)?;
     if first == Try::Refused {
@@ -67,7 +67,7 @@ pub fn asked_again<R: AllocGlobal + Wait, A: Ask>(rt: &R, call: &A) -> Option<Tr
 
 /// What a row asks.
 pub trait Row {
-    /// Asks its call, and once more where it was refused. None where that went otherwise than told.
+    /// Asks its call, and once more if it was refused. None if that went otherwise than expected.
     fn goes<R: AllocGlobal + Threads + Wait>(&self, rt: &R) -> Option<Try>;
     /// Whether the call may go without memory that it asks for.
     fn spares(&self) -> bool {
@@ -84,7 +84,7 @@ fn may_go<R: Row>(row: &R, first: Option<Try>) -> bool {
     }
 }
 
-/// The allocation whose refusal is not answered as told; none where there is no such one.
+/// The allocation whose refusal is not answered as expected; none if there is no such one.
 fn wrong_number<R: AllocGlobal + Threads + Wait, T: Row>(rt: &R, row: &T) -> Option<u32> {
     for number in 1..MOST {
         refuse(rt.alloc(), number);
@@ -99,7 +99,7 @@ fn wrong_number<R: AllocGlobal + Threads + Wait, T: Row>(rt: &R, row: &T) -> Opt
     Some(MOST)
 }
 
-/// The first row that goes otherwise than told, and the allocation that was refused.
+/// The first row that goes otherwise than expected, and the allocation that was refused.
 pub fn wrong_row<R: AllocGlobal + Threads + Wait, T: Row>(
     rt: &R,
     rows: &[T],

@@ -1,5 +1,5 @@
 //! The worked segments, as hex, in format 2 and in format 1: each is drawn in docs/FORMAT.md, or is
-//! one of those in the other format. The crates of tests read them from here, and tell bytes and
+//! one of those in the other format. The crates of tests read them from here, and show bytes and
 //! pages as texts.
 
 mod changes;
@@ -41,12 +41,12 @@ pub const THIRD_NEWER: &str =
     0101000000020000000000000000000000010001016b01003346524d32040000000000000012000000010000\
     000201000000000200016a010032016b010033";
 
-/// That one before the cleaning: its own frame alone.
+/// That one before the cleaning: only its own frame.
 pub const THIRD_LAST: &str =
     "42574c4f475347320300000000000000040000000000010046524d3203000000000000001900000001000000\
     0101000000020000000000000000000000010001016b010033";
 
-/// One frame for five records and a Split behind them, and for a sixth: a Delta of five records, the
+/// One frame for five records and a Split after them, and for a sixth: a Delta of five records, the
 /// Split, and a Delta of one.
 pub const JOINED: &str =
     "42574c4f475347320100000000000000040000000000010046524d3201000000000000007b00000004000000\
@@ -59,7 +59,7 @@ pub const TWO_JOINED: &str =
     "42574c4f475347320100000000000000040000000000010046524d3201000000000000002700000002000000\
     020100000000000001010000000100000000000000000000000200010161010031010162010032";
 
-/// The same without the sixth.
+/// One frame for five records and a Split after them, without a sixth record.
 pub const CUT_AT_ONCE: &str =
     "42574c4f475347320100000000000000040000000000010046524d3201000000000000006100000003000000\
     0201000000000000010100000001000000000000000000000005000101610100310101620100320101630100\
@@ -76,7 +76,7 @@ pub const THIRD_LOST: &str =
     "42574c4f475347320100000000000000040000000000010046524d3201000000000000002100000002000000\
     02010000000000000101000000010000000000000000000000010001016b010031";
 
-/// A segment behind the second vector: one frame, which puts bz=6 on page 1.
+/// A segment after the second vector: one frame, which puts bz=6 on page 1.
 pub const BEHIND_SECOND: &str =
     "42574c4f475347320200000000000000040000000000010046524d3206000000000000001a00000001000000\
     010100000005000000000000000100000001000102627a010036";
@@ -96,7 +96,7 @@ pub const UPGRADED_LAST: &str =
     "42574c4f475347320400000000000000040000000000010046524d3204000000000000001200000001000000\
     0201000000000200016a010032016b010033";
 
-// ---- the same in format 1
+// ---- the worked segments in format 1
 
 pub const OLD_FIRST: &str =
     "42574c4f475347310100000000000000040000000040000046524d3101000000000000002000000002000000\

@@ -1,5 +1,5 @@
-//! Calls on a core, and on a store with readers, as steps: each goes over both, and is told to have
-//! gone as it was to or otherwise. A test is a table of steps (`steps`).
+//! Calls on a core, and on a store with readers, as steps: each goes over both, and the answer is
+//! whether it went as it was to. A test is a table of steps (`steps`).
 #![tactic(auto)]
 
 pub mod asking;

@@ -97,7 +97,7 @@ pub const NEXT: &[Op] = &[
     Set(b"h", b"8"),
 ];
 
-/// Five records; the third one's key is the second one's with a byte 0 behind it.
+/// Five records; the third one's key is the second one's with a byte 0 after it.
 pub const BESIDE_ZERO: &[Op] = &[
     Set(b"A", b"1"),
     Set(b"a", b"2"),
@@ -122,7 +122,7 @@ fn record_of(op: &Op) -> Result<Record, LengthError> {
     }
 }
 
-// The group of these; none where there are none, or too many.
+// The group of these; none if there are none, or too many.
 fn group_of(ops: &[Op]) -> Option<Group> {
     let (first, rest) = ops.split_first()?;
     let mut group = Group::one(record_of(first).ok()?);
@@ -138,7 +138,7 @@ fn put_group(feed: &mut Feed, group: Group) -> bool
     feed.put_group(group).is_ok()
 }
 
-/// Whether a writer's feed takes the group, as told.
+/// Whether a writer's feed takes the group, as expected.
 pub fn is_grouped(feeds: &mut Vec<Feed>, writer: usize, ops: &[Op], told: bool) -> bool
     requires { writer < length feeds.old.items }
     ensures { map ring_of_feed feeds.new.items ≡ map ring_of_feed feeds.old.items }

@@ -106,7 +106,7 @@ impl Subject {
         }
     }
 
-    /// How many publications showed readers something new; none where there are no readers.
+    /// How many publications showed readers something new; none if there are no readers.
     pub fn publications(&self) -> Option<u64> {
         match self {
             Subject::Bare(_) => None,

@@ -24,7 +24,7 @@ fn count_in(leaf: &Leaf) -> Option<u32> {
     Some(count)
 }
 
-// How many pairs a page has; none where there is no such page.
+// How many pairs a page has; none if there is no such page.
 fn pairs_of(store: &mut Subject, page: u32) -> Result<Option<u32>, StoreFault>
     requires { IsSound store.old holding }
     ensures sound { IsSound store.new holding }

@@ -15,14 +15,15 @@ use bw_store::{Cleaned, Counters, StoreFault, TurnFault, Upgraded};
 use std::alloc::Global;
 use std::sync::Wait;
 
-/// A call, with what it is told to answer.
+/// A call, with what it has to answer.
 #[derive(Drop)]
 pub enum Step {
     /// A record of the first writer, taken and appended: its key, its value, and the frame.
     Frame(&'static [u8], &'static [u8], u64),
     /// These records of the first writer, each taken and appended: the first of the frames.
     Frames(u64, &'static [Op]),
-    /// The same, with each frame in a segment of its own.
+    /// These records of the first writer, each taken and appended, with each frame in a segment of
+    /// its own: the first of the frames.
     Segments(u64, &'static [Op]),
     /// A record of the first writer, taken: its key and its value.
     Taken(&'static [u8], &'static [u8]),
@@ -59,7 +60,7 @@ pub enum Step {
     NotUpgraded(StoreFault),
     /// These pages are written again, in so many frames.
     Rewrite(&'static [u32], Result<u64, StoreFault>),
-    /// A page; no text where there is none.
+    /// A page; no text if there is none.
     Page(u32, &'static str),
     /// So many pages, from page 1 on.
     Pages(&'static [&'static str]),
@@ -67,11 +68,11 @@ pub enum Step {
     Unread(u32, StoreFault),
     /// A page leaves memory, or stays, or there is none.
     Evict(u32, Result<bool, StoreFault>),
-    /// The value of a key; no text where it has none.
+    /// The value of a key; no text if it has none.
     Get(&'static [u8], &'static [u8]),
-    /// The last pair at or below a key: its key and its value; no key where there is none.
+    /// The last pair at or below a key: its key and its value; no key if there is none.
     Last(&'static [u8], &'static [u8], &'static [u8]),
-    /// The same below it.
+    /// The last pair below a key: its key and its value; no key if there is none.
     Below(&'static [u8], &'static [u8], &'static [u8]),
     /// The pairs at or above a key, no more than so many: each after a space.
     Stretch(&'static [u8], usize, &'static str),
@@ -79,7 +80,7 @@ pub enum Step {
     Reads(u32),
     /// The number, lease and length of a live segment, from 0.
     Live(u32, u64, u32, u64),
-    /// The same of so many live segments, from the first on.
+    /// The number, lease and length of so many live segments, from the first on.
     Lives(&'static [(u64, u32, u64)]),
     /// The bytes of a live segment, as hex.
     Bytes(u64, &'static str),
@@ -117,7 +118,7 @@ fn are_cuts(cuts: &[u64], told: &[u64]) -> bool {
     cuts == told
 }
 
-/// Whether a turn of so many groups takes so many records, or is refused, as told.
+/// Whether a turn of so many groups takes so many records, or is refused, as expected.
 pub fn takes(store: &mut Subject, limit: u32, told: Result<u64, TurnFault>) -> bool
     requires { IsSound store.old holding }
     ensures sound { IsSound store.new holding }
@@ -129,7 +130,7 @@ pub fn takes(store: &mut Subject, limit: u32, told: Result<u64, TurnFault>) -> b
     }
 }
 
-/// Whether a record finds a place, or none, as told.
+/// Whether a record finds a place, or none, as expected.
 pub fn puts_one(
     feeds: &mut Vec<Feed>,
     writer: usize,
@@ -146,7 +147,7 @@ pub fn puts_one(
     }
 }
 
-/// Whether a step of a writer goes as told.
+/// Whether a step of a writer goes as expected.
 pub fn puts(feeds: &mut Vec<Feed>, step: &Step) -> bool
     ensures { map ring_of_feed feeds.new.items ≡ map ring_of_feed feeds.old.items }
 {
@@ -208,7 +209,7 @@ fn are_pages(store: &mut Subject, texts: &[&'static str]) -> bool
     true
 }
 
-/// Whether a step that only asks is answered as told.
+/// Whether a step that only asks is answered as expected.
 pub fn answers(alloc: Global, store: &mut Subject, step: &Step) -> bool
     requires { IsSound store.old holding }
     ensures sound { IsSound store.new holding }
@@ -243,7 +244,7 @@ pub fn answers(alloc: Global, store: &mut Subject, step: &Step) -> bool
     }
 }
 
-/// Whether a step that changes the store alone goes as told.
+/// Whether a step that changes the store alone goes as expected.
 pub fn changes<R: Wait>(rt: &R, store: &mut Subject, step: &Step) -> bool
     requires { IsSound store.old holding }
     ensures sound { IsSound store.new holding }
@@ -281,7 +282,7 @@ pub fn changes<R: Wait>(rt: &R, store: &mut Subject, step: &Step) -> bool
     }
 }
 
-/// Lets no further frame into the current segment, if told.
+/// Lets no further frame into the current segment, if asked.
 pub fn roll_if(store: &mut Subject, is_told: bool)
     requires { IsSound store.old holding }
     ensures sound { IsSound store.new holding }

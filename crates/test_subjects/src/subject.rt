@@ -295,7 +295,7 @@ impl Subject {
         }
     }
 
-    /// Forgets what is durable; over a store what readers have, which is the same behind a flush.
+    /// Forgets what is durable; over a store what readers have, which is the same after a flush.
     pub fn forget(&mut self) -> u64
         requires { IsSound self.old holding }
         ensures sound { IsSound self.new holding }

@@ -13,7 +13,7 @@ fn asked(alloc: Global, is_so: bool) -> Option<bool> {
     Some(!end(alloc) & is_so)
 }
 
-/// The same of what may ask for some.
+/// Whether what was asked since the last `begin_without` is so, whether it asked for memory or not.
 fn spared(alloc: Global, is_so: bool) -> Option<bool> {
     let _ = end(alloc);
     Some(is_so)

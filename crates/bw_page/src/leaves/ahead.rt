@@ -1,10 +1,10 @@
 //! Pages that are about to change are read ahead.
 //!
 //! A record waits for its page's seat, for the row of heads there, and mostly for one pair, each of
-//! which may be far away in memory. Where many records are to come, these loops ask for all of their
+//! which may be far away in memory. If many records are to come, these loops ask for all of their
 //! pages one after the other, and the processor waits for many at once.
 //!
-//! What they answer is of no use; but the reads are made only where it is used.
+//! What they answer is of no use; but the reads are made only if it is used.
 
 use super::{HasRecord, Leaves};
 

@@ -74,8 +74,8 @@ impl Leaves {
         ensures ok { OnOk result (self.new ≡ run self.old records.now) }
         ensures plain { OnOk result (union self.new.leaves ≡ plain self.old.leaves records.now) }
 
-        // It answers `Spent` only where one of the records needs a page number that does not exist,
-        // and is refused wherever one does: perhaps for want of memory before that record.
+        // It answers `Spent` only if one of the records needs a page number that does not exist,
+        // and is refused whenever one does: perhaps for want of memory before that record.
         ensures spent { SomeIsSpent self.old records.now → IsErr result }
         ensures only_spent { result ≡ Err ApplyError.Spent → SomeIsSpent self.old records.now }
         ensures unchanged { OnErr result (self.new ≡ self.old) }
@@ -83,9 +83,9 @@ impl Leaves {
         self.apply_all_of(records)
     }
 
-    /// The same, where the records stand in other values, and the page of each is in memory when
-    /// its turn comes: none of the records is copied. Each is looked for on the page that was guessed
-    /// for it, as by `apply_hinted`.
+    /// Applies the records that stand in these values, one after the other, all or none, if the
+    /// page of each is in memory when its turn comes. None of the records is copied. Each is looked
+    /// for on the page that was guessed for it, as by `apply_hinted`.
     pub fn apply_all_of<T: HasRecord>(&mut self, items: &[T]) -> Result<(), ApplyError>
         requires { AreHere self.old (map T.record_of items.now) }
         ensures ok { OnOk result (self.new ≡ run self.old (map T.record_of items.now)) }

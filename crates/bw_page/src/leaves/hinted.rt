@@ -1,5 +1,5 @@
-//! Records whose page is guessed: a look at it tells whether it is the right one, and a search
-//! among the pages follows only where it does not.
+//! Records whose page is guessed: a look at it may show that it is the right one, and a search
+//! among the pages follows only if it does not.
 
 ghost use Rattle.std.specs.Prelude.{◌≡◌, Err, IfOk, IfSome, OnOk, OnErr, IsTrue};
 ghost use Rattle.bw_record.specs.Record.{key_of};
@@ -15,9 +15,9 @@ use bw_codec::Packed;
 use bw_leaf::{count_packed, find_key};
 
 impl Leaves {
-    /// The same as `apply`, where this may be the page at which the record is directed: it costs no
-    /// search among the pages where one of the page's pairs has the record's key, or the key lies
-    /// between two of them. Any number may be given, also that of no page.
+    /// Does what `apply` does, given a page at which the record may be directed: it costs no search
+    /// among the pages if one of the page's pairs has the record's key, or the key lies between two
+    /// of them. Any number may be given, also that of no page.
     pub fn apply_hinted(&mut self, page: u32, change: &Packed) -> Result<Applied, ApplyError>
         requires { IsHere (key_of change.now) self.old }
         ensures ok { OnOk result (self.new ≡ after_record self.old change.now) }
@@ -36,7 +36,7 @@ impl Leaves {
         self.apply_at(at, count, found, change)
     }
 
-    /// What `aim` tells, where this may be the page at which the record is directed.
+    /// What `aim` says, given a page at which the record may be directed.
     pub(super) fn aim_by(&self, page: u32, change: &Packed) -> (usize, usize, Result<usize, usize>)
         requires { IsHere (key_of change.now) self.now }
         ensures { IsAim self.now change.now result.0 result.1 result.2 }
@@ -47,12 +47,13 @@ impl Leaves {
         }
     }
 
-    /// The same, if the pairs of this page show that the record is directed at it.
+    /// What `aim` says for this page, if the pairs of this page show that the record is directed at
+    /// it.
     fn aim_at(&self, page: u32, change: &Packed) -> Option<(usize, usize, Result<usize, usize>)>
         requires { IsHere (key_of change.now) self.now }
         ensures { IfSome result (λ a. IsAim self.now change.now a.0 a.1 a.2) }
     {
-        // Tells the proof that the leaves are lawful.
+        // Shows the proof that the leaves are lawful.
         let _ = self.count();
         let Some(leaf) = self.page(page) else {
             return None;

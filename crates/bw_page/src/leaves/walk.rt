@@ -10,10 +10,10 @@ use bw_leaf::{add_pairs, pair_from};
 use std::alloc::AllocError;
 
 impl Leaves {
-    /// The pair with the least key at or above this one, if there is one, where no page is evicted.
+    /// The pair with the least key at or above this one, if there is one; no page is evicted.
     ///
-    /// It costs a search and a look at a page; and, where that page has no such pair, another
-    /// search and look for each page behind it that has none.
+    /// It costs a search and a look at a page; and, if that page has no such pair, another search
+    /// and look for each page after it that has none.
     pub fn next_at(&self, key: &Key) -> Option<(Key, Value)>
         requires { self.now.evicted ≡ [] }
         ensures { IsFirst (union self.now.leaves) key.now result }
@@ -32,8 +32,8 @@ impl Leaves {
         }
     }
 
-    /// Puts the pairs at or above a key into `found`, in order and no more than so many, where no
-    /// page is evicted. What stood in `found` is dropped before.
+    /// Puts the pairs at or above a key into `found`, in order and no more than so many; no page is
+    /// evicted. What stood in `found` is dropped before.
     ///
     /// It costs a search and a look for each page, and a copy of each pair. A refused growth is the
     /// only error; `found` then has some of the pairs.

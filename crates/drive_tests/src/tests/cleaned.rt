@@ -15,7 +15,7 @@ use std::thread::Threads;
 /// 8,000 records of each writer, over 100 keys in turn.
 const PART: Part = Part(0, 8000, 100);
 
-/// The oldest segment is given up where three are live.
+/// The oldest segment is given up if three are live.
 const PACE: Pace = Pace(64, 4, 3, MANY);
 
 const BOXES: u32 = 64;
@@ -40,7 +40,8 @@ fn are_read_back<R: AllocGlobal + Wait>(rt: &R, boxes: Vec<Box<dyn Segment>>) ->
     are_read
 }
 
-// The same of all boxes that the table leaves, of which some were given up.
+// Whether each key is in the pages recovered from all boxes that the table leaves, of which some
+// were given up.
 fn is_recovered<R: AllocGlobal + Threads + Wait>(rt: &R) -> bool {
     let Ok((mut boxes, mut spares)) = walked(rt, TABLE, &OpenGate) else {
         return false;

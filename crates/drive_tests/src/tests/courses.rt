@@ -42,7 +42,7 @@ const SIXTY_FOUR: &Table = &Table {
     ..PLAIN
 };
 
-/// The same with a ring of one place each.
+/// All is accepted, and a second run over the same feeds goes on, with a ring of one place each.
 const ONE_PLACE: &Table = &Table {
     name: "one place",
     places: 1,
@@ -141,7 +141,7 @@ const FORGOTTEN: &Table = &Table {
     ..PLAIN
 };
 
-/// Behind each flush, and not only at the end: a frame fails behind four, of at most 16 records each,
+/// After each flush, and not only at the end: a frame fails after four, of at most 16 records each,
 /// and what was flushed has left memory; what was only taken has not.
 const FORGOTTEN_BEFORE: &Table = &Table {
     name: "forgotten before",

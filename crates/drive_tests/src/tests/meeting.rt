@@ -24,7 +24,7 @@ const HUNDREDS: Table = Table {
     ..PLAIN
 };
 
-/// The same in 120 groups.
+/// Two writers of 300 records each, in 120 groups.
 const GROUPS: &Table = &Table {
     name: "groups",
     sizes: Sizes::Mixed,
@@ -99,7 +99,8 @@ const GIVEN_UP: &Table = &Table {
     ..PLAIN
 };
 
-// What a gate is told in the runs of a table, before groups and behind them; none where a step does not go as told.
+// What a gate is told in the runs of a table, before groups and after them; none if a step does not
+// go as expected.
 fn gate_sums<R: AllocGlobal + Threads + Wait>(rt: &R, table: &Table) -> Option<(u64, u64)> {
     let gate = Sums {
         before: AtomicU64::new(0),
@@ -166,7 +167,7 @@ impl Gate for Receipts {
     }
 }
 
-// The table behind which a writer was told another number than that of all its records.
+// The table after which a writer was told another number than that of all its records.
 fn wrong_receipts<R: AllocGlobal + Threads + Wait>(rt: &R) -> Option<(&'static str, usize)> {
     let gate = Receipts {
         first: AtomicU64::new(0),
@@ -206,7 +207,7 @@ const VISITS: &[Visits] = &[
     Visits("no try", 1, 0, &[(&[0], false)]),
 ];
 
-// The first visit that left its gate otherwise than told: the first one where there was no gate.
+// The first visit that left its gate otherwise than expected: the first one if there was no gate.
 fn wrong_visit(alloc: Global) -> Option<(&'static str, usize)> {
     for visits in VISITS {
         let Ok(gate) = MeetGate::new(alloc, visits.1, visits.2) else {

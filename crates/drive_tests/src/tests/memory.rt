@@ -1,5 +1,5 @@
-//! Lines of a script, of which one allocation is refused: the call tells it. The other calls that take
-//! memory stand in `memory_tests`.
+//! Lines of a script, of which one allocation is refused: the call says it. The other calls that
+//! take memory stand in `memory_tests`.
 
 use bw_pairs::Lines;
 use bw_words::LONGEST;
@@ -16,7 +16,8 @@ fn is_memory(error: io::Error) -> bool {
     error.kind() == ErrorKind::OutOfMemory
 }
 
-/// Whether a call that went or not answered as told: whether it was refused, then; none otherwise.
+/// Whether a call that went or not answered as expected: whether it was refused, then; none
+/// otherwise.
 fn told(went: bool, refused: bool, is_so: bool) -> Option<bool> {
     if is_so && went != refused {
         Some(refused)
@@ -50,7 +51,7 @@ fn reads(alloc: Global) -> Option<bool> {
     }
 }
 
-/// The allocation whose refusal is not told; none where there is no such one.
+/// The allocation whose refusal is not said; none if there is no such one.
 fn wrong_number(alloc: Global, is_read: bool) -> Option<u32> {
     for number in 1..MOST {
         refuse(alloc, number);

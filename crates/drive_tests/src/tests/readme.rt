@@ -1,4 +1,4 @@
-//! Writers in threads beside the store's, as docs/EMBED.md tells it.
+//! Writers in threads beside the store's, as docs/EMBED.md shows it.
 
 ghost use Rattle.std.specs.Prelude.{◌≡◌, map};
 ghost use Rattle.bw_ring.specs.Ends.{ring_of_feed};
@@ -39,7 +39,7 @@ fn example<R: Threads + Wait>(
     }
 }
 
-// The same over a new store of two writers.
+// Whether a new store of two writers has all entries in its history once each has put its part.
 fn is_settled<R: Threads + Wait>(rt: &R, alloc: Global) -> bool {
     let Some(boxes) = four_boxes(alloc) else {
         return false;

@@ -31,7 +31,7 @@ pub(super) fn numbered(writer: usize, number: u32, keys: u32) -> Record {
 /// How the records of a script stand in groups.
 #[derive(Clone, Copy, PartialEq, Eq)]
 pub(super) enum Sizes {
-    /// Each alone.
+    /// Each by itself.
     One,
     /// One, two, three and four, in turn, counted from number 0 on.
     Mixed,
@@ -42,7 +42,7 @@ fn joins(number: u32) -> bool {
     matches!(number % 10, 2 | 4 | 5 | 7 | 8 | 9)
 }
 
-// The record goes into the last group, or behind it.
+// The record goes into the last group, or after it.
 fn put_behind(script: &mut Vec<Group>, item: Record, is_joined: bool) -> Result<(), AllocError> {
     if is_joined && let Some(last) = script.as_mut_slice().last_mut() {
         let _ = last.push(item);
@@ -83,7 +83,7 @@ pub(super) fn scripts(
     Ok(scripts)
 }
 
-/// How many entries each writer has, where they are its first records in order.
+/// How many entries each writer has, if they are its first records in order.
 pub(super) fn begun(entries: &[PackedEntry], keys: u32) -> Option<[u32; 64]> {
     let mut next: [u32; 64] = [0; 64];
     for packed in entries {

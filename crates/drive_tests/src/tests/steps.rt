@@ -12,8 +12,8 @@ use bw_store::{Store, StoreFault};
 use std::sync::Wait;
 use std::thread::Threads;
 
-/// How a run goes: a turn's limit, after how many turns it flushes, where it cleans, and how often
-/// each side tries.
+/// How a run goes: a turn's limit, after how many turns it flushes, at how many segments it cleans,
+/// and how often each side tries.
 #[derive(Clone, Copy)]
 pub(super) struct Pace(
     pub(super) u32,
@@ -37,8 +37,8 @@ pub(super) struct Run(
 #[derive(Drop)]
 pub(super) enum Step {
     Drives(Run),
-    /// The same, by a plan that forgets: how many entries are in memory behind it, at least and at
-    /// most, and likewise how many were forgotten.
+    /// A run by a plan that forgets: how many entries are in memory after it, at least and at most,
+    /// and likewise how many were forgotten.
     Forgets(Run, (u64, u64), (u64, u64)),
     /// All is taken and flushed, or refused.
     Settles(Result<(), StoreFault>),
@@ -110,7 +110,8 @@ fn is_summed(driven: &Driven, run: &Run) -> bool {
     driven.entries == all && told == Ok((all, all))
 }
 
-// A run by a plan that forgets, or by one that does not: the feeds, and whether it went as told.
+// A run by a plan that forgets, or by one that does not: the feeds, and whether it went as
+// expected.
 fn drives<R: AllocGlobal + Threads + Wait, G: Gate>(
     rt: &R,
     store: &mut Store,
@@ -193,7 +194,7 @@ fn answers(store: &mut Store, writers: usize, step: &Step) -> bool
     }
 }
 
-/// What a step leaves of the feeds, and whether it goes as told.
+/// What a step leaves of the feeds, and whether it goes as expected.
 pub(super) fn goes<R: AllocGlobal + Threads + Wait, G: Gate>(
     rt: &R,
     store: &mut Store,

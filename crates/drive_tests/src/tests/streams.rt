@@ -36,7 +36,7 @@ impl Read for Slow<'_> {
 /// are enough.
 type Row = (u64, bool, bool);
 
-// Whether the next line is this one; none where the reading failed.
+// Whether the next line is this one; none if the reading failed.
 fn is_read<R: Read + Drop>(lines: &mut Lines<R>, text: &str) -> Option<bool> {
     match lines.read_line() {
         Ok(is_line) => Some(is_line && lines.line() == text.as_bytes()),
@@ -44,7 +44,7 @@ fn is_read<R: Read + Drop>(lines: &mut Lines<R>, text: &str) -> Option<bool> {
     }
 }
 
-/// Whether the row goes as told.
+/// Whether the row goes as expected.
 fn goes(alloc: Global, row: &Row) -> bool {
     let (reads, has_interruptions, is_enough) = *row;
     let mut input = Slow {
@@ -60,7 +60,7 @@ fn goes(alloc: Global, row: &Row) -> bool {
     is_read(&mut lines, "a") == Some(true) && is_read(&mut lines, "b") == told
 }
 
-// The first row that does not go as told.
+// The first row that does not go as expected.
 fn wrong_row(alloc: Global) -> Option<(&'static str, usize)> {
     for (i, row) in READS.iter().enumerate() {
         if !goes(alloc, row) {

@@ -1,4 +1,4 @@
-//! What each writer is told behind each flush.
+//! What each writer hears after each flush.
 
 ghost use Rattle.std.specs.Prelude.{◌≡◌, ◌<◌, length, map};
 ghost use Rattle.bw_ring.specs.Ends.{ring_of_feed};
@@ -25,7 +25,7 @@ const FLUSHES: u64 = 3;
 /// How often a writer looks whether they came.
 const LOOKS: u64 = 100_000_000;
 
-/// Notes the numbers that each of two writers is told: those behind the first three flushes as the
+/// Notes the numbers that each of two writers is told: those after the first three flushes as the
 /// digits of one number, and the last. A writer puts nothing before these flushes.
 #[derive(Drop)]
 struct Notes {
@@ -99,8 +99,8 @@ fn fill(feeds: &mut Vec<Feed>) -> bool
     first & last
 }
 
-// A run of a store whose feeds were filled: two groups a turn, one of each writer, and a flush behind
-// two turns. Each writer puts one record more.
+// A run of a store whose feeds were filled: two groups a turn, one of each writer, and a flush
+// after two turns. Each writer puts one record more.
 fn driven<R: AllocGlobal + Threads + Wait>(
     rt: &R,
     store: &mut Store,
@@ -126,7 +126,7 @@ fn driven<R: AllocGlobal + Threads + Wait>(
     }
 }
 
-// The same over a new store of two writers.
+// A run over a new store of two writers, whose feeds are filled before.
 fn run<R: AllocGlobal + Threads + Wait>(rt: &R, alloc: Global, gate: &Notes) -> Option<Driven> {
     let boxes = four_boxes(alloc)?;
     let Ok((mut store, mut feeds)) = Store::open(rt, alloc, TWO_WRITERS, boxes) else {
@@ -138,7 +138,7 @@ fn run<R: AllocGlobal + Threads + Wait>(rt: &R, alloc: Global, gate: &Notes) -> 
     if are_put { driven } else { None }
 }
 
-// Whether each writer was told, behind each flush, how many of its own records were in the segments
+// Whether each writer was told, after each flush, how many of its own records were in the segments
 // then: two of each, then the last two of the first, then no more; and all at the end.
 fn are_told<R: AllocGlobal + Threads + Wait>(rt: &R) -> bool {
     let gate = Notes::new();

@@ -26,12 +26,12 @@ pub(super) struct Table {
     /// The first box fails after so many calls.
     pub(super) fuse: Option<u64>,
     pub(super) steps: &'static [Step],
-    /// How the records of all its runs stand in groups. Those of mixed sizes are whole in the history
-    /// behind each step.
+    /// How the records of all its runs stand in groups. Those of mixed sizes are whole in the
+    /// history after each step.
     pub(super) sizes: Sizes,
 }
 
-/// Two writers with rings of eight places, and four boxes that do not fail; each record alone.
+/// Two writers with rings of eight places, and four boxes that do not fail; each record by itself.
 pub(super) const PLAIN: Table = Table {
     name: "plain",
     writers: 2,
@@ -43,7 +43,7 @@ pub(super) const PLAIN: Table = Table {
     sizes: Sizes::One,
 };
 
-/// The first step that did not go as told.
+/// The first step that did not go as expected.
 fn wrong_step<R: AllocGlobal + Threads + Wait, G: Gate>(
     rt: &R,
     store: &mut Store,
@@ -69,8 +69,8 @@ fn wrong_step<R: AllocGlobal + Threads + Wait, G: Gate>(
 /// Live segments, and spares.
 pub(super) type Left = (Vec<Box<dyn Segment>>, Vec<Box<dyn Segment>>);
 
-/// The boxes of the store behind the table's steps, where all of them went as told through this gate;
-/// and else the first that did not, which is the first one where there was no store.
+/// The boxes of the store after the table's steps, if all of them went as expected through this
+/// gate; and else the first that did not, which is the first one if there was no store.
 pub(super) fn walked<R: AllocGlobal + Threads + Wait, G: Gate>(
     rt: &R,
     table: &Table,
@@ -98,7 +98,7 @@ pub(super) fn walked<R: AllocGlobal + Threads + Wait, G: Gate>(
     }
 }
 
-/// The first table that does not go as told where all pass the gate, and its step.
+/// The first table that does not go as expected if all pass the gate, and its step.
 pub(super) fn wrong_table<R: AllocGlobal + Threads + Wait>(
     rt: &R,
     tables: &[&Table],

@@ -1,5 +1,5 @@
-//! Each call of the system failing in turn: it is told as the system's fault, and afterwards the step
-//! is done.
+//! Each call of the system failing in turn: it is answered as the system's fault, and afterwards
+//! the step is done.
 
 use super::clear;
 use super::steps::Act::{
@@ -163,7 +163,7 @@ const TRIALS: &[Trial] = &[
     ),
 ];
 
-// How the step goes where its call of this number fails.
+// How the step goes if its call of this number fails.
 fn went(stand: &mut Stand, act: &Act, number: usize) -> Told {
     stand.rt.watch.fail_after(number as u64, 0);
     let went = goes(stand, act);
@@ -172,8 +172,8 @@ fn went(stand: &mut Stand, act: &Act, number: usize) -> Told {
     went
 }
 
-// Whether the step is told as the system's fault where the call of this number fails, and is done
-// where no call has this number.
+// Whether the step is answered as the system's fault if the call of this number fails, and is done
+// if no call has this number.
 fn is_fault(stand: &mut Stand, trial: &Trial, number: usize) -> bool {
     let Trial(_, before, act, calls, after) = trial;
     if wrong_row(stand, *before).is_some() {
@@ -187,7 +187,8 @@ fn is_fault(stand: &mut Stand, trial: &Trial, number: usize) -> bool {
     }
 }
 
-// The same in a folder of its own.
+// Whether the step of a trial, in a folder of its own, is answered as the system's fault if the
+// call of this number fails, and is done if no call has this number.
 fn is_told(rt: HostRuntime, trial: &Trial, number: usize) -> bool {
     match at(rt, "failing") {
         Some(mut stand) => is_fault(&mut stand, trial, number),
@@ -195,7 +196,7 @@ fn is_told(rt: HostRuntime, trial: &Trial, number: usize) -> bool {
     }
 }
 
-// The first trial of which a call was not told, and the number of the call.
+// The first trial of which a call was not answered so, and the number of the call.
 fn wrong_call(rt: HostRuntime) -> Option<(&'static str, usize)> {
     for trial in TRIALS {
         for number in 0..=trial.3 {

@@ -86,7 +86,7 @@ const ONCE: &[Row] = &[
     Row(File("segment-0001.bw", ""), Done, ""),
 ];
 
-/// A reader makes no file and writes none, also where the folder was never opened.
+/// A reader makes no file and writes none, also if the folder was never opened.
 const READ: &[Row] = &[
     Row(Make, Done, ""),
     Row(Write("segment-0000.bw", "abc"), Done, ""),
@@ -161,7 +161,7 @@ const FULL: &[Row] = &[
 ];
 
 /// What is no plain file is not opened, neither to be written nor to be looked at: no link is
-/// followed, also where it leads to nothing yet.
+/// followed, also if it leads to nothing yet.
 const PLAIN: &[Row] = &[
     Row(Open, Done, "doanool"),
     Row(Write("other", "abc"), Done, ""),

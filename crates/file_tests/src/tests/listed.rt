@@ -1,4 +1,4 @@
-//! Which leases have a file, or sums alone: by the names of the files only.
+//! Which leases have a file, or only sums: by the names of the files only.
 
 use super::steps::Act::{Listed, Write};
 use super::steps::Told::Done;

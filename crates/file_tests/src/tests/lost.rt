@@ -1,6 +1,6 @@
-//! What a loss of power may leave of the sums for which nobody waited: any of them, with other bytes
-//! in place of those that are lost, up to any length. The bytes of the segment are all there, and
-//! nothing is told.
+//! What a loss of power may leave of the sums for which nobody waited: any of them, with other
+//! bytes in place of those that are lost, up to any length. The bytes of the segment are all there,
+//! and nothing is said.
 
 use super::cleared;
 use super::steps::Act::{Holds, Make, Open, Opens, Segment, Stop, Write};
@@ -45,7 +45,7 @@ fn torn(alloc: Global, left: u32, is_stale: bool) -> Option<Vec<u8>> {
     Some(all)
 }
 
-// Whether a row goes as told.
+// Whether a row goes as expected.
 fn goes(stand: &mut Stand, act: Act, letters: &'static str) -> bool {
     is_told(stand, &Row(act, Done, letters))
 }
@@ -65,7 +65,8 @@ fn is_opened(rt: HostRuntime, sums: &[u8]) -> bool {
         && goes(&mut stand, Segment(0, 64), "nnolomrmra")
 }
 
-// The same of so many bytes of what is left.
+// Whether a segment beside so many bytes of what is left of its sums is opened, and each of its
+// bytes has a sum then.
 fn is_opened_with(rt: HostRuntime, left: u32, is_stale: bool, length: usize) -> bool {
     match torn(rt.alloc(), left, is_stale) {
         Some(sums) => is_opened(rt, &sums[..length.min(sums.len())]),

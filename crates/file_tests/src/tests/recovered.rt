@@ -14,7 +14,7 @@ use bw_file::Folder;
 use bw_page::Leaves;
 use test_kit::vectors::SECOND;
 
-/// What recovery tells of a folder.
+/// What recovery says of a folder.
 #[derive(Clone, Copy)]
 pub(super) enum Said {
     /// The first and the last frame, tail bytes, live segments, spares, boxes dropped, and the pairs
@@ -38,9 +38,9 @@ const KV: &[(&str, &str)] = &[("k", "v")];
 
 const ABCD: &[(&str, &str)] = &[("a", "1"), ("b", "2"), ("c", "3"), ("d", "4")];
 
-/// The files of a folder by their leases, each so many first bytes of these, which are in hex; whether
-/// the older of two segments is given up then, and its file emptied; and what is told of so many
-/// files.
+/// The files of a folder by their leases, each so many first bytes of these, which are in hex;
+/// whether the older of two segments is given up then, and its file emptied; and what is said of so
+/// many files.
 #[derive(Drop)]
 pub(super) struct Worked(
     pub(super) &'static str,
@@ -114,7 +114,8 @@ fn is_done(stand: &mut Stand, act: Act) -> bool {
     is_told(stand, &Row(act, Done, ""))
 }
 
-// Whether the files are told so, and a second time: what one opening read, a later one reads too.
+// Whether this is said of the files, and a second time: what one opening read, a later one reads
+// too.
 fn is_worked(stand: &mut Stand, worked: &Worked) -> bool {
     let Worked(_, files, given_up, boxes, told) = worked;
     let mut went = is_done(stand, Make);
@@ -127,7 +128,7 @@ fn is_worked(stand: &mut Stand, worked: &Worked) -> bool {
     went & is_done(stand, Tells(*boxes, *told)) & is_done(stand, Tells(*boxes, *told))
 }
 
-/// The first of these whose files, in a folder of their own, are not told so.
+/// The first of these whose files, in a folder of their own, do not get this said of them.
 pub(super) fn wrong_worked(rt: HostRuntime, all: &[Worked]) -> Option<(&'static str, usize)> {
     for (i, worked) in all.iter().enumerate() {
         let went = match at(rt, worked.0) {
@@ -181,7 +182,7 @@ fn is_page(leaves: &Leaves, told: &[(&'static str, &'static str)]) -> bool {
     leaves.count() == 1 && pairs.len() == told.len()
 }
 
-// Whether it was found as told.
+// Whether it was found as expected.
 fn is_found(found: Recovered, told: &Said) -> bool
     requires { IsRecovered (λ b. holding (b.vtable, b.value)) found }
 {

@@ -22,7 +22,7 @@ pub(super) enum Act {
     LookEvicted,
     /// A segment of this capacity is opened, and settled.
     Segment(u32, u64),
-    /// The same. The calls are not told.
+    /// A segment of this capacity is opened, and settled. The calls are not compared.
     Opens(u32, u64),
     /// A new segment of this capacity.
     Spare(u32, u64),
@@ -39,14 +39,14 @@ pub(super) enum Act {
     Append(u32, &'static str),
     /// What a segment holds is this, and so many of its calls have failed.
     Holds(u32, &'static str, u64),
-    /// A copy of at least this capacity, for reading alone, holds this.
+    /// A copy of at least this capacity, only for reading, holds this.
     Copy(u32, u64, &'static str),
     /// A file has so many bytes, of which so many first ones are so many pieces with a sum.
     Verify(u32, u64, u64, u64),
     Empty(u32),
     /// A file is written anew, whole.
     Whole(u32, &'static str, &'static [u64]),
-    /// The same with its first byte at the end.
+    /// A file is written anew, whole, with its first byte at the end.
     HeldBack(u32, &'static str, &'static [u64]),
     /// After so many calls one fails, a write with so many bytes kept.
     Fail(u64, u64),
@@ -56,7 +56,8 @@ pub(super) enum Act {
     Make,
     /// A file of the folder is written from outside.
     Write(&'static str, &'static str),
-    /// The same with so many first bytes of these, which are in hex.
+    /// A file of the folder is written from outside, with so many first bytes of these, which are
+    /// in hex.
     Bytes(&'static str, &'static str, usize),
     /// A file of the folder has these bytes, and no more.
     File(&'static str, &'static str),
@@ -72,13 +73,13 @@ pub(super) enum Act {
     Lengthen,
     /// There are files for these leases.
     Listed(&'static [u32]),
-    /// Recovery tells so of the files of the first so many leases. The calls are not told.
+    /// Recovery says so of the files of the first so many leases. The calls are not compared.
     Tells(usize, Said),
     /// The older of two segments is given up, and with true its file is emptied then.
     Cleans(bool),
 }
 
-/// How a step went: done, or the fault; `No` where something else is held than told.
+/// How a step went: done, or the fault; `No` if something else is held than expected.
 #[derive(Clone, Copy, PartialEq, Eq)]
 pub(super) enum Told {
     Done,
@@ -281,7 +282,7 @@ fn at_place(stand: &mut Stand, place: u32) -> Option<&mut FileSegment<WatchedFil
     }
 }
 
-// Adds the piece where there is room for it.
+// Adds the piece if there is room for it.
 fn append(stand: &mut Stand, place: u32, piece: &str) -> Told {
     let Some(one) = at_place(stand, place) else {
         return Told::No;
@@ -360,7 +361,7 @@ fn goes_with(rt: &HostRuntime, path: &str, bytes: &[u8], writes: bool) -> bool {
     }
 }
 
-// The same with so many first bytes of these.
+// Whether so many first bytes of these are written to a file, or it holds them and no more.
 fn goes_in_hex(rt: &HostRuntime, path: &str, hex: &'static str, n: usize, writes: bool) -> bool {
     match hex::decode(rt.alloc(), hex) {
         Ok(bytes) => goes_with(rt, path, &bytes[..n.min(bytes.len())], writes),
@@ -478,7 +479,7 @@ pub(super) fn goes(stand: &mut Stand, act: &Act) -> Told {
     }
 }
 
-/// Whether a row goes as told.
+/// Whether a row goes as expected.
 pub(super) fn is_told(stand: &mut Stand, row: &Row) -> bool {
     let Row(act, told, letters) = row;
     let went = goes(stand, act);
@@ -486,7 +487,7 @@ pub(super) fn is_told(stand: &mut Stand, row: &Row) -> bool {
     went == *told && made == numbers_of(letters)
 }
 
-/// The first row that did not go as told.
+/// The first row that did not go as expected.
 pub(super) fn wrong_row(stand: &mut Stand, rows: &[Row]) -> Option<usize> {
     for (i, row) in rows.iter().enumerate() {
         if !is_told(stand, row) {
@@ -499,7 +500,7 @@ pub(super) fn wrong_row(stand: &mut Stand, rows: &[Row]) -> Option<usize> {
 /// A folder, and what goes in it.
 pub(super) type Table = (&'static str, &'static [Row]);
 
-// The first row that did not go as told in a folder of its own, and the first one where there was
+// The first row that did not go as expected in a folder of its own, and the first one if there was
 // no folder.
 fn wrong_in(rt: HostRuntime, path: &'static str, rows: &[Row]) -> Option<usize> {
     match at(rt, path) {
@@ -508,7 +509,7 @@ fn wrong_in(rt: HostRuntime, path: &'static str, rows: &[Row]) -> Option<usize> 
     }
 }
 
-/// The first table that did not go as told in a folder of its own, and its row.
+/// The first table that did not go as expected in a folder of its own, and its row.
 pub(super) fn wrong_table(rt: HostRuntime, tables: &[Table]) -> Option<(&'static str, usize)> {
     for (path, rows) in tables {
         let wrong = wrong_in(rt, *path, *rows);

@@ -138,7 +138,7 @@ fn lives<R: Wait>(wait: &R, rt: &Watched, stop: Stop) -> bool {
     }
 }
 
-// What is told where so many bytes of the second frame stand, which is a frame if it is whole.
+// What is said if so many bytes of the second frame stand, which is a frame if it is whole.
 fn said_of(of_second: u64) -> Said {
     if of_second == SECOND_LENGTH {
         Found(1, 2, 0, 1, 1, 0, JKV)
@@ -147,8 +147,8 @@ fn said_of(of_second: u64) -> Said {
     }
 }
 
-// Whether behind a life with such a stop the first file has so many bytes of the second frame, and
-// the files tell so.
+// Whether after a life with such a stop the first file has so many bytes of the second frame, and
+// the files say so.
 fn is_there<R: Wait>(wait: &R, rt: HostRuntime, stop: Stop, of_second: u64) -> bool {
     let Some(rt) = Watched::new(rt, "stored") else {
         return false;
@@ -159,7 +159,7 @@ fn is_there<R: Wait>(wait: &R, rt: HostRuntime, stop: Stop, of_second: u64) -> b
         && goes_outside(&rt, &Tells(2, said_of(of_second)))
 }
 
-// The first stop behind which it is otherwise: how many calls passed, or how many bytes were kept.
+// The first stop after which it is otherwise: how many calls passed, or how many bytes were kept.
 fn wrong_stop<R: Wait>(wait: &R, rt: HostRuntime) -> Option<(&'static str, usize)> {
     // No call fails; or the write of the sum, or the sync: the frame was not promised, and is there.
     for passes in [99, 2, 1] {
@@ -167,7 +167,7 @@ fn wrong_stop<R: Wait>(wait: &R, rt: HostRuntime) -> Option<(&'static str, usize
             return Some(("passed", passes as usize));
         }
     }
-    // Or the write, behind each of its bytes and behind its last one.
+    // Or the write, after each of its bytes and after its last one.
     for keep in 0..=SECOND_LENGTH {
         if !is_there(wait, rt, Stop(0, keep), keep) {
             return Some(("kept", keep as usize));
@@ -186,7 +186,7 @@ fn what_was_flushed_is_there_after_a_stop(rt: HostRuntime) {
 /// The pages of two segments: k=1 on the empty page 1, then j=2.
 const JK: &[(&str, &str)] = &[("j", "2"), ("k", "1")];
 
-/// What the cleaning of the older one tells.
+/// What the cleaning of the older one says.
 const GIVEN_UP: Cleaned = Cleaned {
     segment: 1,
     lease: 0,
@@ -194,7 +194,7 @@ const GIVEN_UP: Cleaned = Cleaned {
     frames: 1,
 };
 
-/// Whether the older of two segments is given up. The file is then emptied where that is asked, while
+/// Whether the older of two segments is given up. The file is then emptied if that is asked, while
 /// the log stands.
 pub(super) fn is_given_up(
     rt: &Watched,
@@ -211,7 +211,7 @@ pub(super) fn is_given_up(
 /// Two segments, the first of which is given up.
 const TWO: &[(&str, usize)] = &[(THIRD_LOST, 77), (THIRD_OLDER, 69)];
 
-/// A cleaning and a stop, before the file is emptied and behind it.
+/// A cleaning and a stop, before the file is emptied and after it.
 const CLEANED: &[Worked] = &[
     Worked("given", TWO, Some(false), 3, Found(1, 3, 0, 2, 1, 0, JK)),
     Worked("emptied", TWO, Some(true), 3, Found(2, 3, 0, 1, 2, 0, JK)),

@@ -1,5 +1,5 @@
-//! The sums beside a segment's file: their bytes, what is told of a file that was changed, and what a
-//! crash may leave of both files, of which nothing is told.
+//! The sums beside a segment's file: their bytes, what is said of a file that was changed, and what
+//! a crash may leave of both files, of which nothing is said.
 
 use super::cleared;
 use super::steps::Act::{
@@ -14,7 +14,7 @@ const FILE: &str = "segment-0000.bw";
 
 const SUMS: &str = "segment-0000.sum";
 
-/// The sums of these pieces, one behind the other, worked out by another program.
+/// The sums of these pieces, one after the other, worked out by another program.
 const ABC_DE: &str = "0300000000000000f2302604a0c33bc09d16479505e235c8\
     05000000000000006968d295a462a12f95622a23a733fc5d";
 
@@ -27,7 +27,7 @@ const XYZ_DE: &str = "0300000000000000aa6ac8137f43177d6289f3072d580fc8\
 const MIXED: &str = "0300000000000000aa6ac8137f43177d6289f3072d580fc8\
     05000000000000006968d295a462a12f95622a23a733fc5d";
 
-/// The second of the first ones behind a hole.
+/// The second of the first ones after a hole.
 const HOLE: &str = "000000000000000000000000000000000000000000000000\
     05000000000000006968d295a462a12f95622a23a733fc5d";
 
@@ -74,7 +74,7 @@ const WHOLE: &[Row] = &[
     Row(Holds(0, "\0bcde", 0), Done, ""),
 ];
 
-/// Bytes that the sums speak of, and that are not there, are told, and nothing is written.
+/// Bytes that the sums speak of, and that are not there, are reported, and nothing is written.
 const LOST: &[Row] = &[
     Row(Open, Done, "doanool"),
     Row(Segment(0, 64), Done, "nnoonolnoa"),
@@ -111,7 +111,7 @@ const GONE: &[Row] = &[
     Row(Has(SUMS, ABC_DE, 48), Done, ""),
 ];
 
-/// What was changed is told by where its piece begins, and nothing is written.
+/// What was changed is reported by where its piece begins, and nothing is written.
 const CHANGED: &[Row] = &[
     Row(Open, Done, "doanool"),
     Row(Segment(0, 64), Done, "nnoonolnoa"),
@@ -152,7 +152,7 @@ const EMPTIED: &[Row] = &[
     Row(Has(SUMS, XYZ_DE, 48), Done, ""),
 ];
 
-/// A sum counts behind the very one that it was written behind.
+/// A sum counts after the very one that it was written after.
 const BEHIND: &[Row] = &[
     Row(Make, Done, ""),
     Row(Write(FILE, "xyzde"), Done, ""),
@@ -203,7 +203,7 @@ const HELD: [&str; 6] = ["", "a", "ab", "abc", "abcd", "abcde"];
 
 const LEFT: [usize; 8] = [0, 1, 23, 24, 25, 32, 47, 48];
 
-// Whether a row goes as told.
+// Whether a row goes as expected.
 fn goes(stand: &mut Stand, act: Act, letters: &'static str) -> bool {
     is_told(stand, &Row(act, Done, letters))
 }
@@ -231,7 +231,7 @@ fn told_end(sums: usize) -> u64 {
     }
 }
 
-// Whether what is missing of the file is told, and the file stays as it is.
+// Whether what is missing of the file is reported, and the file stays as it is.
 fn is_missed(stand: &mut Stand, held: &'static str, told: u64) -> bool {
     let calls = if held.is_empty() {
         "nnolommr"
@@ -242,8 +242,8 @@ fn is_missed(stand: &mut Stand, held: &'static str, told: u64) -> bool {
     is_told(stand, &Row(Segment(0, 64), missing, calls)) && goes(stand, File(FILE, held), "")
 }
 
-// Whether a file with so many bytes of the sums is opened, or what is missing of it is told. A crash
-// leaves no sum without its piece.
+// Whether a file with so many bytes of the sums is opened, or what is missing of it is reported. A
+// crash leaves no sum without its piece.
 fn is_right(stand: &mut Stand, held: &'static str, sums: usize) -> bool {
     let told = told_end(sums);
     goes(stand, Make, "")
@@ -278,7 +278,7 @@ fn what_a_crash_left_is_no_damage_and_what_was_lost_is_told(rt: HostRuntime) {
     assert_eq!(rt; cleared(rt, "left", wrong_left(rt)), None);
 }
 
-// Whether a file in which this bit is another is told so, by where its piece begins.
+// Whether a file in which this bit is another is reported, by where its piece begins.
 fn is_found(rt: HostRuntime, byte: usize, bit: u32) -> bool {
     let Some(mut stand) = at(rt, "flipped") else {
         return false;

@@ -22,7 +22,7 @@ const ABC_DE: &str = "0300000000000000f2302604a0c33bc09d16479505e235c8\
 
 const ABCDE: &str = "0500000000000000a284d75b723c1f253397b873d470b1b8";
 
-/// The second of the first ones behind a hole.
+/// The second of the first ones after a hole.
 const HOLE: &str = "000000000000000000000000000000000000000000000000\
     05000000000000006968d295a462a12f95622a23a733fc5d";
 
@@ -132,7 +132,7 @@ const LAGGING: &[Row] = &[
     Row(Has(ITS_SUMS, ABCDE, 24), Done, ""),
 ];
 
-/// A part of a sum behind those that count is taken off.
+/// A part of a sum after those that count is taken off.
 const TORN: &[Row] = &[
     Row(Open, Done, "doanool"),
     Row(Leave, Done, ""),

@@ -21,7 +21,7 @@ pub struct Watch<F = File> {
     letters: AtomicU64,
     /// Those of the eight before them.
     earlier: AtomicU64,
-    /// How many calls pass before one fails; `u64::MAX` where none is to.
+    /// How many calls pass before one fails; `u64::MAX` if none is to.
     passes: AtomicU64,
     /// How many bytes of its piece a write keeps that fails.
     keep: AtomicU64,
@@ -110,7 +110,7 @@ impl<F> Watch<F> {
         }
     }
 
-    // The same, as an answer of the system.
+    // Whether a call passes, which has this letter, as an answer of the system.
     fn ask(&self, letter: u8) -> io::Result<()> {
         if self.passes(letter) {
             Ok(())
@@ -132,8 +132,8 @@ pub struct Watched<R, F = File> {
 }
 
 impl<R: AllocGlobal + Files<File = F> + Drop, F: SegmentFile> Watched<R, F> {
-    /// Nothing was asked yet, and no call is to fail. The folder and its files are gone, if they were
-    /// there. None where there is no memory, or no device `/dev/full`.
+    /// Nothing was asked yet, and no call is to fail. The folder and its files are gone, if they
+    /// were there. None if there is no memory, or no device `/dev/full`.
     pub fn new(rt: R, path: &'static str) -> Option<Watched<R, F>> {
         let _ = fs::remove_dir_all(&rt, path);
         let full = OpenOptions::new().write(true).open(&rt, "/dev/full").ok()?;

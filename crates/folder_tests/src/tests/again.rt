@@ -23,8 +23,8 @@ pub(super) const SMALL: Options = Options {
 /// How many records are put, each flushed by itself: more than a megabyte.
 const RECORDS: u32 = 10_000;
 
-// Puts a record of one of 16 keys and settles, and gives up the oldest segment where one spare is
-// left and it pays.
+// Puts a record of one of 16 keys and settles, and gives up the oldest segment if one spare is left
+// and it pays.
 fn update<R: System>(rt: &R, home: &mut Home, number: u32) -> Result<(), Fail>
     requires { IsReady home.old holding }
     ensures { IsReady home.new holding }

@@ -82,7 +82,7 @@ fn is_taken(home: &mut Home, writer: usize) -> Result<bool, Fail>
     Ok(home.offer(writer, group).is_ok())
 }
 
-// How many of so many groups it takes, where nobody takes from it meanwhile.
+// How many of so many groups it takes, if nobody takes from it meanwhile.
 fn taken_of(home: &mut Home, writer: usize, groups: u32) -> Result<u32, Fail>
     requires { IsReady home.old holding }
     ensures { IsReady home.new holding }

@@ -24,7 +24,7 @@ enum Step {
     Delete(&'static [u8]),
     /// The value of the first key goes to the second, as one change.
     Move(&'static [u8], &'static [u8], &'static [u8]),
-    /// The value of a key; no bytes where it has none.
+    /// The value of a key; no bytes if it has none.
     Get(&'static [u8], &'static [u8]),
     /// All is kept: so many changes since the store was opened.
     Keep(u64),
@@ -97,7 +97,7 @@ enum Went {
     On,
 }
 
-// As told exactly where this holds.
+// As expected exactly if this holds.
 fn told(holds: bool) -> Went {
     match holds {
         true => Went::AsTold,
@@ -139,7 +139,7 @@ fn goes(home: &mut Home, step: &Step) -> Result<Went, Fail>
     }
 }
 
-/// Steps, one a leg, or several where a step is not done at once.
+/// Steps, one a leg, or several if a step is not done at once.
 #[derive(Drop)]
 struct Walks {
     steps: &'static [Step],
@@ -153,7 +153,7 @@ impl Walks {
 }
 
 impl<R: System> Legs<R> for Walks {
-    // How many steps went as told before one did not.
+    // How many steps went as expected before one did not.
     type Answer = Result<usize, Fail>;
 
     fn leg(&mut self, _rt: &R, home: &mut Home) -> Option<Result<usize, Fail>> {
@@ -190,7 +190,7 @@ const FIRST_LIFE: [Step; 12] = [
 // What was not kept is not there.
 const SECOND_LIFE: [Step; 4] = [Get(b"a", b""), Get(b"b", b""), Get(b"c", b"3"), Keep(0)];
 
-// The first life in a folder, and the first step of that one, that goes otherwise than told.
+// The first life in a folder, and the first step of that one, that goes otherwise than expected.
 fn wrong_in<R: System>(
     rt: &R,
     path: &str,

@@ -1,5 +1,5 @@
-//! A folder is opened, and one allocation on the way is refused: the call tells it, and goes when
-//! it is made again.
+//! A folder is opened, and one allocation on the way is refused: the call says it, and goes when it
+//! is made again.
 
 use bw_codec::limits::MIN_FRAME;
 use bw_codec::{Key, Record, Value};
@@ -51,8 +51,8 @@ impl<R: System> Course<R> for Settle {
     }
 }
 
-/// Whether a call was refused memory, where it went or told that; none where it told something
-/// else. What only makes a call faster may be refused, and the call goes.
+/// Whether a call was refused memory, if it went or said that; none if it said something else. What
+/// only makes a call faster may be refused, and the call goes.
 fn tried<R: System>(rt: &R) -> Option<bool> {
     begin(rt.alloc());
     let answer = with_store(rt, PATH, &SMALL, Settle);
@@ -75,8 +75,8 @@ fn prepares<R: System>(rt: &R, is_new: bool) -> bool {
     is_new || goes(rt)
 }
 
-/// The allocation whose refusal is not told, or behind which the call does not go; none where there
-/// is no such one. The folder is new for each, or has one record.
+/// The allocation whose refusal is not said, or after which the call does not go; none if there is
+/// no such one. The folder is new for each, or has one record.
 fn wrong_number<R: System>(rt: &R, is_new: bool) -> Option<u32> {
     for number in 1..MOST {
         if !prepares(rt, is_new) {

@@ -76,8 +76,9 @@ const TAKEN: &str = "folder_tests_taken";
 
 const TAKEN_FIRST: &str = "folder_tests_taken/segment-0000.bw";
 
-/// Gives up the first of two segments, whose file is not emptied, and makes two spares, of which the
-/// first stands over that file. Whether what this one has stays where what was given up is emptied.
+/// Gives up the first of two segments, whose file is not emptied, and makes two spares, of which
+/// the first stands over that file. Whether what this one has stays if what was given up is
+/// emptied.
 #[derive(Drop)]
 struct Taken {
     made: u32,

@@ -24,10 +24,10 @@ const FIRST: &[u8] = b"BWLOGSG2\x01\0\0\0\0\0\0\0\x20\0\0\0\0\0\x01\0";
 
 const SECOND: &[u8] = b"BWLOGSG2\x02\0\0\0\0\0\0\0\x20\0\0\0\0\0\x01\0";
 
-/// The same, with the beginning of a frame behind it.
+/// The header of segment 1 with the beginning of a frame after it.
 const TORN: &[u8] = b"BWLOGSG2\x01\0\0\0\0\0\0\0\x20\0\0\0\0\0\x01\0FRM2\x01";
 
-/// The beginning of segment 1 in format 1, and the same with the beginning of a frame behind it.
+/// The beginning of segment 1 in format 1, and the same with the beginning of a frame after it.
 const OLD_FIRST: &[u8] = b"BWLOGSG1\x01\0\0\0\0\0\0\0\x20\0\0\0\0\x40\0\0";
 
 const OLD_TORN: &[u8] = b"BWLOGSG1\x01\0\0\0\0\0\0\0\x20\0\0\0\0\x40\0\0FRM1\x01";
@@ -69,7 +69,7 @@ fn stays<R: System>(rt: &R, row: &Row) -> Result<bool, Fail> {
     )
 }
 
-// Whether a call over the row's files goes as told.
+// Whether a call over the row's files goes as expected.
 fn goes<R: System>(rt: &R, row: &Row) -> Result<bool, Fail> {
     fs::create_dir(rt, "folder_tests_rows")?;
     fs::write(rt, "folder_tests_rows/segment-0000.bw", row.0)?;
@@ -112,7 +112,7 @@ const NO_WRITER: Options = Options {
     capacity: 65_560,
 };
 
-// Why the course did not run; `None` where it did.
+// Why the course did not run; `None` if it did.
 fn fault_of<R: System>(rt: &R, path: &str, options: &Options) -> Result<Option<HomeFault>, Fail> {
     match with_store(rt, path, options, PutAndWalk) {
         Ok(pair) => {

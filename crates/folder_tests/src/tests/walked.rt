@@ -63,7 +63,7 @@ fn are_those_of(pairs: &[Pair], keys: &[&'static [u8]]) -> bool {
             .all(|(pair, key)| pair.key() == *key && pair.value() == *key)
 }
 
-// Whether the step goes as told.
+// Whether the step goes as expected.
 fn goes(going: &mut Going, home: &mut Home, step: &Step) -> Result<bool, Fail>
     requires { IsReady home.old holding }
     ensures { IsReady home.new holding }
@@ -109,7 +109,7 @@ impl Steps {
 }
 
 impl<R: System> Legs<R> for Steps {
-    // How many steps went as told before one did not.
+    // How many steps went as expected before one did not.
     type Answer = Result<usize, Fail>;
 
     fn leg(&mut self, _rt: &R, home: &mut Home) -> Option<Result<usize, Fail>> {
@@ -200,7 +200,7 @@ const FOUND: [Step; 12] = [
     Found(&[b"bb", b"c", b"d", b"e"]),
 ];
 
-// How many steps over an empty home in memory went as told before one did not.
+// How many steps over an empty home in memory went as expected before one did not.
 fn gone<R: System>(rt: &R, steps: &'static [Step]) -> Result<usize, Fail> {
     with_store_at(rt, None, 4, &SMALL, &mut Steps::of(rt.alloc(), steps))?
 }
@@ -245,10 +245,10 @@ fn key_of(bytes: &Bytes) -> Result<Key, Fail> {
     }
 }
 
-/// A key, and the least one above it, where there is one.
+/// A key, and the least one above it, if there is one.
 type Row = (Bytes, Option<Bytes>);
 
-// Whether the least key above a row's is the one that it tells.
+// Whether the least key above a row's is the one that it says.
 fn is_told(row: &Row) -> Result<bool, Fail> {
     let found = after(&key_of(&row.0)?);
     match (&row.1, found) {
@@ -271,7 +271,7 @@ const ROWS: [Row; 10] = [
     (Whole(b"", 0xff, 0xff), None),
 ];
 
-// How many rows are as told before one is not.
+// How many rows are as expected before one is not.
 fn told(rows: &[Row]) -> Result<usize, Fail> {
     for (at, row) in rows.iter().enumerate() {
         if !is_told(row)? {

@@ -1,4 +1,4 @@
-//! Segments, desks and the log: that calls succeed where memory is there, that a lease comes back when
+//! Segments, desks and the log: that calls succeed if memory is there, that a lease comes back when
 //! it is dropped, which box takes what, and the worked bytes.
 
 ghost use Rattle.std.specs.Prelude.{◌≡◌, ◌≤◌, [], true, length, IfSome};
@@ -77,7 +77,7 @@ fn add_box(yard: &mut Yard, bytes: &[u8], room: u64, fuse: Fuse) -> bool {
     }
 }
 
-/// Whether a box of the least capacity stands there, which fails so, and behind it so many more.
+/// Whether a box of the least capacity stands there, which fails so, and after it so many more.
 fn add_boxes(yard: &mut Yard, more: u32, fuse: Fuse) -> bool {
     if !add_box(yard, &[], LEAST, fuse) {
         return false;

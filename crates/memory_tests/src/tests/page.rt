@@ -8,7 +8,7 @@ use bw_codec::Leaf;
 use test_kit::refusals::{Try, tried};
 use test_kit::vectors::shows;
 
-/// How a change of a leaf went, which shows the one text behind it, and the other where it was refused.
+/// How a change of a leaf went, which shows the one text after it, and the other if it was refused.
 fn changed(leaf: &Leaf, went: bool, refused: bool, new: &[u8], old: &[u8]) -> Option<Try> {
     tried(went, refused, shows(leaf, if went { new } else { old }))
 }

@@ -1,7 +1,8 @@
-//! `bw_codec`: the worked bytes of `docs/FORMAT.md` are read as they are told there and written again;
-//! bytes that were torn or changed are told apart; and each public call succeeds where memory is there.
+//! `bw_codec`: the worked bytes of `docs/FORMAT.md` are read as they are shown there and written
+//! again; bytes that were torn or changed are found out; and each public call succeeds if memory is
+//! there.
 //!
-//! Tables of rows, each gone through to the first that goes otherwise than told.
+//! Tables of rows, each gone through to the first that goes otherwise than expected.
 
 mod calls;
 mod headings;

@@ -1,7 +1,7 @@
 //! `bw_page` and `bw_leaf`: pages, chains, splits and batches, the forward reading, and each public
 //! call once with ample memory.
 //!
-//! Tables of steps, each walked to the first that goes otherwise than told.
+//! Tables of steps, each walked to the first that goes otherwise than expected.
 
 mod chains;
 mod evicted;

@@ -1,5 +1,5 @@
-//! `bw_versions`: versions of the pages, as publishers tell them, and as readers see them beside a
-//! writer in another thread.
+//! `bw_versions`: versions of the pages, as publishers publish them, and as readers see them beside
+//! a writer in another thread.
 
 ghost use Rattle.std.specs.Prelude.{◌≡◌, ◌≤◌, [], IfOk, IfSome};
 ghost use mathlib.Core.List.{IsPrefix};
@@ -105,7 +105,7 @@ enum Case {
     Race,
     /// A reader in a thread of its own that learnt the last news.
     Learns,
-    /// Four readers, where three may be made.
+    /// Four readers, of which only three may be made.
     Places,
 }
 
@@ -120,12 +120,12 @@ fn does<R: Threads + Wait>(rt: &R, stand: &mut Stand, case: &Case) -> Option<usi
     }
 }
 
-/// The only step, where it did not go as told.
+/// The only step, where it did not go as expected.
 fn lone(went: bool) -> Option<usize> {
     if went { None } else { Some(0) }
 }
 
-/// The first step that did not go as told; the first where the versions were not made.
+/// The first step that did not go as expected; the first if the versions were not made.
 fn over<R: AllocGlobal + Threads + Wait>(rt: &R, places: usize, case: &Case) -> Option<usize>
     requires { (1 ≤ places) × (places ≤ 64) }
 {
@@ -137,7 +137,7 @@ fn over<R: AllocGlobal + Threads + Wait>(rt: &R, places: usize, case: &Case) -> 
     wrong
 }
 
-/// Whether a value is so; no text where there is none.
+/// Whether a value is so; no text if there is none.
 fn is_value(value: Option<Value>, text: &str) -> bool {
     match value {
         Some(value) => value.as_slice() == text.as_bytes(),
@@ -145,7 +145,7 @@ fn is_value(value: Option<Value>, text: &str) -> bool {
     }
 }
 
-/// Whether a reader reads this value of a key; no text where there is none.
+/// Whether a reader reads this value of a key; no text if there is none.
 fn value_is(reader: &mut Reader, key: &str, text: &str) -> bool
     ensures { reader.new.book ≡ reader.old.book }
 {
@@ -158,7 +158,7 @@ fn value_is(reader: &mut Reader, key: &str, text: &str) -> bool
     }
 }
 
-/// Whether a reader finds these pairs from a key on, where no more than so many are wanted.
+/// Whether a reader finds these pairs from a key on, if no more than so many are wanted.
 fn stretch_is(reader: &mut Reader, key: &str, most: usize, text: &str) -> bool
     ensures { reader.new.book ≡ reader.old.book }
 {
@@ -171,7 +171,7 @@ fn stretch_is(reader: &mut Reader, key: &str, most: usize, text: &str) -> bool
     }
 }
 
-/// Whether a reader reads this page; no text where there is none.
+/// Whether a reader reads this page; no text if there is none.
 fn page_is(reader: &mut Reader, page: u32, text: &str) -> bool
     ensures { reader.new.book ≡ reader.old.book }
 {

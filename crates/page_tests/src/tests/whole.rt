@@ -10,13 +10,13 @@ use test_kit::vectors::digits::bytes_of;
 /// The header of segment 1 with pages of four pairs.
 const HEADER: &str = "42574c4f47534732 0100000000000000 0400 0000 00000100";
 
-/// Pairs, each with why it is not put, if it is not, and the bytes of the segment behind its header.
+/// Pairs, each with why it is not put, if it is not, and the bytes of the segment after its header.
 struct Written {
     pairs: &'static [(&'static str, &'static str, Option<WholeFault>)],
     frames: &'static str,
 }
 
-/// Puts a pair, and says why it was not put; none where it came back otherwise.
+/// Puts a pair, and says why it was not put; none if it came back otherwise.
 fn put(alloc: Global, writer: &mut Writer, key: &str, value: &str) -> Option<Option<WholeFault>> {
     let held = Key::new(key.as_bytes()).ok()?;
     let value = Value::new(value.as_bytes()).ok()?;

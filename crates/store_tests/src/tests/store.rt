@@ -1,5 +1,5 @@
-//! Calls on a core, and on a store with readers, as tables of steps: each is walked over both to the
-//! first step that goes otherwise than told.
+//! Calls on a core, and on a store with readers, as tables of steps: each is walked over both to
+//! the first step that goes otherwise than expected.
 
 mod boxes;
 mod cleaning;

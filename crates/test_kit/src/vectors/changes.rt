@@ -5,12 +5,12 @@ ghost use Rattle.std.specs.Prelude.{◌≡◌, IfSome};
 use bw_codec::{Key, Packed, Record, Value};
 use std::alloc::Global;
 
-/// A put; none where the key or the value is too long.
+/// A put; none if the key or the value is too long.
 pub fn put(key: &[u8], value: &[u8]) -> Option<Record> {
     Some(Record::Put(Key::new(key).ok()?, Value::new(value).ok()?))
 }
 
-/// A delete; none where the key is too long.
+/// A delete; none if the key is too long.
 pub fn del(key: &[u8]) -> Option<Record> {
     Some(Record::Del(Key::new(key).ok()?))
 }
@@ -27,7 +27,7 @@ pub fn packed_put(alloc: Global, key: &[u8], value: &[u8]) -> Option<Packed> {
     packed(alloc, &put(key, value)?)
 }
 
-/// Puts, and a delete where there is no value.
+/// Puts, and a delete if there is no value.
 pub fn records(alloc: Global, changes: &[(&str, Option<&str>)]) -> Option<Vec<Record>> {
     let mut records = Vec::new(alloc);
     for (key, value) in changes {
@@ -40,7 +40,7 @@ pub fn records(alloc: Global, changes: &[(&str, Option<&str>)]) -> Option<Vec<Re
     Some(records)
 }
 
-/// The same, as pages apply them.
+/// Puts, and a delete if there is no value, as pages apply them.
 pub fn all_packed(alloc: Global, changes: &[(&str, Option<&str>)]) -> Option<Vec<Packed>> {
     let mut all = Vec::new(alloc);
     for record in records(alloc, changes)?.as_slice() {

@@ -12,7 +12,7 @@ fn digit_of(digit: u8) -> Option<u8> {
     }
 }
 
-/// Appends the bytes that hex digits spell. Spaces are for reading only. A byte behind a `v` is the
+/// Appends the bytes that hex digits spell. Spaces are for reading only. A byte after a `v` is the
 /// length of a value: it has a second byte, zero, in format 2.
 fn spell(version: u16, hex: &str, bytes: &mut Vec<u8>) -> Option<()> {
     let mut high = None;
@@ -42,7 +42,7 @@ pub fn bytes_of(alloc: Global, hex: &str) -> Option<Vec<u8>> {
     Some(bytes)
 }
 
-/// The body of a frame of this format that hex digits spell, in which a byte behind a `v` is the
+/// The body of a frame of this format that hex digits spell, in which a byte after a `v` is the
 /// length of a value; and how many of these there are.
 pub fn spelled_body(alloc: Global, version: u16, hex: &str) -> Option<(Vec<u8>, usize)> {
     let mut bytes = Vec::new(alloc);
@@ -50,7 +50,7 @@ pub fn spelled_body(alloc: Global, version: u16, hex: &str) -> Option<(Vec<u8>, 
     Some((bytes, hex.bytes().filter(|c| *c == b'v').count()))
 }
 
-/// A segment and one byte more, where one byte of them was changed.
+/// A segment and one byte more, of which one byte was changed.
 pub fn changed(alloc: Global, segment: &str, at: usize, to: u8) -> Option<Vec<u8>> {
     let mut bytes = bytes_of(alloc, segment)?;
     bytes.push(0).ok()?;
@@ -58,8 +58,8 @@ pub fn changed(alloc: Global, segment: &str, at: usize, to: u8) -> Option<Vec<u8
     Some(bytes)
 }
 
-/// A body of this format: what the digits in front spell, a length in one byte or in two, so many bytes
-/// `61`, and what the digits behind spell.
+/// A body of this format: what the digits in front spell, a length in one byte or in two, so many
+/// bytes `61`, and what the digits after it spell.
 pub fn body_of(
     alloc: Global,
     version: u16,

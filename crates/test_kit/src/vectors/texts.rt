@@ -1,4 +1,4 @@
-//! Bytes told as hex, and pages as text.
+//! Bytes shown as hex, and pages as text.
 
 use bw_codec::{Leaf, Pair};
 use std::alloc::Global;
@@ -31,12 +31,12 @@ pub fn is(bytes: &[u8], told: &[u8]) -> bool {
     bytes == told
 }
 
-/// What is left of a text behind a part of it; none where it does not begin so.
+/// What is left of a text after a part of it; none if it does not begin so.
 pub fn behind<'a>(text: Option<&'a [u8]>, part: &[u8]) -> Option<&'a [u8]> {
     text?.strip_prefix(part)
 }
 
-/// The same behind pairs, each after a space.
+/// What is left of a text after pairs, each after a space; none if it does not begin so.
 pub fn behind_pairs<'a>(text: Option<&'a [u8]>, pairs: &[Pair]) -> Option<&'a [u8]> {
     let mut rest = text;
     for pair in pairs {
@@ -46,7 +46,8 @@ pub fn behind_pairs<'a>(text: Option<&'a [u8]>, pairs: &[Pair]) -> Option<&'a [u
     rest
 }
 
-/// The same behind a page: its low key, a colon, and its pairs.
+/// What is left of a text after a page: its low key, a colon, and its pairs; none if it does not
+/// begin so.
 pub fn behind_leaf<'a>(text: Option<&'a [u8]>, leaf: &Leaf) -> Option<&'a [u8]> {
     let rest = behind(behind(text, leaf.low.as_slice()), b":");
     behind_pairs(rest, leaf.pairs.as_slice())
@@ -70,7 +71,7 @@ pub fn are_shown(pairs: &[Pair], text: &str) -> bool {
     is_at_end(behind_pairs(Some(text.as_bytes()), pairs))
 }
 
-/// Whether a page is shown so; no text where there is none, or it is not in memory.
+/// Whether a page is shown so; no text if there is none, or it is not in memory.
 pub fn is_shown(leaf: Option<&Leaf>, text: &str) -> bool {
     match leaf {
         Some(leaf) => shows(leaf, text.as_bytes()),

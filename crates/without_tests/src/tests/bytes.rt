@@ -76,7 +76,7 @@ const HEADER: &[u8] = b"BWLOGSG2\x01\0\0\0\0\0\0\0\x04\0\0\0\0\0\x01\0";
 /// The head of the first frame, with 33 bytes of two blocks.
 const HEAD: &[u8] = b"FRM2\x01\0\0\0\0\0\0\0\x21\0\0\0\x02\0\0\0";
 
-/// Frame 2, which puts v at k into page 1, behind the first block of frame 1.
+/// Frame 2, which puts v at k into page 1, after the first block of frame 1.
 const FRAME: &[u8] =
     b"FRM2\x02\0\0\0\0\0\0\0\x19\0\0\0\x01\0\0\0\x01\x01\0\0\0\x01\0\0\0\0\0\0\0\0\0\0\0\x01\0\x01\x01k\x01\0v";
 
@@ -151,7 +151,7 @@ fn pairs(alloc: Global) -> Option<bool> {
     asked(alloc, is_so && items.len() == 1)
 }
 
-/// Pairs stand without their row where there is no memory for it.
+/// Pairs stand without their row if there is no memory for it.
 fn pairs_are_made(alloc: Global) -> Option<bool> {
     let items = three(alloc)?;
     begin_without(alloc);

@@ -84,7 +84,7 @@ fn goes_whole(feed: &mut Feed, lane: &mut Lane, one: Record, other: Record) -> b
     is_put && lane.take().is_some_and(|group| group.len() == 2)
 }
 
-/// Two records through one ring, each alone or in groups.
+/// Two records through one ring, each by itself or in groups.
 fn through_one_ring(alloc: Global, in_groups: bool) -> Option<bool> {
     let (mut feed, mut lane) = one_ring(alloc).ok()?;
     let (one, other) = (put(b"k", b"v")?, put(b"l", b"w")?);
@@ -114,7 +114,7 @@ fn lends(one: &dyn Segment, is_lender: bool, bytes: &[u8]) -> bool {
     }
 }
 
-/// Whether a segment takes three bytes and gives them back, where it has room.
+/// Whether a segment takes three bytes and gives them back, if it has room.
 fn holds(one: &mut dyn Segment, lease: u32, is_lender: bool) -> bool {
     let mut out = [0; 3];
     if one.capacity() != 8 || one.len() != 0 || one.failures() != 0 {
@@ -147,7 +147,7 @@ fn segments(alloc: Global) -> Option<bool> {
     asked(alloc, is_so)
 }
 
-/// Bytes go into the first box, where it takes them, and come out of it.
+/// Bytes go into the first box, if it takes them, and come out of it.
 fn are_held(boxes: &mut Vec<Box<dyn Segment>>) -> bool {
     if boxes.as_slice().len() != 2 {
         return false;
@@ -202,7 +202,7 @@ fn boxes(alloc: Global) -> Option<bool> {
     asked(alloc, is_so)
 }
 
-/// The empty page 1 and k=1; and behind it j=2.
+/// The empty page 1 and k=1; and after it j=2.
 const SEGMENTS: &[&str] = &[THIRD_LOST, THIRD_OLDER];
 
 /// Two segments and a spare.

@@ -72,7 +72,7 @@ fn a_page_goes_and_comes(alloc: Global) -> Option<bool> {
     asked(alloc, is_evicted_page && leaves.is_here(1))
 }
 
-/// Whether a key has this value in a leaf; no text where it has none.
+/// Whether a key has this value in a leaf; no text if it has none.
 fn tells(leaf: &Leaf, key: &Key, text: &[u8]) -> bool
     requires { IsTrue (ascends leaf.now.pairs) }
 {

@@ -4,7 +4,7 @@ use Rattle.bw_codec.specs.Reading.{many_at, block_at, head_at, front_at}
 use Rattle.bw_record.specs.declared.block.Block.{Block}
 use Rattle.bw_codec.proofs.decoder.front_of.Goals as goal
 
--- blocks with bytes behind them are no body
+-- blocks with bytes after them are no body
 left_over : (v m f number body count : ℕ) (bytes rest after : List ℕ) (blocks : List Block) → 20 ≤ length bytes
     → (head_at v) f bytes ≡ Some (record { number = number; body = body; blocks = count }, rest)
     → body ≤ length rest → many_at ((block_at v) m) count (take body rest) ≡ Some (blocks, after) → (length after == 0) ≡ false

@@ -4,7 +4,7 @@ use Rattle.bw_codec.specs.Reading.{page_at, place_at}
 use Rattle.bw_codec.specs.Skipping.{upper_after, split_after}
 use Rattle.bw_codec.proofs.outline.skip_split.Goals as goal
 
--- a split, its page, its link back and its new page one behind the other
+-- a split, its page, its link back and its new page one after the other
 stepped_over : (v page made : ℕ) (back : Place) (bytes first second third : List ℕ) → page_at bytes ≡ Some (page, first)
     → place_at first ≡ Some (back, second) → (upper_after v) second ≡ Some (made, third) → (split_after v) bytes ≡ Some ((page, Some made), third)
 unfolding split_after

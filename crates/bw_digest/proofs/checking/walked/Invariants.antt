@@ -4,7 +4,7 @@ use Rattle.bw_digest.specs.Rows.{reach}
 use Rattle.bw_digest.specs.Checked.{checked}
 use Rattle.bw_digest.proofs.checking.walked.Given as goal
 
--- what the sums ahead say behind this row is what all of them say
+-- what the sums ahead say after this row is what all of them say
 abbrev pub invariant-loop-i : goal.invariant-loop-i
 invariant-loop-i l = record {
   number : l.i-end ≡ length l.sums / 24;

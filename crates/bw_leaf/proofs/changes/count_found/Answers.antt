@@ -7,7 +7,7 @@ use Rattle.bw_leaf.specs.Seek.{seek_of, IsWithin}
 use Rattle.bw_leaf.proofs.Seeking.{Counted, counted}
 use Rattle.bw_leaf.proofs.changes.count_found.Goals as goal
 
--- how many pairs records of a key make, where the search for it ended so
+-- how many pairs records of a key make, if the search for it ended so
 there : (change : Record) (key : Bytes) (pairs : Pairs) (found at : Result ℕ ℕ) → key_of change ≡ key → found ≡ at
     → found ≡ seek_of (key_of change) pairs → IsWithin (length pairs) found → Counted key pairs at
 there change key pairs found at same is sought within =

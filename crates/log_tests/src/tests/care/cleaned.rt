@@ -55,14 +55,14 @@ const THIRD: &[Kept] = &[
     (Torn(THIRD_NEWER, 0), LEAST, false),
 ];
 
-/// The same with no room in the newest segment and no spare.
+/// The third vector before its cleaning, with no room in the newest segment and no spare.
 const FULL: &[Kept] = &[
     (Whole(THIRD_LOST), LEAST, false),
     (Whole(THIRD_OLDER), LEAST, false),
     (Torn(THIRD_NEWER, 69), 69, false),
 ];
 
-/// The second vector, a segment behind it, and a spare.
+/// The second vector, a segment after it, and a spare.
 const SECOND_AND_MORE: &[Kept] = &[
     (Whole(SECOND), LEAST, false),
     (Whole(BEHIND_SECOND), LEAST, false),

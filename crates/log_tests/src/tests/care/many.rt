@@ -17,7 +17,7 @@ fn put(out: &mut Vec<u8>, parts: &[&[u8]]) -> Option<()> {
     Some(())
 }
 
-// A key of 128 bytes: two more tell the page and the pair.
+// A key of 128 bytes: two more name the page and the pair.
 const KEY: &[u8] = &[b'k'; 126];
 
 const VALUE: &[u8] = &[b'v'; 512];
@@ -39,7 +39,7 @@ fn put_base(out: &mut Vec<u8>, page: u8) -> Option<()> {
     Some(())
 }
 
-// A frame of twenty such pages, from the page behind this one on, with so many bytes of blocks.
+// A frame of twenty such pages, from the page after this one on, with so many bytes of blocks.
 fn put_frame(out: &mut Vec<u8>, number: u64, behind: u8, body: u32) -> Option<()> {
     encode_frame_head(number, body, 20, out).ok()?;
     for page in 1..41 {
@@ -51,7 +51,7 @@ fn put_frame(out: &mut Vec<u8>, number: u64, behind: u8, body: u32) -> Option<()
 }
 
 // The bytes of the segment of this number: in the first stand forty full pages in two frames, the
-// second is begun behind it.
+// second is begun after it.
 fn put_segment(out: &mut Vec<u8>, number: u64) -> Option<()> {
     let header = Header {
         version: LATEST,
@@ -77,7 +77,7 @@ fn add_segments(yard: &mut Yard) -> bool {
     add_segment(yard, 1) && add_segment(yard, 2) && add_box(yard, &[], ROOM, NEVER)
 }
 
-// Whether forty pages are recovered again, from the cleaner's frames alone.
+// Whether forty pages are recovered again, only from the cleaner's frames.
 fn are_there(alloc: Global, live: Vec<Box<dyn Segment>>) -> bool {
     match recover(alloc, live) {
         Ok(again) => again.leaves.count() == 40 && again.first == 3 && again.last == 4,

@@ -15,7 +15,7 @@ use test_kit::vectors::{
     OLD_SECOND, OLD_THIRD_NEWER, OLD_THIRD_OLDER, SECOND, THIRD_NEWER, THIRD_OLDER, UPGRADED,
 };
 
-/// What is told of a list of boxes.
+/// What is said of a list of boxes.
 #[derive(Clone, Copy)]
 enum Told {
     /// The first and the last frame, tail bytes, live segments, spares, boxes dropped, and the pages.
@@ -29,14 +29,14 @@ enum Boxes {
     Ample(&'static [Piece]),
     /// One of this room for a piece, and a spare of this room.
     Beside(Piece, u64, u64),
-    /// The older one of the third vector and the newer one, behind a recovery that the newer one's
-    /// call of this number failed, which told so.
+    /// The older one of the third vector and the newer one, after a recovery that the newer one's
+    /// call of this number failed, which was said.
     Again(u64),
     /// 4,097 of a bad byte each, one of them of another desk.
     Many,
 }
 
-/// Boxes, and what is told of them.
+/// Boxes, and what is said of them.
 struct Row(Boxes, Told);
 
 use Boxes::{Again, Ample, Beside, Many};
@@ -81,12 +81,12 @@ enum Part {
     At(Text, (usize, usize), &'static [u8]),
     /// With the mark of a frame in the format above.
     Marked(Text),
-    /// With more bytes behind.
+    /// With more bytes at the end.
     And(Text, &'static [u8]),
 }
 
-/// Boxes of ample room in either format, and what is told of them, or of those in format 2 and of those
-/// in format 1.
+/// Boxes of ample room in either format, and what is said of them, or of those in format 2 and of
+/// those in format 1.
 enum Twice {
     Same(&'static [Part], Told),
     Other(&'static [Part], (Told, Told)),
@@ -104,7 +104,7 @@ const AT_FRAME: Told = Fault(BadBytes { segment: 0, at: 24 });
 
 const ALL_ONES: &[u8] = &[0xff, 0xff, 0xff, 0xff];
 
-/// Vectors whole, cut, exchanged, doubled, and with a stray byte behind.
+/// Vectors whole, cut, exchanged, doubled, and with a stray byte at the end.
 const WORKED: &[Twice] = &[
     Same(&[All(ONE)], Found(1, 1, 0, 1, 0, 0, KV)),
     Same(&[All(FIVE)], Found(1, 5, 0, 1, 0, 0, TWO_PAGES)),
@@ -177,8 +177,8 @@ const HOSTILE: &[Twice] = &[
     ),
 ];
 
-/// Lists with two faults, of which the earlier one is told: bytes before limits, limits before gaps,
-/// gaps before no frame, and a wrong link before a page at fault.
+/// Lists with two faults, of which the earlier one is said: bytes before limits, limits before
+/// gaps, gaps before no frame, and a wrong link before a page at fault.
 const ORDERED: &[Twice] = &[
     Same(
         &[All(ONE), At(OLDER, (16, 16), &[0x05]), Marked(ONE)],
@@ -227,7 +227,7 @@ fn add_parts(yard: &mut Yard, format: Format, parts: &[Part]) -> bool {
     true
 }
 
-// Whether the boxes are told so in this format.
+// Whether this is said of the boxes in this format.
 fn is_told_in(alloc: Global, format: Format, row: &Twice) -> bool {
     let (parts, told) = match row {
         Same(parts, told) => (*parts, *told),
@@ -340,12 +340,12 @@ fn are_read(found: bw_care::Recovered, pages: &str) -> bool
     }
 }
 
-// How many pairs are told of: each has one sign of equality.
+// How many pairs a text has: each has one sign of equality.
 fn pairs_in(pages: &str) -> u64 {
     pages.bytes().filter(|byte| *byte == b'=').count() as u64
 }
 
-// Whether it was found as told, where it was; the desk tells how many boxes were dropped.
+// Whether it was found as expected, where it was; the desk tells how many boxes were dropped.
 fn is_found(found: bw_care::Recovered, returned: u32, told: &Told) -> bool
     requires { IsRecovered (λ b. holding (b.vtable, b.value)) found }
 {
@@ -390,7 +390,7 @@ const FAILING: &[Row] = &[
     Row(Again(1), Found(2, 4, 0, 2, 0, 0, JK)),
 ];
 
-// Whether the same boxes stand there behind a recovery that the second of them failed.
+// Whether the same boxes stand there after a recovery that the second of them failed.
 fn are_failed(yard: &mut Yard) -> bool {
     match recover(yard.alloc, all_out(yard)) {
         Ok(_) => false,
@@ -402,7 +402,7 @@ fn are_failed(yard: &mut Yard) -> bool {
     }
 }
 
-// Whether a box of another desk stands there, and behind it 4,096 of this one.
+// Whether a box of another desk stands there, and after it 4,096 of this one.
 fn add_too_many(yard: &mut Yard) -> bool {
     if !add_box(yard, b"X", 1, NEVER) {
         return false;
@@ -428,7 +428,7 @@ fn add_all(yard: &mut Yard, boxes: &Boxes) -> bool {
     }
 }
 
-// Whether boxes are told so; a fault hands all of them back, in order.
+// Whether this is said of boxes; a fault hands all of them back, in order.
 fn is_told(alloc: Global, yard: &mut Yard, told: &Told) -> bool {
     let boxes = all_out(yard);
     let count = boxes.len();
@@ -444,7 +444,7 @@ fn is_told(alloc: Global, yard: &mut Yard, told: &Told) -> bool {
     }
 }
 
-// Whether the boxes of a row are told so.
+// Whether what the row says is said of its boxes.
 fn goes(alloc: Global, row: &Row) -> bool {
     match empty_yard(alloc, 8) {
         Some(mut yard) => add_all(&mut yard, &row.0) && is_told(alloc, &mut yard, &row.1),
@@ -486,7 +486,7 @@ fn worked_boxes_of_format_1_are_told(rt: HostRuntime) -> Result<(), WrongStep> {
 }
 
 const TABLES: &[Rows] = &[
-    // A small spare is refused behind no frame and before links.
+    // A small spare is refused after no frame and before links.
     Rows(SPARES),
     Rows(FAILING),
     // Too many boxes are refused before any byte.

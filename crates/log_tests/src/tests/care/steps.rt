@@ -1,5 +1,5 @@
 //! Calls on logs that were recovered from worked segments, walked to the first that goes otherwise
-//! than told.
+//! than expected.
 
 ghost use Rattle.bw_log.specs.Views.{IsSound as IsSoundBeside};
 ghost use Rattle.test_boxes.specs.Views.{IsSound};
@@ -39,7 +39,7 @@ pub(super) enum Step {
 
 use Step::{Add, Bytes, Cleans, NotCleaned, NotUpgraded, Page, Stands, Upgrades, Versions};
 
-/// What a cleaning tells.
+/// What a cleaning says.
 pub(super) fn cleaned(segment: u64, lease: u32, pages: usize, frames: u64) -> Cleaned {
     Cleaned {
         segment,
@@ -49,7 +49,7 @@ pub(super) fn cleaned(segment: u64, lease: u32, pages: usize, frames: u64) -> Cl
     }
 }
 
-/// Whether a cleaning answers as told.
+/// Whether a cleaning answers as expected.
 pub(super) fn cleans(alloc: Global, log: &mut Log, told: Result<Cleaned, CleanFault>) -> bool
     requires { IsSound log.old holding }
     ensures { IsSound log.new holding }
@@ -57,7 +57,7 @@ pub(super) fn cleans(alloc: Global, log: &mut Log, told: Result<Cleaned, CleanFa
     clean(alloc, log) == told
 }
 
-// Whether an upgrade answers as told.
+// Whether an upgrade answers as expected.
 fn upgrades(alloc: Global, log: &mut Log, told: Result<Upgraded, CleanFault>) -> bool
     requires { IsSound log.old holding }
     ensures { IsSound log.new holding }
@@ -113,7 +113,7 @@ fn goes(yard: &mut Yard, log: &mut Log, step: &Step) -> bool
     }
 }
 
-// The first step that did not go as told.
+// The first step that did not go as expected.
 fn wrong_step(yard: &mut Yard, log: &mut Log, steps: &[Step]) -> Option<usize>
     requires { IsSoundBeside holding log.old }
 {
@@ -125,7 +125,7 @@ fn wrong_step(yard: &mut Yard, log: &mut Log, steps: &[Step]) -> Option<usize>
     None
 }
 
-// The first step that did not go as told over what is recovered from boxes.
+// The first step that did not go as expected over what is recovered from boxes.
 fn wrong_over(
     alloc: Global,
     yard: &mut Yard,
@@ -138,8 +138,8 @@ fn wrong_over(
     }
 }
 
-// The first step that did not go as told over segments and spares, of which one fails so, with one
-// more box in the yard.
+// The first step that did not go as expected over segments and spares, of which one fails so, with
+// one more box in the yard.
 fn wrong_in(yard: &mut Yard, kept: &[Kept], fuse: Fuse, steps: &[Step]) -> Option<usize> {
     let alloc = yard.alloc;
     if !add_kept(yard, fuse, kept) {
@@ -151,8 +151,8 @@ fn wrong_in(yard: &mut Yard, kept: &[Kept], fuse: Fuse, steps: &[Step]) -> Optio
     }
 }
 
-/// The first step that did not go as told over what is recovered from segments and spares, of which
-/// one fails so, with one more box in the yard.
+/// The first step that did not go as expected over what is recovered from segments and spares, of
+/// which one fails so, with one more box in the yard.
 pub(super) fn walked(alloc: Global, kept: &[Kept], fuse: Fuse, steps: &[Step]) -> Option<usize> {
     match empty_yard(alloc, 8) {
         Some(mut yard) => wrong_in(&mut yard, kept, fuse, steps),

@@ -11,7 +11,7 @@ use test_kit::tables::{Table, WrongStep, tables_go};
 /// One case over a desk, with what it has to answer.
 enum Row {
     /// After how many calls a fuse fails and how many bytes it then keeps, which of two appends and
-    /// two reads pass, and the bytes that it holds behind them.
+    /// two reads pass, and the bytes that it holds after them.
     Fuse(u64, u64, [bool; 4], &'static str),
     /// Each call of a box of either kind succeeds, and both leases come back when they are dropped.
     Boxes,
@@ -29,7 +29,7 @@ enum Row {
 
 use Row::{All, Boxes, Fuse, Least, Order};
 
-// Whether the append goes as told: not where its condition does not hold.
+// Whether the append goes as expected: not if its condition does not hold.
 fn appends(one: &mut dyn Segment, piece: &[u8], told: bool) -> bool {
     let room = one.capacity() - one.len();
     if room < piece.len() as u64 || one.failures() == u64::MAX {
@@ -38,7 +38,7 @@ fn appends(one: &mut dyn Segment, piece: &[u8], told: bool) -> bool {
     one.append(piece).is_ok() == told
 }
 
-// Whether the first bytes can be read or not, as told, and are these: not where the condition does
+// Whether the first bytes can be read or not, as expected, and are these: not if the condition does
 // not hold.
 fn reads(one: &mut dyn Segment, held: &[u8], told: bool) -> bool {
     let mut out = [0; 8];
@@ -77,7 +77,8 @@ fn one_segment(alloc: Global) -> Option<MemSegment> {
     }
 }
 
-// Whether two appends and two reads of a segment that fails so go as told, and leave these bytes.
+// Whether two appends and two reads of a segment that fails so go as expected, and leave these
+// bytes.
 fn burns(alloc: Global, fuse: (u64, u64), passes: &[bool; 4], held: &[u8]) -> bool {
     match one_segment(alloc) {
         Some(segment) => {
@@ -88,8 +89,8 @@ fn burns(alloc: Global, fuse: (u64, u64), passes: &[bool; 4], held: &[u8]) -> bo
     }
 }
 
-// Whether each call of the box of 8 bytes with this lease, with three bytes in it, succeeds, where
-// it stands at its number.
+// Whether each call of the box of 8 bytes with this lease, with three bytes in it, succeeds, if it
+// stands at its number.
 fn succeeds(boxes: &mut [Box<dyn Segment>], lease: u32) -> bool {
     match boxes.get_mut(lease as usize) {
         Some(one) => has(&**one, lease, 3, 0)
@@ -132,7 +133,7 @@ fn is_refused(alloc: Global, desk: &mut Desk, capacity: u64) -> bool {
     is_so && desk.collect() == 1
 }
 
-// Whether the next lease of a desk has this number, and comes in behind the others.
+// Whether the next lease of a desk has this number, and comes in after the others.
 fn is_taken(desk: &mut Desk, leases: &mut Vec<Option<Lease>>, number: u32) -> bool {
     match desk.take() {
         Ok(lease) => lease.number() == number && leases.push(Some(lease)).is_ok(),
@@ -140,7 +141,7 @@ fn is_taken(desk: &mut Desk, leases: &mut Vec<Option<Lease>>, number: u32) -> bo
     }
 }
 
-// So many leases of a desk, which are all, by their numbers; none where another one is taken.
+// So many leases of a desk, which are all, by their numbers; none if another one is taken.
 fn leases_of(alloc: Global, desk: &mut Desk, many: u32) -> Option<Vec<Option<Lease>>> {
     let mut leases = Vec::new(alloc);
     for number in 0..many {
@@ -155,8 +156,8 @@ fn leases_of(alloc: Global, desk: &mut Desk, many: u32) -> Option<Vec<Option<Lea
     }
 }
 
-// What is collected where these leases, which are all, are dropped in this order and collected
-// where told, as long as each is out until then.
+// What is collected if these leases, which are all, are dropped in this order and collected where
+// asked, as long as each is out until then.
 fn collected_of(
     desk: &mut Desk,
     leases: &mut [Option<Lease>],
@@ -209,7 +210,7 @@ fn come_back(alloc: Global, desk: &mut Desk, order: &[u32; 3]) -> bool {
     true
 }
 
-// Whether leases 0 and 2 are taken, where lease 1 came back and is not collected yet.
+// Whether leases 0 and 2 are taken, if lease 1 came back and is not collected yet.
 fn least_is_taken(alloc: Global, desk: &mut Desk) -> bool {
     if collected(alloc, desk, &[2, 0, 1], &[false, true, false]) != Some([0, 2, 0]) {
         return false;
@@ -231,7 +232,7 @@ fn all_come_back(alloc: Global, desk: &mut Desk) -> bool {
     held && desk.collect() == MAX_LEASES && !desk.is_out(MAX_LEASES - 1)
 }
 
-// Whether the row goes as told.
+// Whether the row goes as expected.
 fn goes(alloc: Global, desk: &mut Desk, row: &Row) -> bool {
     match row {
         Fuse(calls, keep, passes, held) => {
@@ -249,7 +250,7 @@ fn goes(alloc: Global, desk: &mut Desk, row: &Row) -> bool {
 // Rows over a desk of so many leases.
 struct OfLeases(u32, &'static [Row]);
 
-// The first row that does not go as told.
+// The first row that does not go as expected.
 fn wrong_row(alloc: Global, desk: &mut Desk, rows: &[Row]) -> Option<usize> {
     for (i, row) in rows.iter().enumerate() {
         if !goes(alloc, desk, row) {

@@ -1,4 +1,4 @@
-// What stands behind an append that failed, whatever beginning of its piece the box kept.
+// What stands after an append that failed, whatever beginning of its piece the box kept.
 
 ghost use Rattle.std.specs.Prelude.{[], OnSome};
 ghost use Rattle.log_tests.specs.OnePage.{Counts};
@@ -72,7 +72,7 @@ fn has_len(log: Log, len: u64) -> bool
     }
 }
 
-// Whether a failed log still tells the row.
+// Whether a failed log still says what the row has.
 fn tells(log: &mut Log, row: &Row) -> bool
     requires { IsSound log.old holding }
     ensures { IsSound log.new holding }
@@ -126,7 +126,8 @@ fn fails(alloc: Global, log: &mut Log, row: &Row) -> Option<bool>
     }
 }
 
-// The same where the box keeps so many bytes of the piece, and what stands then is told so.
+// Whether the append of the row fails if the box keeps so many bytes of the piece, and the log then
+// says what stands.
 fn goes(alloc: Global, row: &Row, keep: u64) -> Option<bool> {
     let (mut log, _more) = log_over(alloc, 1, (row.calls, keep))?;
     let fails = fails(alloc, &mut log, row)?;
@@ -135,7 +136,7 @@ fn goes(alloc: Global, row: &Row, keep: u64) -> Option<bool> {
 }
 
 impl Table for Row {
-    // The bytes that the box kept where it does not go as told.
+    // The bytes that the box kept where it does not go as expected.
     fn wrong_step(&self, alloc: Global) -> Option<usize> {
         for keep in 0..=u64::from(self.piece) + 1 {
             if goes(alloc, self, keep) != Some(true) {

@@ -29,7 +29,7 @@ fn puts(alloc: Global) -> Option<Ops>
     }
 }
 
-/// A first frame of the greatest length, and the page that it leaves: the last of the puts alone.
+/// A first frame of the greatest length, and the page that it leaves: only the last of the puts.
 pub(crate) fn full_opening(alloc: Global) -> Option<(Buffer, Leaf)>
     ensures { IfSome result (λ o. Opens o.0 o.1) }
 {

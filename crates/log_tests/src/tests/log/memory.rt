@@ -29,7 +29,7 @@ fn shown(log: &Log, leaf: &Leaf) -> (Option<u64>, u32, u32, Option<(u64, u32, u6
     )
 }
 
-// Puts a pair, or writes the page again, where that is refused as told, or is not.
+// Puts a pair, or writes the page again, if that is refused as expected, or is not.
 fn appends(
     alloc: Global,
     log: &mut Log,
@@ -52,8 +52,8 @@ fn appends(
     }
 }
 
-// One append in a window, once more where it was refused, which left the log as it was: whether it was. The error
-// tells whether it is that what the append is handed was refused itself.
+// One append in a window, once more if it was refused, which left the log as it was: whether it
+// was. The error says whether it is that what the append is handed was refused itself.
 fn is_appended(alloc: Global, log: &mut Log, leaf: &mut Leaf, key: Option<u8>) -> Result<bool, bool>
     requires { HoldsOne (seen log.old holding) leaf.old }
     ensures { OnOk result (HoldsOne (seen log.new holding) leaf.new) }
@@ -115,7 +115,7 @@ fn goes(alloc: Global) -> Result<bool, bool> {
     }
 }
 
-// The allocation whose refusal is not answered as told; none where there is no such one.
+// The allocation whose refusal is not answered as expected; none if there is no such one.
 fn wrong_number(alloc: Global) -> Option<u32> {
     for number in 1..MOST {
         refuse(alloc, number);

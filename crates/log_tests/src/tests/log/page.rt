@@ -32,7 +32,7 @@ pub(crate) fn record_of(key: &[u8], value: &[u8]) -> Option<Record>
     Some(Record::Put(key, value))
 }
 
-/// The same, as a Delta has it.
+/// A put of this value at this key, as a Delta has it.
 pub(crate) fn packed_of(alloc: Global, key: &[u8], value: &[u8]) -> Option<Packed>
     ensures { IfSome result (λ r. r ≡ Put key.now value.now) }
 {
@@ -107,7 +107,7 @@ pub(crate) fn append(log: &mut Log, buffer: &Buffer, takes_last: bool) -> Result
     }
 }
 
-/// Puts one pair, if that leaves four pairs at most; whether the append is refused as told.
+/// Puts one pair, if that leaves four pairs at most; whether the append is refused as expected.
 pub(crate) fn put(
     alloc: Global,
     log: &mut Log,
@@ -127,7 +127,7 @@ pub(crate) fn put(
         return None;
     }
     let buffer = put_frame(alloc, number, back, key, value)?;
-    // Tells the proof that the frame is within its limit.
+    // Shows the proof that the frame is within its limit.
     let _ = buffer.bytes();
     match append(log, &buffer, false) {
         Ok(()) => match change(leaf, &change_of) {
@@ -138,7 +138,7 @@ pub(crate) fn put(
     }
 }
 
-/// Writes the page again as it stands, as the cleaner does; whether that is refused as told.
+/// Writes the page again as it stands, as the cleaner does; whether that is refused as expected.
 pub(crate) fn rewrite(
     alloc: Global,
     log: &mut Log,

@@ -1,4 +1,4 @@
-// What no clause says: that calls succeed where memory is there, on a log that has no frame yet.
+// What no clause says: that calls succeed if memory is there, on a log that has no frame yet.
 
 ghost use Rattle.bw_log.specs.Views.{IsSound as IsSoundBeside};
 ghost use Rattle.test_boxes.specs.Views.{IsSound};

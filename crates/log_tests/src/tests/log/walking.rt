@@ -21,7 +21,7 @@ use test_kit::vectors::{FIRST, THIRD_NEWER, THIRD_OLDER};
 enum Step {
     /// A key and a value, and what refuses the append.
     Put(u8, u8, Option<LogFault>),
-    /// The same value at one key so often, in a frame each.
+    /// One value at one key so often, in a frame each.
     Puts(u8, u8, u32),
     /// The page written again, and what refuses that.
     Rewrite(Option<LogFault>),
@@ -43,12 +43,12 @@ enum Step {
     Places(Place, Place),
     Next(u64),
     Oldest(u64, u64),
-    /// A segment's bytes in hex; none where it is not live.
+    /// A segment's bytes in hex; none if it is not live.
     Dump(u64, &'static str),
     Works,
     /// What refuses a frame of so many bytes.
     Ready(u32, Option<LogFault>),
-    /// The same of a frame of the cleaner's.
+    /// What refuses a frame of the cleaner's of so many bytes.
     ReadyCare(u32, Option<LogFault>),
 }
 
@@ -148,7 +148,7 @@ fn are_boxes(log: &Log, leaf: &Leaf, live: &[(u64, u32, u64)], spares: &[u32]) -
     true
 }
 
-// What the log tells without a read.
+// What the log says without a read.
 fn tells(log: &Log, leaf: &Leaf, step: &Step) -> bool
     requires { HoldsOne (seen log.now holding) leaf.now }
 {
@@ -166,7 +166,7 @@ fn tells(log: &Log, leaf: &Leaf, step: &Step) -> bool
     }
 }
 
-// Whether the step went as told.
+// Whether the step went as expected.
 fn goes(log: &mut Log, yard: &mut Yard, leaf: &mut Leaf, step: &Step) -> Option<bool>
     requires { HoldsOne (seen_by holding log.old) leaf.old }
     ensures { OnSome result (HoldsOne (seen_by holding log.new) leaf.new) }
@@ -195,7 +195,7 @@ fn goes(log: &mut Log, yard: &mut Yard, leaf: &mut Leaf, step: &Step) -> Option<
     }
 }
 
-// The first step that did not go as told.
+// The first step that did not go as expected.
 fn wrong_step(log: &mut Log, yard: &mut Yard, leaf: &mut Leaf, steps: &[Step]) -> Option<usize>
     requires { HoldsOne (seen_by holding log.old) leaf.old }
 {

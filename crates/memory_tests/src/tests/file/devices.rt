@@ -14,7 +14,7 @@ use test_kit::vectors::{is, put};
 enum Call {
     NewDesk,
     Take,
-    /// A segment, of these bytes where they are told.
+    /// A segment, of these bytes if they are told.
     Segment(Option<&'static [u8]>),
     Lanes,
 }
@@ -37,7 +37,7 @@ fn is_next(desk: &mut Desk, number: u32) -> bool {
     }
 }
 
-/// One try of the second lease of a desk: where it is refused, it is free.
+/// One try of the second lease of a desk: if it is refused, it is free.
 fn takes(alloc: Global, desk: &mut Desk) -> Option<Try> {
     begin(alloc);
     let taken = desk.take();
@@ -62,7 +62,7 @@ fn is_taken(alloc: Global) -> Option<Try> {
     Some(first)
 }
 
-/// One try of a segment: the lease that comes back where it is refused.
+/// One try of a segment: the lease that comes back if it is refused.
 fn segment(
     alloc: Global,
     lease: Lease,

@@ -13,9 +13,9 @@ const BYTES: &[u8] = b"0123456789";
 /// One call that may be refused.
 #[derive(Clone, Copy, PartialEq, Drop)]
 enum Call {
-    /// The folder is opened, where it is missing.
+    /// The folder is opened, if it is missing.
     Make,
-    /// And where it is there.
+    /// And if it is there.
     Open,
     Leases,
     /// A segment of ten bytes.
@@ -23,7 +23,7 @@ enum Call {
     /// One over an emptied file.
     Spare,
     Empty,
-    /// The same of one who only reads.
+    /// The folder is opened by one who only reads.
     OpenReader,
     ReaderLeases,
     Copy,
@@ -60,7 +60,7 @@ fn opens_reader(rt: HostRuntime) -> Option<Try> {
     answered(rt, answer.map(|_| true))
 }
 
-/// Whether lease 2 alone has a file.
+/// Whether only lease 2 has a file.
 fn is_one(leases: &Vec<u32>) -> bool {
     match leases.as_slice() {
         [lease] => *lease == 2,
@@ -87,7 +87,7 @@ fn length(rt: HostRuntime) -> Option<u64> {
     Some(fs::metadata(&rt, "refused/segment-0002.bw").ok()?.len())
 }
 
-/// One try of a file that is emptied: it is as it was where that was refused.
+/// One try of a file that is emptied: it is as it was if that was refused.
 fn empties(rt: HostRuntime) -> Option<Try> {
     let folder: Folder = Folder::open(&rt, PATH).ok()?;
     begin(rt.alloc());
@@ -102,7 +102,7 @@ fn empties(rt: HostRuntime) -> Option<Try> {
     }
 }
 
-/// Takes ten bytes more without memory, where it holds so many.
+/// Takes ten bytes more without memory, if it holds so many.
 fn appends(rt: HostRuntime, segment: &mut FileSegment, held: u64) -> bool {
     let is_so = (segment.len() == held) & (segment.capacity() == 100) & (segment.failures() == 0);
     if !is_so || held > 90 || segment.lease() != 2 {
@@ -113,7 +113,7 @@ fn appends(rt: HostRuntime, segment: &mut FileSegment, held: u64) -> bool {
     !end(rt.alloc()) & went
 }
 
-/// A segment that was opened holds this; its lease comes back where it was refused.
+/// A segment that was opened holds this; its lease comes back if it was refused.
 fn held(
     rt: HostRuntime,
     answer: Result<FileSegment, NotOpened>,
@@ -240,7 +240,7 @@ fn goes(rt: HostRuntime, call: Call) -> Option<Try> {
     }
 }
 
-/// The allocation whose refusal is not answered as told.
+/// The allocation whose refusal is not answered as expected.
 fn wrong_number(rt: HostRuntime, call: Call) -> Option<u32> {
     for number in 1..MOST {
         refuse(rt.alloc(), number);

@@ -57,7 +57,7 @@ enum Call {
     NewBuffer,
 }
 
-/// Whether bytes are `x`, with these behind it where the call went.
+/// Whether bytes are `x`, with these after it if the call went.
 fn is_left(out: &[u8], went: bool, bytes: &[u8]) -> bool {
     match out.split_first() {
         Some((first, rest)) => *first == b'x' && if went { rest == bytes } else { rest.is_empty() },
@@ -302,7 +302,7 @@ fn goes_in(alloc: Global, leaf: &mut Leaf, key: &Key, value: &Value) -> bool {
     }
 }
 
-/// One try of that: where it is refused, they are what they were.
+/// One try of that: if it is refused, they are what they were.
 fn inserts(alloc: Global, leaf: &mut Leaf) -> Option<Try> {
     let (Ok(key), Ok(value)) = (Key::new(b"b"), Value::new(b"2")) else {
         return None;

@@ -17,7 +17,7 @@ use test_kit::marks::{begin, end};
 use test_kit::refusals::{Ask, Row, Try, asked_again, refused_then, tried, was_refused, wrong_row};
 use test_kit::vectors::{leaf_of, packed_put, put, shows};
 
-/// Whether a record comes in behind the others.
+/// Whether a record comes in after the others.
 fn is_added(records: &mut Vec<Packed>, record: Option<Packed>) -> bool {
     match record {
         Some(record) => records.push(record).is_ok(),
@@ -69,7 +69,7 @@ enum Way {
     Hinted,
     All,
     AllOf,
-    /// They are not, but what they would do is told.
+    /// They are not, but what they would do is said.
     Steps,
     /// What the first would do.
     Step,
@@ -84,7 +84,7 @@ enum Reading {
     Blocks,
     /// One after the other.
     Block,
-    /// The same as a draft.
+    /// All at once, as a draft.
     DraftAll,
     Draft,
     /// Records over a draft, which is then a leaf.
@@ -103,8 +103,8 @@ enum Link {
 
 const BACK: Place = Place { frame: 1, index: 0 };
 
-/// Page 1 with `a`, and page 2 from `c` on with `d`: leaves are made of them in a window, where
-/// that is asked.
+/// Page 1 with `a`, and page 2 from `c` on with `d`: leaves are made of them in a window, if that
+/// is asked.
 fn two_pages(alloc: Global, counts: bool) -> Result<Leaves, AllocError>
     ensures { IfOk result (λ l. l.evicted ≡ []) }
 {
@@ -196,7 +196,7 @@ fn full(alloc: Global) -> Option<Leaves>
     }
 }
 
-/// What is put beside a to d: e and behind it f and g, as records and as entries; where a stretch is
+/// What is put beside a to d: e and after it f and g, as records and as entries; if a stretch is
 /// read, the first is b.
 #[derive(Drop)]
 struct Given {
@@ -220,7 +220,7 @@ fn beside(alloc: Global, way: Way) -> Option<Given> {
     }
 }
 
-/// What a record does where it is applied.
+/// What a record does if it is applied.
 fn applies(leaves: &mut Leaves, change: &Packed, way: Way) -> Result<bool, ApplyError>
     requires { leaves.old.evicted ≡ [] }
     ensures { leaves.new.evicted ≡ [] }
@@ -304,7 +304,7 @@ fn went(done: Result<(), ApplyError>) -> Result<bool, ApplyError> {
     }
 }
 
-/// Whether the pages are those behind e alone, or behind f and g as well.
+/// Whether the pages are those after only e, or after f and g as well.
 fn are_split(leaves: &Leaves, way: Way) -> bool {
     match way {
         Way::One | Way::On | Way::Hinted => are_pages(leaves, b": a= b=", b"c: c= d= e="),
@@ -312,7 +312,7 @@ fn are_split(leaves: &Leaves, way: Way) -> bool {
     }
 }
 
-/// One try: e is put beside a to d, or f and g behind it.
+/// One try: e is put beside a to d, or f and g after it.
 fn applied(alloc: Global, leaves: &mut Leaves, given: &Given, way: Way) -> Option<Try>
     requires { leaves.old.evicted ≡ [] }
     ensures { leaves.new.evicted ≡ [] }
@@ -412,7 +412,7 @@ fn all_change(alloc: Global, count: u8) -> Option<Try> {
     has_all(alloc, made, count as usize)
 }
 
-/// A leaf is split where it has more than four pairs.
+/// A leaf is split if it has more than four pairs.
 fn splits(alloc: Global, leaf: Leaf) -> Option<Try> {
     if leaf.pairs.as_slice().len() <= 4 {
         return None;
@@ -458,7 +458,7 @@ fn blocks(alloc: Global, records: Vec<Packed>, last: u8) -> Option<Vec<Block>> {
     Vec::from_array(alloc, [Block::Base(empty_page(alloc)), delta, split]).ok()
 }
 
-/// The page behind blocks that are read one after the other.
+/// The page after blocks that are read one after the other.
 fn read_each(blocks: Vec<Block>) -> Result<Option<Leaf>, AllocError> {
     let mut was = None;
     for block in blocks {
@@ -497,7 +497,7 @@ fn draft_all(blocks: Vec<Block>) -> Result<Option<Leaf>, AllocError> {
     }
 }
 
-/// The page behind blocks, or behind records alone.
+/// The page after blocks, or after only records.
 fn read_over(
     how: Reading,
     leaf: Leaf,
@@ -556,7 +556,7 @@ fn is_prepended(alloc: Global, chain: &mut Chain) -> bool {
     }
 }
 
-/// A chain with a=1, which stands in the log where that is asked.
+/// A chain with a=1, which stands in the log if that is asked.
 fn chain(alloc: Global, marked: bool) -> Option<Chain> {
     let mut chain = Chain::whole(alloc, empty_page(alloc));
     let is_so = is_prepended(alloc, &mut chain)

@@ -115,7 +115,7 @@ fn publishes_on(alloc: Global, board: &mut Board, entries: &[PackedEntry]) -> Op
     tried(went, refused, is_left)
 }
 
-/// Five entries, and once more where they were refused.
+/// Five entries, and once more if they were refused.
 fn publishes_again(alloc: Global, board: &mut Board) -> Option<Try> {
     let Some(entries) = entries(alloc, b"abcde") else {
         return None;
@@ -167,7 +167,7 @@ fn sees(reader: &mut Reader, key: &[u8]) -> Option<bool>
     }
 }
 
-/// Three puts as a batch, behind page 1.
+/// Three puts as a batch, after page 1.
 fn batch(alloc: Global) -> Option<Batch> {
     let (Some(entries), Ok(start)) = (entries(alloc, b"abc"), start(alloc)) else {
         return None;
@@ -185,8 +185,8 @@ fn caught_up<R: Wait>(rt: &R, publisher: &mut Publisher) -> Result<(), Unpublish
     }
 }
 
-/// One try of a batch, or of what was entered: where it is refused, the reader sees nothing yet.
-/// Whether it went, and the batch where it came back.
+/// One try of a batch, or of what was entered: if it is refused, the reader sees nothing yet.
+/// Whether it went, and the batch if it came back.
 fn publishes<R: Wait>(
     rt: &R,
     alloc: Global,
@@ -210,8 +210,7 @@ fn publishes<R: Wait>(
     }
 }
 
-/// The batch is published; where it was refused, by the next call, with the batch where it came
-/// back.
+/// The batch is published; if it was refused, by the next call, with the batch if it came back.
 fn publishes_batch<R: Wait>(
     rt: &R,
     alloc: Global,
@@ -274,7 +273,7 @@ fn makes_reader<S: Source>(alloc: Global, source: &mut S) -> Option<Try> {
     is_new(made, end(alloc))
 }
 
-/// A place is not used up by a reader that was refused: there is one alone.
+/// A place is not used up by a reader that was refused: there is only one.
 fn is_reader_made<S: Source>(alloc: Global, source: &mut S) -> Option<Try> {
     let first = makes_reader(alloc, source);
     if was_refused(first) {
@@ -338,7 +337,7 @@ struct Stand {
     history: Vec<PackedEntry>,
 }
 
-/// One try of the whole history: where it is refused, the reader sees nothing yet.
+/// One try of the whole history: if it is refused, the reader sees nothing yet.
 fn publishes_up_to<R: Wait>(
     rt: &R,
     alloc: Global,
@@ -396,7 +395,7 @@ fn answers(alloc: Global, reader: &mut Reader, call: &Call) -> Option<Try>
     }
 }
 
-/// A page or the pairs, once more where they were refused.
+/// A page or the pairs, once more if they were refused.
 fn is_read(alloc: Global, reader: &mut Reader, call: &Call) -> Option<Try>
     ensures { reader.new.book ≡ reader.old.book }
 {
@@ -417,7 +416,7 @@ fn learns(alloc: Global, stand: &mut Stand, reader: &mut Reader) -> bool
     !end(alloc) & is_so
 }
 
-/// The history is published in a window, and the page then read, in another where that is asked.
+/// The history is published in a window, and the page then read, in another if that is asked.
 fn goes_up_to<R: Wait>(
     rt: &R,
     alloc: Global,

@@ -10,8 +10,8 @@ pub(super) struct Supply {
     pub(super) desk: Desk,
 }
 
-/// So many boxes, of which the first ones have the bytes of these texts in hex, and the others none;
-/// the first one fails once, if told, after so many calls, and keeps so many bytes.
+/// So many boxes, of which the first ones have the bytes of these texts in hex, and the others
+/// none; the first one fails once, if asked, after so many calls, and keeps so many bytes.
 pub(super) fn supplied(
     alloc: Global,
     many: usize,

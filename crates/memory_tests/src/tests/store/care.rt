@@ -19,10 +19,10 @@ use test_kit::vectors::{
 };
 
 /// One call over the three segments of the third vector before its cleaning and a spare, or one of
-/// boxes alone.
+/// only boxes.
 #[derive(Drop)]
 enum Call {
-    /// Recovery alone: the page is right.
+    /// Only recovery: the page is right.
     Recover,
     Clean,
     /// Over the three segments in format 1.
@@ -37,7 +37,7 @@ enum Call {
     New,
 }
 
-/// What a cleaning of the three segments tells.
+/// What a cleaning of the three segments says.
 const TOLD: Cleaned = Cleaned {
     segment: 1,
     lease: 0,
@@ -72,7 +72,7 @@ fn picture(log: &Log) -> (u32, Option<(u64, u32, u64)>, u32)
     )
 }
 
-/// One try of a cleaning: where it is refused, no box is dropped, and no more than its frame stands.
+/// One try of a cleaning: if it is refused, no box is dropped, and no more than its frame stands.
 fn cleans(alloc: Global, log: &mut Log) -> Option<Try>
     requires { IsSound log.old holding }
     ensures { IsSound log.new holding }
@@ -95,14 +95,14 @@ fn cleans(alloc: Global, log: &mut Log) -> Option<Try>
     }
 }
 
-/// What an upgrade of the three segments tells.
+/// What an upgrade of the three segments says.
 const ALL_THREE: Upgraded = Upgraded {
     segments: 3,
     pages: 1,
     frames: 1,
 };
 
-/// One try of an upgrade: where it is refused, no box is dropped, and nothing is written.
+/// One try of an upgrade: if it is refused, no box is dropped, and nothing is written.
 fn upgrades(alloc: Global, log: &mut Log) -> Option<Try>
     requires { IsSound log.old holding }
     ensures { IsSound log.new holding }
@@ -140,7 +140,7 @@ fn reads(alloc: Global, log: &mut Log) -> Option<Try>
     }
 }
 
-/// One try of a segment's bytes behind what stands there, which stays where that is refused.
+/// One try of a segment's bytes after what stands there, which stays if that is refused.
 fn dumps(alloc: Global, log: &mut Log) -> Option<Try>
     requires { IsSound log.old holding }
     ensures { IsSound log.new holding }
@@ -163,7 +163,7 @@ fn dumps(alloc: Global, log: &mut Log) -> Option<Try>
     }
 }
 
-/// One try of what an append wants: nothing is otherwise behind it.
+/// One try of what an append wants: nothing is otherwise after it.
 fn readies(alloc: Global, log: &mut Log, takes_last: bool) -> Option<Try>
     requires { IsSound log.old holding }
     ensures { IsSound log.new holding }
@@ -181,7 +181,7 @@ fn readies(alloc: Global, log: &mut Log, takes_last: bool) -> Option<Try>
     }
 }
 
-/// One try of a box more: it comes back where it is refused.
+/// One try of a box more: it comes back if it is refused.
 fn adds(
     alloc: Global,
     log: &mut Log,
@@ -207,7 +207,7 @@ fn adds(
     }
 }
 
-/// A box is added, once more where that was refused.
+/// A box is added, once more if that was refused.
 fn is_added(alloc: Global, log: &mut Log, one: Box<dyn Segment>) -> Option<Try>
     requires { IsSoundBeside holding log.old }
 {
@@ -243,7 +243,7 @@ fn tries(alloc: Global, log: &mut Log, call: &Call) -> Option<Try>
     }
 }
 
-/// A call on the recovered log, once more where it was refused.
+/// A call on the recovered log, once more if it was refused.
 fn asks(alloc: Global, log: &mut Log, call: &Call) -> Option<Try>
     requires { IsSound log.old holding }
 {
@@ -289,14 +289,14 @@ fn worked(alloc: Global) -> Option<Vec<Box<dyn Segment>>> {
     Some(boxes)
 }
 
-/// The same in format 1.
+/// The three segments in format 1, and a spare.
 fn old(alloc: Global) -> Option<Vec<Box<dyn Segment>>> {
     let texts = [OLD_THIRD_LOST, OLD_THIRD_OLDER, OLD_THIRD_LAST, ""];
     let Supply { boxes, desk: _desk } = supplied(alloc, 4, &texts, None)?;
     Some(boxes)
 }
 
-/// One try of a log of boxes, which come back in order where that is refused.
+/// One try of a log of boxes, which come back in order if that is refused.
 fn makes(alloc: Global, boxes: Vec<Box<dyn Segment>>) -> (Option<Try>, Vec<Box<dyn Segment>>) {
     begin(alloc);
     let made = Log::new(alloc, boxes, 4, 65_536);

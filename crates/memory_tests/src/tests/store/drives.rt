@@ -113,7 +113,7 @@ fn scripts_for(alloc: Global, feeds: &[Feed]) -> Option<Vec<Vec<Group>>>
     }
 }
 
-// A run over the feeds: all records of the scripts are entered behind `old` ones.
+// A run over the feeds: all records of the scripts are entered after `old` ones.
 fn runs_again<R: Threads + Wait>(
     rt: &R,
     alloc: Global,
@@ -150,7 +150,7 @@ fn settles<R: Threads + Wait>(rt: &R, alloc: Global, store: &mut Store, feeds: V
     }
 }
 
-// Where a run is refused, the feeds come back.
+// If a run is refused, the feeds come back.
 fn runs<R: Threads + Wait>(
     rt: &R,
     alloc: Global,

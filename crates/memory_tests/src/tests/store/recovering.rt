@@ -1,4 +1,4 @@
-//! What is recovered from boxes where memory is refused.
+//! What is recovered from boxes if memory is refused.
 
 ghost use Rattle.std.specs.Prelude.{IfSome};
 ghost use Rattle.bw_care.specs.Found.{IsRecovered};
@@ -29,8 +29,8 @@ fn row_of(boxes: &[Box<dyn Segment>]) -> u64 {
     row
 }
 
-/// What is recovered from boxes in a window, once more where memory was refused: all of them came back
-/// then, in order and with what they held. None where it is otherwise.
+/// What is recovered from boxes in a window, once more if memory was refused: all of them came back
+/// then, in order and with what they held. None if it is otherwise.
 pub(super) fn recovered(alloc: Global, boxes: Vec<Box<dyn Segment>>) -> Option<(Try, Recovered)>
     ensures { IfSome result (λ r. IsRecovered holding r.1) }
 {
@@ -61,8 +61,8 @@ fn warm_in(found: Recovered) -> Option<Recovered>
     }
 }
 
-/// What was recovered, with each page in memory, brought there in a window, once more where memory was
-/// refused: what was recovered came back then. None where it is otherwise.
+/// What was recovered, with each page in memory, brought there in a window, once more if memory was
+/// refused: what was recovered came back then. None if it is otherwise.
 pub(super) fn warmed(alloc: Global, found: Recovered) -> Option<(Try, Recovered)>
     requires { IsRecovered (λ b. holding (b.vtable, b.value)) found }
     ensures { IfSome result (λ r. IsRecovered (λ b. holding (b.vtable, b.value)) r.1) }

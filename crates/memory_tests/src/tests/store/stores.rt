@@ -90,7 +90,7 @@ struct Left {
     desk: Desk,
 }
 
-// A life of a store, with a reader, behind which it is shut.
+// A life of a store, with a reader, after which it is shut.
 fn lives<R: Wait>(
     rt: &R,
     alloc: Global,
@@ -122,8 +122,7 @@ fn lives<R: Wait>(
     }
 }
 
-// Opens a store in a window; once more where memory was refused: all boxes came back then, in
-// order.
+// Opens a store in a window; once more if memory was refused: all boxes came back then, in order.
 fn opens<R: Wait>(rt: &R, alloc: Global, supply: Supply, steps: &[Step]) -> Option<Left> {
     let Supply { boxes, desk } = supply;
     begin(alloc);
@@ -157,7 +156,7 @@ fn are_in_order(boxes: &[Box<dyn Segment>]) -> bool {
     boxes.len() == 4
 }
 
-// A life behind a call that was refused or not, and answered so.
+// A life after a call that was refused or not, and answered so.
 fn with(refused: bool, failed: bool, left: Option<Left>) -> Option<Left> {
     let Left { went, boxes, desk } = left?;
     let first = match (refused, failed) {
@@ -193,7 +192,7 @@ fn first_of(refused: bool) -> Option<Try> {
     Some(if refused { Try::Spared } else { Try::Went })
 }
 
-// Opens a store again in a window; once more where memory was refused: what was recovered came back
+// Opens a store again in a window; once more if memory was refused: what was recovered came back
 // then.
 fn reopens<R: Wait>(
     rt: &R,
@@ -321,7 +320,7 @@ const CLEANED: &[Step] = &[
     Page(1, b": j=2 k=3"),
 ];
 
-/// The first frame is appended whole, and told as failed.
+/// The first frame is appended whole, and answered as failed.
 const FAILED: &[Step] = &[
     Put(b"k", b"v"),
     Turn(1),
@@ -347,7 +346,7 @@ const RECOVERED: &[Step] = &[
     Page(1, b": k=v l=4 m=5"),
 ];
 
-/// A page leaves memory only where it stands in the log, and is read back; the first read fails.
+/// A page leaves memory only if it stands in the log, and is read back; the first read fails.
 const EVICTED: &[Step] = &[
     Put(b"k", b"v"),
     Turn(1),
@@ -440,7 +439,7 @@ const RUNS: &[Run] = &[
     },
 ];
 
-/// One try of a box more: it comes back where it is refused.
+/// One try of a box more: it comes back if it is refused.
 fn adds(
     alloc: Global,
     store: &mut Store,
@@ -463,7 +462,7 @@ fn adds(
     }
 }
 
-/// A box is added, once more where that was refused.
+/// A box is added, once more if that was refused.
 fn is_added(alloc: Global, store: &mut Store, one: Box<dyn Segment>) -> Option<Try>
     requires { IsSoundBeside store.old holding }
     ensures { IsSoundBeside store.new holding }

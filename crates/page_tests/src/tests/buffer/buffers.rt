@@ -51,9 +51,9 @@ pub(super) enum Step {
     /// The first block of a frame, a Base, is copied as its bytes: its place, or the refusal.
     Copy(&'static str, Told),
     /// So many Deltas of one put, of a key and a value of so many bytes: of this page and of those
-    /// behind it, one each.
+    /// after it, one each.
     Spread(u8, u8, u16, u32),
-    /// The same, all of one page.
+    /// So many Deltas of one put, of a key and a value of so many bytes, all of one page.
     Heap(u8, u8, u16, u32),
     /// Whether there is room for the blocks of a frame.
     HasRoom(&'static str, bool),
@@ -79,7 +79,7 @@ pub(super) fn blocks_of(alloc: Global, hex: &str) -> Option<Blocks>
     blocks_in(alloc, &bytes)
 }
 
-/// Whether a put was answered as told.
+/// Whether a put was answered as expected.
 fn is_told(answer: Result<Place, PutError>, told: Told) -> bool {
     match (answer, told) {
         (Ok(place), Ok((frame, index))) => place.frame == frame && place.index == index,
@@ -204,7 +204,7 @@ fn joins(buffer: &Buffer, page: u32, told: Option<(u64, u32)>) -> bool {
     }
 }
 
-/// Whether the step went as told.
+/// Whether the step went as expected.
 fn goes(alloc: Global, buffer: &mut Buffer, step: &Step) -> Option<bool> {
     match step {
         Step::Put(hex, told) => puts(alloc, buffer, hex, *told),
@@ -237,7 +237,7 @@ fn goes(alloc: Global, buffer: &mut Buffer, step: &Step) -> Option<bool> {
     }
 }
 
-/// The first step that did not go as told with this buffer.
+/// The first step that did not go as expected with this buffer.
 pub(super) fn walked(alloc: Global, buffer: &mut Buffer, steps: &[Step]) -> Option<usize> {
     for (i, step) in steps.iter().enumerate() {
         if goes(alloc, buffer, step) != Some(true) {
@@ -247,7 +247,8 @@ pub(super) fn walked(alloc: Global, buffer: &mut Buffer, steps: &[Step]) -> Opti
     None
 }
 
-/// The same with a new buffer; the first where memory was wanted for it.
+/// The first step that did not go as expected with a new buffer; the first of all if memory was
+/// wanting for it.
 fn wrong_step(alloc: Global, number: u64, steps: &[Step]) -> Option<usize> {
     if number == 0 {
         return Some(0);
@@ -282,7 +283,7 @@ const COPIED: &[Step] = &[
     Step::Gives(EMPTY),
 ];
 
-/// A Base of 8 bytes where 8 are free, then where none is.
+/// A Base of 8 bytes when 8 are free, then when none is.
 const COPIED_TO_THE_END: &[Step] = &[
     Step::Spread(2, 128, 512, 98),
     Step::Spread(100, 1, 510, 1),
@@ -296,7 +297,7 @@ const COPIED_TO_THE_END: &[Step] = &[
 ];
 
 /// 98 Deltas of the greatest length, 663 bytes, and one of 502, of pages 2 to 100: 40 bytes are
-/// free, where a Delta of 25 bytes and its Split of 40 do not fit together.
+/// free, in which a Delta of 25 bytes and its Split of 40 do not fit together.
 const FULL: &[Step] = &[
     Step::Spread(2, 128, 512, 98),
     Step::Spread(100, 1, 478, 1),
@@ -338,7 +339,7 @@ const WORKED: &[Step] = &[
     Step::Gives(SPLIT),
 ];
 
-/// The same with a new buffer of frame 1.
+/// The first step that did not go as expected with a new buffer of frame 1.
 pub(super) fn wrong_steps(alloc: Global, steps: &&'static [Step]) -> Option<usize> {
     wrong_step(alloc, 1, *steps)
 }

@@ -15,17 +15,17 @@ const TWO_PUTS: &str = "46524d32 0100000000000000 27000000 02000000 \
     02 01000000 00 0000 \
     01 01000000 0100000000000000 00000000 0200 01 01 61 0100 31 01 01 62 0100 32";
 
-/// The fifth put of page 1 and its Split, behind the Delta at (1, 1).
+/// The fifth put of page 1 and its Split, after the Delta at (1, 1).
 const FIFTH: &str = "46524d32 0100000000000000 41000000 02000000 \
     01 01000000 0100000000000000 01000000 0100 01 01 65 0100 35 \
     03 01000000 0100000000000000 01000000 01 63 02000000 0300 01 63 0100 33 01 64 0100 34 01 65 \
     0100 35";
 
-/// A put of page 1 behind the Split at (1, 2).
+/// A put of page 1 after the Split at (1, 2).
 const LATER: &str = "46524d32 0100000000000000 1a000000 01000000 \
     01 01000000 0100000000000000 02000000 0100 01 02 627a 0100 36";
 
-/// Five puts of page 1, which is split then: the Delta, and behind it the Split.
+/// Five puts of page 1, which is split then: the Delta, and after it the Split.
 const CUT: &str = "46524d32 0100000000000000 61000000 03000000 \
     02 01000000 00 0000 \
     01 01000000 0100000000000000 00000000 0500 01 01 61 0100 31 01 01 62 0100 32 01 01 63 0100 \
@@ -33,7 +33,8 @@ const CUT: &str = "46524d32 0100000000000000 61000000 03000000 \
     03 01000000 0100000000000000 01000000 01 63 02000000 0300 01 63 0100 33 01 64 0100 34 01 65 \
     0100 35";
 
-/// The same with a put of page 1 behind the Split, in a Delta of its own.
+/// Five puts of page 1, which is split then, and a put of page 1 after the Split, in a Delta of its
+/// own.
 const CUT_AND_CHANGED: &str = "46524d32 0100000000000000 7b000000 04000000 \
     02 01000000 00 0000 \
     01 01000000 0100000000000000 00000000 0500 01 01 61 0100 31 01 01 62 0100 32 01 01 63 0100 \
@@ -70,7 +71,7 @@ const TOGETHER: &str = "46524d32 0100000000000000 1f000000 01000000 \
 /// The first four puts of page 1: the last three join the first.
 const FOUR_PUTS: &[(&str, u32)] = &[(PUT_A, 0), (PUT_B, 1), (PUT_C, 1), (PUT_D, 1)];
 
-/// A put joins the first one, behind an empty page.
+/// A put joins the first one, after an empty page.
 const JOINED: &[Step] = &[
     Step::Joins(1, None),
     Step::Put(PUT_A, Ok((1, 0))),
@@ -94,7 +95,7 @@ const JOINED: &[Step] = &[
     Step::Spells(2),
 ];
 
-/// The page is split behind five puts; a later put joins none of them, and is joined itself.
+/// The page is split after five puts; a later put joins none of them, and is joined itself.
 const CUT_IN_ONE_FRAME: &[Step] = &[
     Step::Puts(FOUR_PUTS),
     Step::Is(1, 2, 65465, false),
@@ -154,8 +155,8 @@ const TURNS: &[Step] = &[
     Step::Gives(BY_TURNS),
 ];
 
-/// Two Deltas of one page in one call: the second joins the first. Where 31 bytes are free they fit,
-/// and where 30 are they do not.
+/// Two Deltas of one page in one call: the second joins the first. If 31 bytes are free they fit,
+/// and if 30 are they do not.
 const ONE_CALL: &[Step] = &[
     Step::Put(APART, Ok((1, 0))),
     Step::Is(1, 1, 65485, false),
@@ -178,7 +179,7 @@ const ONE_CALL: &[Step] = &[
     Step::Spells(101),
 ];
 
-/// Records of one page up to the frame's last byte, 102 in one Delta. Where 6 bytes are free one more
+/// Records of one page up to the frame's last byte, 102 in one Delta. If 6 bytes are free, one more
 /// of that page fits, and none of another page.
 const TO_THE_END: &[Step] = &[
     Step::Heap(2, 128, 512, 101),
@@ -279,8 +280,8 @@ fn deletes(alloc: Global, times: u16) -> Option<Vec<u8>> {
     framed(alloc, 1, &body)
 }
 
-/// Whether the last of 65,536 records of one page begins a Delta of its own, behind a Delta of
-/// 65,534 that one more has joined; and the one behind it joins that.
+/// Whether the last of 65,536 records of one page begins a Delta of its own, after a Delta of
+/// 65,534 that one more has joined; and the one after it joins that.
 fn a_full_delta_is_left(alloc: Global) -> Option<bool> {
     let mut buffer = Buffer::new(alloc, 1, MAX_FRAME).ok()?;
     let many = deletes(alloc, 65_534)?;

@@ -1,4 +1,4 @@
-// Each call once, where memory is there.
+// Each call once, if memory is there.
 
 use super::told::{Told, is_told};
 use bw_buffer::PutError;
@@ -47,7 +47,7 @@ fn are_copied() -> bool {
     }
 }
 
-/// Whether heads and keys are told by the calls that answer yes or no.
+/// Whether heads and keys are known by the calls that answer yes or no.
 fn questions_are_answered() -> bool {
     let head = Head {
         number: 1,
@@ -302,7 +302,7 @@ fn are_skipped(pairs: &Pairs, steps: &[(&[u8], usize)]) -> bool {
     true
 }
 
-/// Whether the step went as told.
+/// Whether the step went as expected.
 fn goes(alloc: Global, pairs: &mut Pairs, step: &Step) -> bool {
     match step {
         Insert(at, key, value) => is_inserted(alloc, pairs, *at, *key, *value),
@@ -361,7 +361,7 @@ const CHANGED: &[Step] = &[
     Are(" a=1 c=3"),
 ];
 
-/// Where a search may step over keys by their first eight bytes, zeros where a key has fewer.
+/// Where a search may step over keys by their first eight bytes, zeros if a key has fewer.
 const NEAR: &[(&[u8], usize)] = &[
     (b"Z", 0),
     (b"a", 0),
@@ -392,7 +392,7 @@ const FAR: &[Step] = &[
     Insert(1, b"user/00000001/ab", b""),
     Insert(2, b"user/00000001/b", b""),
     HandOver,
-    // By the bytes behind those.
+    // By the bytes after those.
     Skips(&[
         (b"t", 0),
         (b"user", 0),

@@ -16,7 +16,7 @@ enum Begun {
 
 /// The byte at an index of a segment becomes another one, and so many bytes are left.
 enum Heading {
-    /// The first segment of either format; where it is not told, all bytes are left.
+    /// The first segment of either format; if it is not told, all bytes are left.
     Both(usize, u8, Option<usize>, Begun),
     /// This segment.
     Of(&'static str, usize, u8, usize, HeaderRead),

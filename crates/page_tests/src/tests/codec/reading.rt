@@ -23,8 +23,8 @@ fn seen_in(bytes: &[u8], header: &Header) -> Found {
     }
 }
 
-/// Whether this stands at the front of the bytes of a frame of this format, where a page has at most so
-/// many pairs and frames are of the least limit, and a check finds it as well.
+/// Whether this stands at the front of the bytes of a frame of this format, if a page has at most
+/// so many pairs and frames are of the least limit, and a check finds it as well.
 pub(super) fn is_found(alloc: Global, version: u16, m: u16, bytes: &[u8], told: Found) -> bool {
     let header = Header {
         version,
@@ -41,7 +41,7 @@ pub(super) fn is_found(alloc: Global, version: u16, m: u16, bytes: &[u8], told: 
     [found, seen_in(bytes, &header)] == [told, told]
 }
 
-/// How many bytes are left of a frame and the byte behind it.
+/// How many bytes are left of a frame and the byte after it.
 #[derive(Clone, Copy)]
 enum Left {
     /// The frame, and that byte.
@@ -65,8 +65,8 @@ enum Kind {
 
 /// Bytes, and what stands at their front.
 enum Front {
-    /// The byte at this index of the frame of the first segment of either format, or the one behind it,
-    /// becomes this, and so many bytes are left.
+    /// The byte at this index of the frame of the first segment of either format, or the one after
+    /// it, becomes this, and so many bytes are left.
     Both(usize, u8, Left, Kind),
     /// The frame of this format, of which so many bytes are left.
     Of(u16, usize, u8, usize, Found),
@@ -98,7 +98,7 @@ fn found_of(length: usize, kind: Kind) -> Found {
     }
 }
 
-/// Whether this stands at the front of so many bytes behind a segment's header.
+/// Whether this stands at the front of so many bytes after a segment's header.
 fn is_behind(alloc: Global, version: u16, segment: &[u8], left: usize, told: Found) -> bool {
     match segment.get(24..left.saturating_add(24)) {
         Some(frame) => is_found(alloc, version, 4, frame, told),
@@ -168,7 +168,7 @@ const FRAMES: &[Front] = &[
     Both(4, 0x00, Left::All, Kind::Bad),
     Both(12, 0x07, Left::All, Kind::Bad),
     Both(16, 0x00, Left::All, Kind::Bad),
-    // The byte behind the frame.
+    // The byte after the frame.
     Of(1, 52, 0x46, 53, Found::Whole(52)),
     Of(1, 52, 0xff, 53, Found::Whole(52)),
     // A body of one byte more, and of one less; the word of the other format; a body beyond the limit.
@@ -176,7 +176,8 @@ const FRAMES: &[Front] = &[
     Of(1, 12, 0x1f, 52, Found::Bad),
     Of(1, 3, 0x32, 52, Found::Bad),
     Of(1, 13, 0x40, 52, Found::Bad),
-    // The same.
+    // In format 2: the byte after the frame; a body of one byte more, and of one less; the word of
+    // the other format; a body beyond the limit.
     Of(2, 53, 0xff, 54, Found::Whole(53)),
     Of(2, 12, 0x22, 53, Found::Tail),
     Of(2, 12, 0x20, 53, Found::Bad),

@@ -16,13 +16,13 @@ enum Runs {
 
 use Runs::{Made, Shared};
 
-/// Whether a run has this byte, and behind it the bytes of both.
+/// Whether a run has this byte, and after it the bytes of both.
 fn has(run: &Run, head: u8, first: &[u8], second: &[u8]) -> bool {
     let parts = behind(behind(Some(run.as_slice()), &[head]), first);
     is_at_end(behind(parts, second))
 }
 
-/// Whether there is a run of a byte and both, as told.
+/// Whether there is a run of a byte and both, as expected.
 fn is_made(alloc: Global, first: &[u8], second: &[u8], told: bool) -> bool {
     match Run::of_parts(alloc, 7, first, second) {
         Ok(run) => told && has(&run, 7, first, second),
@@ -57,7 +57,7 @@ fn owners(alloc: Global, head: u8, first: &[u8], second: &[u8], count: usize) ->
     }
 }
 
-/// Whether each of these runs has this byte, and behind it the bytes of both.
+/// Whether each of these runs has this byte, and after it the bytes of both.
 fn all_have(runs: &[Run], head: u8, first: &[u8], second: &[u8]) -> bool {
     for run in runs {
         if !has(run, head, first, second) {

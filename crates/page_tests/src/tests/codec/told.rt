@@ -1,4 +1,4 @@
-// What the worked bytes tell, block by block.
+// What the worked bytes say, block by block.
 
 use bw_codec::{
     Block, Frame, FrameRead, FrameSeen, Header, HeaderRead, Outline, Packed, Place, check_frame,
@@ -13,7 +13,7 @@ use test_kit::vectors::{
     THIRD_OLDER, are_shown, shows,
 };
 
-/// What a block of page 1 tells: the frame and the index of its back place, and its page or its
+/// What a block of page 1 says: the frame and the index of its back place, and its page or its
 /// record as a text.
 pub(super) enum Told {
     Base(&'static str),
@@ -38,7 +38,7 @@ fn are_put(ops: &[Packed], text: &str) -> bool {
     }
 }
 
-/// Whether a block is told so.
+/// Whether a block says so.
 pub(super) fn is_told(block: &Block, told: &Told) -> bool {
     match (block, told) {
         (Block::Base(leaf), Told::Base(text)) => leaf.page == 1 && shows(leaf, text.as_bytes()),
@@ -71,7 +71,7 @@ fn done_by(told: &Told) -> ([bool; 3], [bool; 3], Option<Place>) {
     }
 }
 
-/// Whether a block tells by its calls what it does to pages 1, 2 and 3.
+/// Whether a block says by its calls what it does to pages 1, 2 and 3.
 fn does(block: &Block, told: &Told) -> bool {
     let (touched, set, back) = done_by(told);
     [block.touches(1), block.touches(2), block.touches(3)] == touched
@@ -79,7 +79,7 @@ fn does(block: &Block, told: &Told) -> bool {
         && [block.back(1), block.back(2)] == [back, None]
 }
 
-/// Whether an outline tells what its block does to pages 1, 2 and 3.
+/// Whether an outline says what its block does to pages 1, 2 and 3.
 fn outlines(outline: &Outline, told: &Told) -> bool {
     let touched = done_by(told).0;
     let made = if touched[1] { Some(2) } else { None };
@@ -88,7 +88,7 @@ fn outlines(outline: &Outline, told: &Told) -> bool {
         && [outline.touches(1), outline.touches(2), outline.touches(3)] == touched
 }
 
-/// What is left of a body of this format behind so many blocks, which are stepped over.
+/// What is left of a body of this format after so many blocks, which are stepped over.
 fn behind_blocks(version: u16, body: &[u8], count: usize) -> Option<&[u8]> {
     let mut rest = body;
     for _ in 0..count {
@@ -97,7 +97,7 @@ fn behind_blocks(version: u16, body: &[u8], count: usize) -> Option<&[u8]> {
     Some(rest)
 }
 
-/// Whether the outline of the block of this index in a body of this format tells so.
+/// Whether the outline of the block of this index in a body of this format says so.
 fn is_outlined(version: u16, body: &[u8], index: usize, told: &Told) -> bool {
     match behind_blocks(version, body, index) {
         Some(rest) => match Outline::read(version, rest) {
@@ -116,7 +116,7 @@ fn tells(frame: &Frame, index: usize, told: &Told) -> bool {
     }
 }
 
-/// A block: its segment, its frame and its index there, and what it tells.
+/// A block: its segment, its frame and its index there, and what it says.
 struct Worked(&'static str, u64, usize, Told);
 
 /// The bytes of the frame of this number among five.
@@ -134,7 +134,7 @@ fn frame_bytes<'a>(frames: &'a [u8], header: &Header, number: u64) -> Option<&'a
     None
 }
 
-/// Whether it tells so in its frame, which has these bytes.
+/// Whether it says so in its frame, which has these bytes.
 fn is_in(alloc: Global, bytes: &[u8], header: &Header, worked: &Worked) -> bool {
     let Worked(_, number, index, told) = worked;
     let outlined = match bytes.get(20..) {
@@ -152,7 +152,7 @@ fn is_in(alloc: Global, bytes: &[u8], header: &Header, worked: &Worked) -> bool 
     }
 }
 
-/// Whether it tells so in its segment, which has these bytes.
+/// Whether it says so in its segment, which has these bytes.
 fn is_in_segment(alloc: Global, bytes: &[u8], worked: &Worked) -> bool {
     match (read_header(bytes), bytes.get(24..)) {
         (HeaderRead::Whole(header), Some(frames)) => match frame_bytes(frames, &header, worked.1) {

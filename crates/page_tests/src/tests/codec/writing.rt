@@ -41,7 +41,7 @@ fn write_frame(frame: &Frame, out: &mut Vec<u8>) -> Option<()>
     Some(())
 }
 
-/// Writes the frame at the front of bytes in format 2, and tells its length here: 0 where there is
+/// Writes the frame at the front of bytes in format 2, and says its length here: 0 if there is
 /// none.
 fn copy_frame(alloc: Global, bytes: &[u8], header: &Header, out: &mut Vec<u8>) -> Option<usize> {
     if 32 < header.m {

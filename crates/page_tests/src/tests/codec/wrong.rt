@@ -5,11 +5,11 @@ use std::alloc::Global;
 use test_kit::tables::{Row, Table, WrongRow, WrongStep, rows_go, tables_go};
 use test_kit::vectors::digits::{body_of, framed_in, spelled_body};
 
-/// A frame. In format 2, where it is whole, it has a byte more for each value.
+/// A frame. In format 2, if it is whole, it has a byte more for each value.
 enum Frame {
     /// One of a block, its body in digits, which is bad.
     Bad(&'static str),
-    /// The same, which is whole: how many bytes it has.
+    /// One of a block, its body in digits, which is whole: how many bytes it has.
     Whole(&'static str, usize),
     /// One of so many blocks, its body in digits, and what it is.
     Of(u32, &'static str, Found),
@@ -56,7 +56,7 @@ const DELTAS: &[Frame] = &[
     Bad("01 01000000 01000000"),
     Bad("01 01000000 0000000000000000 00000000 0100 02 01 61"),
     Bad("01 01000000 0100000000000000 0000"),
-    // The count of records: torn, and zero; fewer records than it tells, and more.
+    // The count of records: torn, and zero; fewer records than it says, and more.
     Bad("01 01000000 0100000000000000 00000000 01"),
     Bad("01 01000000 0100000000000000 00000000 0000"),
     Bad("01 01000000 0100000000000000 00000000 0200 02 01 61"),
@@ -97,7 +97,7 @@ const BODIES: &[Frame] = &[
     // A block's kind.
     Bad("00 01000000 00 0000"),
     Bad("04 01000000 00 0000"),
-    // Fewer blocks than the head tells; more bytes than its blocks have.
+    // Fewer blocks than the head says; more bytes than its blocks have.
     Of(2, "02 01000000 00 0000", Found::Bad),
     Bad("02 01000000 00 0000 00"),
     Bad("02 01000000 00 0000 02 02000000 00 0000"),
@@ -111,7 +111,7 @@ enum Part {
 }
 
 /// Frames of one block with a key or a value of the greatest length, and of one byte more, which is
-/// bad: digits in front of its length, what it is, digits behind it, and how many bytes the first of
+/// bad: digits in front of its length, what it is, digits after it, and how many bytes the first of
 /// them has in format 1 and in format 2.
 struct Longest(&'static str, Part, &'static str, usize, usize);
 
@@ -147,7 +147,7 @@ fn is_framed(alloc: Global, version: u16, m: u16, count: u32, body: &[u8], told:
     }
 }
 
-/// What is found where this is told, in a frame of this format with so many values.
+/// What is found if this is told, in a frame of this format with so many values.
 fn found_with(told: Found, version: u16, values: usize) -> Found {
     match told {
         Found::Whole(used) if version == 2 => Found::Whole(used.saturating_add(values)),
@@ -155,7 +155,7 @@ fn found_with(told: Found, version: u16, values: usize) -> Found {
     }
 }
 
-/// Whether a row is found as told, written in this format.
+/// Whether a row is found as expected, written in this format.
 fn is_so(alloc: Global, version: u16, m: u16, row: &Frame) -> bool {
     let (count, hex, told) = match row {
         Bad(hex) => (1, *hex, Found::Bad),
@@ -171,7 +171,7 @@ fn is_so(alloc: Global, version: u16, m: u16, row: &Frame) -> bool {
     }
 }
 
-/// Frames where a page has at most so many pairs, in either format.
+/// Frames of pages of at most so many pairs, in either format.
 struct OfPairs(u16, &'static [Frame]);
 
 impl Table for OfPairs {

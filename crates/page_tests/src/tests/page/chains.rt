@@ -57,7 +57,7 @@ fn alone(alloc: Global, chain: &Chain, text: &str) -> bool {
     }
 }
 
-/// Whether the step went as told.
+/// Whether the step went as expected.
 fn goes(alloc: Global, chain: &mut Chain, below: &mut Leaf, step: &Step) -> bool {
     match step {
         Step::Put(key, value) => prepended(alloc, chain, key, value),
@@ -76,7 +76,7 @@ fn goes(alloc: Global, chain: &mut Chain, below: &mut Leaf, step: &Step) -> bool
     }
 }
 
-/// The first step that did not go as told over an empty page below.
+/// The first step that did not go as expected over an empty page below.
 fn walked(alloc: Global, chain: &mut Chain, steps: &[Step]) -> Option<usize> {
     let mut below = empty_page(alloc);
     for (i, step) in steps.iter().enumerate() {

@@ -23,11 +23,11 @@ pub(super) fn two_pages(alloc: Global) -> Result<Leaves, AllocError>
 enum Ask {
     Count(u32),
     Here(u32, bool),
-    /// A page as `is_shown` has it; no text where it is not in memory.
+    /// A page as `is_shown` has it; no text if it is not in memory.
     Page(u32, &'static str),
     /// The page of a key.
     Find(&'static str, u32),
-    /// The value of a key; no text where its page is evicted.
+    /// The value of a key; no text if its page is evicted.
     Get(&'static str, &'static str),
 }
 
@@ -54,7 +54,7 @@ fn is_so(leaves: &Leaves, ask: &Ask) -> bool {
     }
 }
 
-/// The first question that was not answered as told, behind the number of its table.
+/// The first question that was not answered as expected, after the number of its table.
 fn wrong_answer(leaves: &Leaves, table: usize, asks: &[Ask]) -> Option<(usize, usize)> {
     for (i, ask) in asks.iter().enumerate() {
         if !is_so(leaves, ask) {
@@ -93,13 +93,13 @@ const BACK: &[Ask] = &[
     Ask::Get("d", "4"),
 ];
 
-/// What a failure tells where the pages were others, so that nothing was asked.
+/// What a failure says if the pages were others, so that nothing was asked.
 const OTHER_PAGES: (usize, usize) = (9, 0);
 
-/// What a failure tells where the change was another.
+/// What a failure says if the change was another.
 const OTHER_CHANGE: (usize, usize) = (9, 1);
 
-/// Page 2 leaves memory and comes back: the first question that was not answered as told.
+/// Page 2 leaves memory and comes back: the first question that was not answered as expected.
 fn goes_and_returns(leaves: &mut Leaves) -> Option<(usize, usize)>
     requires { leaves.old.evicted ≡ [] }
 {
@@ -124,8 +124,7 @@ const CHANGED: &[Ask] = &[
     Ask::Page(2, ""),
 ];
 
-/// Whether a record of this key does so; none where the page at which it is directed is not in
-/// memory.
+/// Whether a record of this key does so; none if the page at which it is directed is not in memory.
 fn applies(
     alloc: Global,
     leaves: &mut Leaves,
@@ -145,7 +144,7 @@ fn applies(
     told.is_some() && leaves.apply(&change).ok() == told
 }
 
-/// Whether a record of the page that is evicted is left alone, and one of the other page applied.
+/// Whether a record of the page that is evicted is left out, and one of the other page applied.
 fn changes_one(alloc: Global, leaves: &mut Leaves) -> bool {
     let told = Applied {
         page: 1,
@@ -154,7 +153,7 @@ fn changes_one(alloc: Global, leaves: &mut Leaves) -> bool {
     applies(alloc, leaves, b"d", b"5", None) && applies(alloc, leaves, b"b", b"2", Some(told))
 }
 
-/// Page 1 is changed while page 2 is evicted: the first question that was not answered as told
+/// Page 1 is changed while page 2 is evicted: the first question that was not answered as expected
 /// then.
 fn changed_beside(alloc: Global, leaves: &mut Leaves) -> Option<(usize, usize)> {
     if leaves.count() != 2 {
@@ -167,7 +166,8 @@ fn changed_beside(alloc: Global, leaves: &mut Leaves) -> Option<(usize, usize)> 
     wrong_answer(leaves, 0, CHANGED)
 }
 
-/// The same over two pages that are there.
+/// Two pages that are there go one way or the other: the first question that was not answered as
+/// expected.
 fn first_wrong(alloc: Global, comes_back: bool) -> Option<(usize, usize)> {
     match two_pages(alloc) {
         Ok(mut leaves) if comes_back => goes_and_returns(&mut leaves),
@@ -176,7 +176,7 @@ fn first_wrong(alloc: Global, comes_back: bool) -> Option<(usize, usize)> {
     }
 }
 
-/// The first question that was not answered as told fails a test.
+/// The first question that was not answered as expected fails a test.
 fn all_answered(alloc: Global, comes_back: bool) -> Result<(), WrongStep> {
     match first_wrong(alloc, comes_back) {
         Some((table, ask)) => Err(WrongStep(table, ask)),

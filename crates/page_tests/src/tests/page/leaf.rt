@@ -28,7 +28,7 @@ fn changed(leaf: &mut Leaf, record: Option<Record>, count: usize) -> bool {
     change(leaf, &record).is_ok() && foretold == count && leaf.pairs.as_slice().len() == count
 }
 
-/// Whether the step went as told.
+/// Whether the step went as expected.
 fn goes(leaf: &mut Leaf, step: &Step) -> bool {
     match step {
         Step::Put(key, value, count) => {
@@ -74,13 +74,13 @@ fn a_leaf_is_changed_record_by_record(rt: HostRuntime) -> Result<(), WrongStep> 
     tables_go(rt.alloc(), &[Steps(ONE_LEAF)])
 }
 
-/// A leaf, and what is made of it or told of it.
+/// A leaf, and what is made of it or said of it.
 enum Made {
-    /// The most pairs, the keys, and the two parts of the leaf, which is split where it has more.
+    /// The most pairs, the keys, and the two parts of the leaf, which is split if it has more.
     Split(u16, &'static str, &'static str, &'static str),
     /// The keys, the first key that goes, and what is kept.
     Kept(&'static str, &'static str, &'static str),
-    /// A key, and its value in a leaf of `d` alone; no text where it has none.
+    /// A key, and its value in a leaf of only `d`; no text if it has none.
     Value(&'static str, &'static str),
     /// What an empty page is after `CHANGES`.
     Changed(&'static str),
@@ -105,7 +105,7 @@ fn are_parts(halves: &Halves, lower: &str, upper: &str) -> bool {
         && is_shown(Some(&halves.upper), upper)
 }
 
-/// Whether the leaf, split where it has more than so many pairs, gives these parts.
+/// Whether the leaf, split if it has more than so many pairs, gives these parts.
 fn is_split(alloc: Global, m: u16, leaf: Option<Leaf>, lower: &str, upper: &str) -> bool {
     let Some(leaf) = leaf else {
         return false;
@@ -127,7 +127,7 @@ fn is_kept(leaf: Option<Leaf>, end: &str, text: &str) -> bool {
     }
 }
 
-/// Whether a key has this value in a leaf; no text where it has none.
+/// Whether a key has this value in a leaf; no text if it has none.
 fn tells(leaf: &Leaf, key: &str, text: &str) -> bool
     requires { IsTrue (ascends leaf.now.pairs) }
 {

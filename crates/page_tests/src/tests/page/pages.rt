@@ -15,7 +15,8 @@ use test_kit::vectors::{all_packed, del, is_shown, packed, packed_put, records};
 pub(super) enum Step {
     /// Puts a value: the page at which it is directed, and the one that it makes, or 0.
     Put(&'static str, &'static str, u32, u32),
-    /// The same, where this page is looked at first.
+    /// Puts a value and looks at this page first: the page at which it is directed, and the one
+    /// that it makes, or 0.
     Hinted(u32, &'static str, &'static str, u32, u32),
     /// Deletes a key: the page at which it is directed.
     Del(&'static str, u32),
@@ -23,13 +24,13 @@ pub(super) enum Step {
     Fill(u16),
     /// As many pages.
     Count(u32),
-    /// A page as `is_shown` has it; no text where there is none.
+    /// A page as `is_shown` has it; no text if there is none.
     Page(u32, &'static str),
     /// How many pairs a page has.
     Pairs(u32, usize),
     /// The page of a key.
     Find(&'static str, u32),
-    /// The value of a key; no text where there is none.
+    /// The value of a key; no text if there is none.
     Get(&'static str, &'static str),
     /// What the records of `TEN` would do: the pages at which they are directed.
     Foretold(&'static [u32]),
@@ -199,7 +200,7 @@ fn copied(leaves: &mut Leaves) -> bool
     true
 }
 
-/// Whether the step went as told.
+/// Whether the step went as expected.
 fn goes(alloc: Global, leaves: &mut Leaves, step: &Step) -> bool
     requires { leaves.old.evicted ≡ [] }
     ensures { leaves.new.evicted ≡ [] }
@@ -227,7 +228,7 @@ fn goes(alloc: Global, leaves: &mut Leaves, step: &Step) -> bool
     }
 }
 
-/// The first step that did not go as told.
+/// The first step that did not go as expected.
 fn walked(alloc: Global, from: Leaves, steps: &[Step]) -> Option<usize>
     requires { from.evicted ≡ [] }
 {
@@ -355,7 +356,7 @@ const FIVE: &[Step] = &[
     Page(2, "d: d=2 zz=3"),
 ];
 
-/// A page is filled, and split where it has one pair too many.
+/// A page is filled, and split if it has one pair too many.
 const FILLED_FOUR: &[Step] = &[
     Fill(4),
     Count(1),
@@ -403,7 +404,7 @@ enum Walk {
     Taken(&'static [Step]),
 }
 
-/// The first step that does not go as told over new leaves, or the first where they were not made.
+/// The first step that does not go as expected over new leaves, or the first if they were not made.
 fn wrong_of(alloc: Global, m: u16, steps: &[Step]) -> Option<usize> {
     if m < 4 || m > 32 {
         return Some(0);
@@ -414,7 +415,7 @@ fn wrong_of(alloc: Global, m: u16, steps: &[Step]) -> Option<usize> {
     }
 }
 
-/// The first step that does not go as told over two pages that are taken.
+/// The first step that does not go as expected over two pages that are taken.
 fn wrong_taken(alloc: Global, steps: &[Step]) -> Option<usize> {
     match two_pages(alloc) {
         Ok(leaves) => walked(alloc, leaves, steps),

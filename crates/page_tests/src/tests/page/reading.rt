@@ -30,8 +30,8 @@ fn blocks(alloc: Global, records: Vec<Packed>, from: &[u8], value: &[u8]) -> Opt
 
 /// A page that blocks make.
 enum Read {
-    /// The records put `a` and `b`, and the page is split at `b`: a page, and what it shows; no text
-    /// where they never set it.
+    /// The records put `a` and `b`, and the page is split at `b`: a page, and what it shows; no
+    /// text if they never set it.
     Page(u32, &'static str),
     /// The records are so many puts, and a delete of the least: where the page is split, and how many
     /// keys it keeps.
@@ -40,7 +40,7 @@ enum Read {
 
 use Read::{Grown, Page};
 
-/// Whether a record comes in behind the others.
+/// Whether a record comes in after the others.
 fn is_added(records: &mut Vec<Packed>, record: Option<Packed>) -> bool {
     match record {
         Some(record) => records.push(record).is_ok(),

@@ -18,7 +18,7 @@ fn peeked_and_taken(lane: &mut Lane) -> Option<(Group, Group)>
     Some((peeked, taken))
 }
 
-/// The oldest group, taken once a look showed it; `None` where the look shows none.
+/// The oldest group, taken once a look showed it; `None` if the look shows none.
 fn known_taken(lane: &mut Lane) -> Option<(Group, Group)>
     ensures ring { ring_of_lane lane.new ≡ ring_of_lane lane.old }
     ensures same { IfSome result (λ both. both.0 ≡ both.1) }
@@ -106,7 +106,7 @@ fn hands_back(feed: &mut Feed, numbers: Numbers) -> bool
     }
 }
 
-/// Whether the step went as told.
+/// Whether the step went as expected.
 fn goes(feed: &mut Feed, lane: &mut Lane, step: &Step) -> bool
     requires { IsFeedOf feed.old lane.old }
     ensures { IsFeedOf feed.new lane.new }
@@ -126,7 +126,7 @@ fn goes(feed: &mut Feed, lane: &mut Lane, step: &Step) -> bool
     }
 }
 
-/// The first step that did not go as told.
+/// The first step that did not go as expected.
 fn walked(feed: &mut Feed, lane: &mut Lane, steps: &[Step]) -> Option<usize>
     requires { IsFeedOf feed.old lane.old }
 {
@@ -141,7 +141,8 @@ fn walked(feed: &mut Feed, lane: &mut Lane, steps: &[Step]) -> Option<usize>
 /// Steps over a new ring of so many places.
 type OfPlaces = (usize, &'static [Step]);
 
-/// The same; the first step where the ring was not made.
+/// The first step over a new ring that did not go as expected; the first of all if the ring was not
+/// made.
 fn wrong_of_places(alloc: Global, table: &OfPlaces) -> Option<usize> {
     match one_ring(alloc, table.0) {
         Ok((mut feed, mut lane)) => walked(&mut feed, &mut lane, table.1),
@@ -198,8 +199,8 @@ const KNOWN: &[Step] = &[
     Step::Take(&[3]),
 ];
 
-/// Places, and all that is counted, are of groups. A group that found no place comes back whole, and
-/// a single put behind a group finds none either.
+/// Places, and all that is counted, are of groups. A group that found no place comes back whole,
+/// and a single put after a group finds none either.
 const GROUPS: &[Step] = &[
     Step::Group(&[1, 2]),
     Step::Room(1),

@@ -9,7 +9,7 @@ use std::alloc::Global;
 use test_kit::tables::{first_false, wrong_row};
 use test_kit::vectors::is_text;
 
-/// A record that tells its number.
+/// A record that has its number in it.
 pub(crate) fn numbered(number: u32) -> Record {
     match Key::new(&number.to_be_bytes()) {
         Ok(key) => Record::Del(key),
@@ -17,7 +17,7 @@ pub(crate) fn numbered(number: u32) -> Record {
     }
 }
 
-/// The group of the records of these numbers; `None` where there are none, or too many.
+/// The group of the records of these numbers; `None` if there are none, or too many.
 pub(crate) fn group_of(numbers: &[u32]) -> Option<Group> {
     let (first, rest) = numbers.split_first()?;
     let mut group = Group::one(numbered(*first));
@@ -53,7 +53,7 @@ pub(crate) fn one_ring(alloc: Global, places: usize) -> Result<(Feed, Lane), Lan
 /// Writers and places, and whether there may be so many.
 type Config = (usize, usize, bool);
 
-/// Whether rings are made, or refused, as told.
+/// Whether rings are made, or refused, as expected.
 fn config_goes(alloc: Global, row: &Config) -> Option<bool> {
     let (writers, places, told) = *row;
     Some(match lanes(alloc, writers, places) {

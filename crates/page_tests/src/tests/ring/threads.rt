@@ -49,7 +49,7 @@ fn is_group_at(group: &Group, number: u32) -> bool {
     group.as_slice() == group_at(number).as_slice()
 }
 
-// The number behind those of a group.
+// The number after those of a group.
 fn behind(group: &Group, number: u32) -> u32 {
     number.saturating_add(group.len() as u32)
 }

@@ -3,8 +3,8 @@
 use super::{Case, Stand, over};
 use bw_versions::ReadFault;
 
-// How many of four readers were made, where each is dropped before the next; `None` where memory
-// was wanted.
+// How many of four readers were made, if each is dropped before the next; `None` if memory was
+// wanted.
 pub(super) fn made(stand: &mut Stand) -> Option<usize> {
     let mut made = 0usize;
     for _ in 0..4u32 {

@@ -38,7 +38,7 @@ fn publish_all<R: Wait>(rt: &R, stand: &mut Stand) -> bool
     true
 }
 
-// Whether no publication was refused, and no read beside them was or went back; none where there was
+// Whether no publication was refused, and no read beside them was or went back; none if there was
 // no reader.
 pub(super) fn race<R: Threads + Wait>(rt: &R, stand: &mut Stand) -> Option<bool>
     requires { stand.old.versions.entered ≡ [] }

@@ -17,11 +17,11 @@ pub(super) enum Step {
     Del(&'static str),
     /// Publishes the history.
     Publish,
-    /// Tells the reader what is published.
+    /// The reader hears what is published.
     Learn,
-    /// The value of a key; no text where there is none.
+    /// The value of a key; no text if there is none.
     Get(&'static str, &'static str),
-    /// A page; no text where there is none.
+    /// A page; no text if there is none.
     Page(u32, &'static str),
     /// The pairs from a key on, and no more than so many.
     Scan(&'static str, usize, &'static str),
@@ -38,7 +38,7 @@ fn published<R: Wait>(rt: &R, stand: &mut Stand) -> bool
     publish(rt, stand) || publish(rt, stand)
 }
 
-/// Whether the step went as told.
+/// Whether the step went as expected.
 fn goes<R: Wait>(rt: &R, stand: &mut Stand, reader: &mut Reader, step: &Step) -> bool
     requires begins { IsPrefix (entries_of stand.old.versions.entered) stand.old.history.items }
     requires own { reader.old.book ≡ stand.old.versions.book }
@@ -59,7 +59,7 @@ fn goes<R: Wait>(rt: &R, stand: &mut Stand, reader: &mut Reader, step: &Step) ->
     }
 }
 
-/// The first step that did not go as told with a new reader.
+/// The first step that did not go as expected with a new reader.
 pub(super) fn walked<R: Wait>(rt: &R, stand: &mut Stand, steps: &[Step]) -> Option<usize>
     requires { stand.old.versions.entered ≡ [] }
 {
@@ -134,7 +134,7 @@ const DELETED: &[Step] = &[
     Get("k", "2"),
 ];
 
-/// News of nothing, news told twice, and news after a read.
+/// News of nothing, news heard twice, and news after a read.
 const TOLD: &[Step] = &[
     Learn,
     Get("k", ""),

@@ -31,7 +31,7 @@ fn does<R: Threads + Wait>(rt: &R, served: &mut Served, case: &Case) -> bool
     }
 }
 
-/// Whether it went as told over so many boxes; none where there was no such store.
+/// Whether it went as expected over so many boxes; none if there was no such store.
 pub(super) fn over<R: AllocGlobal + Threads + Wait>(
     rt: &R,
     boxes: u32,

@@ -20,7 +20,7 @@ const READS: u32 = 10_000;
 /// How many values of one key are put, taken and flushed meanwhile.
 const VALUES: u8 = 200;
 
-/// Whether a reader answers this value of `k`; no bytes where it has none.
+/// Whether a reader answers this value of `k`; no bytes if it has none.
 pub(super) fn reads(reader: &mut Reader, value: &[u8]) -> bool {
     let Ok(key) = Key::new(b"k") else {
         return false;
@@ -74,7 +74,7 @@ fn is_seen<R: Wait>(
     before & after & flushes(rt, &mut served.store, None)
 }
 
-// A reader that learnt the last news reads what they tell.
+// A reader that learnt the last news reads what they say.
 fn reads_news<R: Wait>(rt: &R, store: &mut Store) -> bool
     requires { IsSound store.old holding }
     ensures { IsSound store.new holding }
@@ -95,8 +95,8 @@ fn has_one_place(store: &mut Store) -> bool
     store.reader().is_ok() && matches!(store.reader(), Err(ReadFault::NoReader))
 }
 
-// A reader sees what was flushed, and not what was only taken, and what the last news tell; one
-// more has a place beside it.
+// A reader sees what was flushed, and not what was only taken, and what the last news say; one more
+// has a place beside it.
 fn serves<R: Wait>(rt: &R, served: &mut Served) -> Option<Reader>
     requires { IsSound served.old.store holding }
     ensures { IsSound served.new.store holding }
@@ -115,7 +115,7 @@ fn serves<R: Wait>(rt: &R, served: &mut Served) -> Option<Reader>
     }
 }
 
-// Whether a reader was served and, now that its store is shut, is told so.
+// Whether a reader was served and, now that its store is shut, hears so.
 fn is_refused(reader: Option<Reader>) -> bool {
     let Ok(key) = Key::new(b"k") else {
         return false;

@@ -16,7 +16,7 @@ use std::test::Fail;
 use std::thread;
 use std::thread::Threads;
 
-// What a writer's thread does: its feed accepts a record, or hands it back where the ring is full.
+// What a writer's thread does: its feed accepts a record, or hands it back if the ring is full.
 fn put(mut feed: Feed, record: Record) -> Feed
     ensures { ring_of_feed result ≡ ring_of_feed feed }
 {
@@ -24,7 +24,7 @@ fn put(mut feed: Feed, record: Record) -> Feed
     feed
 }
 
-// The value of k behind a settlement.
+// The value of k after a settlement.
 fn example<R: Threads + Wait>(
     rt: &R,
     store: &mut Store,
@@ -46,7 +46,7 @@ fn example<R: Threads + Wait>(
     Ok(value)
 }
 
-// The same over a new store of one writer.
+// The value of k after a settlement of a new store of one writer.
 fn is_there<R: AllocGlobal + Threads + Wait>(rt: &R) -> Result<Option<Value>, Fail> {
     let alloc = rt.alloc();
     let Some(boxes) = supplied(alloc, 2) else {

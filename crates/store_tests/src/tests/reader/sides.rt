@@ -31,7 +31,7 @@ pub(super) struct Sided {
     pub(super) reader: Reader,
 }
 
-/// Whether a store takes and flushes as told.
+/// Whether a store takes and flushes as expected.
 pub(super) fn goes<R: Wait>(rt: &R, sided: &mut Sided, side: Side, step: &Step) -> bool
     requires { IsSound sided.old.served.store holding }
     ensures { IsSound sided.new.served.store holding }

@@ -12,7 +12,7 @@ use bw_device::Segment;
 use std::sync::Wait;
 use test_subjects::subject::config_of;
 
-/// A step, and the values of `k` that the readers of the left and the right store see behind it; of
+/// A step, and the values of `k` that the readers of the left and the right store see after it; of
 /// no bytes, none.
 type Seen = (Step, &'static [u8], &'static [u8]);
 
@@ -30,7 +30,7 @@ const STEPS: &[Seen] = &[
     (Flushes(Right), b"4", b"3"),
 ];
 
-// Whether a step goes as told at both stores, and both readers see as told behind it.
+// Whether a step goes as expected at both stores, and both readers see as expected after it.
 fn go_both<R: Wait>(rt: &R, left: &mut Sided, right: &mut Sided, seen: &Seen) -> bool
     requires left { IsSound left.old.served.store holding }
     requires right { IsSound right.old.served.store holding }
@@ -44,7 +44,7 @@ fn go_both<R: Wait>(rt: &R, left: &mut Sided, right: &mut Sided, seen: &Seen) ->
     is_left & is_right & are_seen
 }
 
-// The first step that did not go as told.
+// The first step that did not go as expected.
 fn wrong_step<R: Wait>(rt: &R, left: &mut Sided, right: &mut Sided) -> Option<usize>
     requires left { IsSound left.old.served.store holding }
     requires right { IsSound right.old.served.store holding }
@@ -73,7 +73,8 @@ fn with_reader<R: AllocGlobal + Wait>(rt: &R, boxes: Vec<Box<dyn Segment>>) -> O
     }
 }
 
-// The same with a left store over these boxes, which is then shut.
+// The first step that did not go as expected with a left store over these boxes, which is then
+// shut.
 fn go_against<R: AllocGlobal + Wait>(
     rt: &R,
     right: &mut Sided,
@@ -94,7 +95,8 @@ fn go_against<R: AllocGlobal + Wait>(
     wrong
 }
 
-// The same where the right store's reader then sees on; the first step where it does not.
+// The first step that did not go as expected with two stores, if the right one's reader then sees
+// on; the first of all if it does not.
 fn walked<R: AllocGlobal + Wait>(rt: &R) -> Option<usize> {
     let Some(boxes) = supplied(rt.alloc(), 4) else {
         return Some(0);

@@ -75,7 +75,7 @@ pub(super) fn dying(alloc: Global, lease: u32, dead: (u64, u64)) -> Option<Suppl
 }
 
 /// A box with the bytes of a text in hex, of which no further failure can be counted, and so many
-/// behind it.
+/// after it.
 pub(super) fn worn(alloc: Global, text: &'static str, behind: u32) -> Option<Supply> {
     let mut maker = maker_of(alloc, LEAST)?;
     let mut boxes: Vec<Box<dyn Segment>> = Vec::new(alloc);
@@ -95,9 +95,9 @@ pub(super) fn worn(alloc: Global, text: &'static str, behind: u32) -> Option<Sup
 #[derive(Clone, Copy)]
 pub(super) struct Row {
     pub(super) boxes: u32,
-    /// Behind them one that fails once, after so many calls, and keeps so many bytes of an append.
+    /// After them one that fails once, after so many calls, and keeps so many bytes of an append.
     pub(super) fuse: Option<(u64, u64)>,
-    /// So many behind that one.
+    /// So many after that one.
     pub(super) behind: u32,
     /// So many more.
     pub(super) more: u32,
@@ -115,7 +115,7 @@ pub(super) fn plain(boxes: u32, more: u32) -> Row {
     }
 }
 
-/// So many boxes of that capacity, then one that fails so, and so many behind it.
+/// So many boxes of that capacity, then one that fails so, and so many after it.
 pub(super) fn fused(boxes: u32, fuse: (u64, u64), behind: u32) -> Row {
     Row {
         fuse: Some(fuse),

@@ -31,7 +31,7 @@ const THREE_SEGMENTS: &[Step] = &[
     Page(1, "1 : j=2 k=3"),
 ];
 
-/// What waits is not flushed where nothing is old.
+/// What waits is not flushed if nothing is old.
 const NOTHING_OLD: &[Step] = &[
     Uncleaned(StoreFault::NothingOld),
     Cuts(&[], 0),
@@ -44,7 +44,7 @@ const NOTHING_OLD: &[Step] = &[
     Cuts(&[1, 2], 2),
 ];
 
-/// Where one spare is left, a flush is refused; the flush of a cleaning takes it.
+/// If one spare is left, a flush is refused; the flush of a cleaning takes it.
 const THREE_BOXES: &[Step] = &[
     Segments(1, TWO),
     Roll,

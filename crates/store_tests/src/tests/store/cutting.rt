@@ -71,7 +71,8 @@ fn goes_on<R: AllocGlobal + Wait>(rt: &R, over: Over) -> Option<usize> {
     shows(rt, over, recovered, &mut supply, AFTER)
 }
 
-// The first step that did not go as told over what was recovered; the boxes are put in a supply.
+// The first step that did not go as expected over what was recovered; the boxes are put in a
+// supply.
 pub(super) fn shows<R: AllocGlobal + Wait>(
     rt: &R,
     over: Over,

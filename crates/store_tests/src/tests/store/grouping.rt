@@ -34,7 +34,7 @@ const WRITERS: &[Step] = &[
     Cuts(&[4], 1),
 ];
 
-/// The same where the second turn begins at lane 0 again.
+/// A turn counts groups and answers records; here the second turn begins at lane 0 again.
 const ROUNDS: &[Step] = &[
     Group(0, &[Set(b"a", b"1"), Set(b"b", b"2")]),
     Group(1, &[Set(b"p", b"1"), Set(b"q", b"2"), Set(b"r", b"3")]),
@@ -77,7 +77,7 @@ const ROOM_FOR_ONE: &[Step] = &[
     Get(b"k", LONG),
 ];
 
-/// Where both have room, they stand in the second.
+/// If both have room, they stand in the second.
 const ROOM_FOR_BOTH: &[Step] = &[
     Frame(b"k", b"v", 1),
     Same(0, b"k", 126, 512),

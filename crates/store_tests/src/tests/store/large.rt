@@ -23,7 +23,7 @@ const LARGE: Row = Row {
     capacity: 25_165_824,
 };
 
-/// A record with the longest value has 520 bytes of log behind others of its page, so 5 rounds of
+/// A record with the longest value has 520 bytes of log after others of its page, so 5 rounds of
 /// 8,000 make 20 million.
 const ROUNDS: u64 = 5;
 
@@ -108,7 +108,7 @@ fn goes<R: AllocGlobal + Wait>(rt: &R, held: &mut Held) -> bool
     is_cleaned(rt, held)
 }
 
-// Whether they do over a core or a store of its own; none where there was none.
+// Whether they do over a core or a store of its own; none if there was none.
 fn goes_over<R: AllocGlobal + Wait>(rt: &R, over: Over) -> Option<bool> {
     let mut supply = supplied(rt.alloc(), &LARGE)?;
     let mut held = opened(rt, over, &config_of(2, 4096, 1), &mut supply)?;

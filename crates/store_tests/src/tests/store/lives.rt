@@ -53,7 +53,7 @@ fn again(alloc: Global, core: Core, more: Vec<Box<dyn Segment>>) -> Option<Held>
     }
 }
 
-// The first step of two lives that did not go as told; the first one where there is no life.
+// The first step of two lives that did not go as expected; the first one if there is no life.
 fn two_lives<R: AllocGlobal + Wait>(
     rt: &R,
     boxes: &Row,

@@ -42,7 +42,7 @@ const AFTER_THE_THIRD: &[Step] = &[
     Cuts(&[1], 1),
 ];
 
-/// After the greatest frame number there is no further one, even where nothing waits.
+/// After the greatest frame number there is no further one, even if nothing waits.
 const AFTER_THE_GREATEST: &[Step] = &[Page(1, "1 :"), Refused(StoreFault::Spent)];
 
 const TABLES: &[Tables] = &[
@@ -76,7 +76,7 @@ const AWAY: &[Step] = &[
     Page(1, "1 : j=2 k=3 l=4"),
 ];
 
-// The first step that does not go as told over a core that begins without its pages.
+// The first step that does not go as expected over a core that begins without its pages.
 fn away<R: AllocGlobal + Wait>(rt: &R, texts: &[&'static str], steps: &[Step]) -> Option<usize> {
     let Some(mut supply) = with_bytes(rt.alloc(), texts, 2) else {
         return Some(0);

@@ -43,7 +43,7 @@ const WRITTEN_AGAIN: &[Step] = &[
     Page(1, "1 : j=2 k=4"),
 ];
 
-/// No page stands behind the last one, and none has the number 0: then nothing is flushed either.
+/// No page stands after the last one, and none has the number 0: then nothing is flushed either.
 const NO_PAGE: &[Step] = &[
     Taken(b"k", b"1"),
     Rewrite(&[0], Err(StoreFault::NoPage)),
@@ -90,7 +90,7 @@ const FAILED: &[Step] = &[
 ];
 
 /// The first segment's header and frame pass, and then one read fails: a value of the second
-/// segment is told without it, and so is a key that was deleted there; the page is not.
+/// segment is answered without it, and so is a key that was deleted there; the page is not.
 const NEWEST_FIRST: &[Step] = &[
     Add,
     Put(0, b"k", b"1"),

@@ -26,7 +26,7 @@ const NO_SEGMENT_LEFT: &[Step] = &[
     Page(1, "1 : j=2 k=v"),
 ];
 
-/// That a spare is wanting is told before.
+/// That a spare is wanting is said before.
 const NO_SPARE_LEFT: &[Step] = &[
     Roll,
     Put(0, b"j", b"2"),
@@ -35,7 +35,7 @@ const NO_SPARE_LEFT: &[Step] = &[
     Stands(1, 1),
 ];
 
-/// That no frame follows is told before both, and where nothing waits.
+/// That no frame follows is said before both, and if nothing waits.
 const NO_FRAME_LEFT: &[Step] = &[
     Refused(StoreFault::Spent),
     Roll,
@@ -53,7 +53,7 @@ const NO_FAILURE_LEFT: &[Step] = &[
     Page(1, "1 : j=2"),
 ];
 
-/// That a second spare is wanting is told before.
+/// That a second spare is wanting is said before.
 const ONE_WORN_SPARE: &[Step] = &[
     Put(0, b"j", b"2"),
     Turn(8, 1),

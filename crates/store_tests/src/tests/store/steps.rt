@@ -42,7 +42,7 @@ fn is_taken(opened: &mut Held, key: &[u8], value: &[u8]) -> bool
     is_put & takes(&mut opened.store, 9, Ok(1))
 }
 
-// Whether it is then appended as the frame that is told.
+// Whether it is then appended as the frame of this number.
 fn is_appended<R: Wait>(rt: &R, opened: &mut Held, key: &[u8], value: &[u8], told: u64) -> bool
     requires sound { IsSoundBeside opened.old.store holding }
     requires feeds { AreItsFeeds opened.old.feeds.items opened.old.store holding }
@@ -53,7 +53,7 @@ fn is_appended<R: Wait>(rt: &R, opened: &mut Held, key: &[u8], value: &[u8], tol
     is_taken & (opened.store.flush(rt) == Ok(Some(told)))
 }
 
-// Whether each of these records is, from the frame that is told on; with each in a segment of its
+// Whether each of these records is, from the frame of this number on; with each in a segment of its
 // own, or not.
 fn are_appended<R: Wait>(rt: &R, opened: &mut Held, ops: &[Op], told: u64, apart: bool) -> bool
     requires sound { IsSoundBeside opened.old.store holding }
@@ -73,7 +73,7 @@ fn are_appended<R: Wait>(rt: &R, opened: &mut Held, ops: &[Op], told: u64, apart
     true
 }
 
-/// Whether the step goes as told.
+/// Whether the step goes as expected.
 pub(super) fn goes<R: Wait>(rt: &R, alloc: Global, opened: &mut Held, step: &Step) -> bool
     requires sound { IsSoundBeside opened.old.store holding }
     requires feeds { AreItsFeeds opened.old.feeds.items opened.old.store holding }

@@ -20,8 +20,8 @@ const AGAIN: &[Step] = &[
 
 const LAST: &[Step] = &[Page(1, "1 : j=w k=v"), Flush(None)];
 
-// The first step that did not go as told in the first of three lives where one did not: the append
-// of the first frame, the second call of its box, fails, with all its bytes kept.
+// The first step that did not go as expected in the first of three lives where one did not: the
+// append of the first frame, the second call of its box, fails, with all its bytes kept.
 fn three_lives<R: AllocGlobal + Wait>(rt: &R, over: Over) -> Option<usize> {
     let Some(mut supply) = supplied(rt.alloc(), &fused(0, (1, 53), 3)) else {
         return Some(0);

@@ -23,17 +23,17 @@ const FIVE_FRAMES: &[Step] = &[Frames(1, FIVE)];
 const CLEANED: &[Step] = &[Clean(1, 0, 1, 1), Clean(2, 1, 0, 0), Page(1, "1 : j=2 k=3")];
 
 /// An append: the lease of its box, how many calls of that box come before it, its length, and how
-/// many frames are whole where it failed, with less than all its bytes kept or with all of them.
+/// many frames are whole when it failed, with less than all its bytes kept or with all of them.
 #[derive(Drop)]
 struct Append(u32, u64, u64, usize, usize);
 
 /// Appends of a box, one after the other: its lease, how many of its calls come before the first,
-/// and how many frames are whole before it; then of each its length, and how many are whole behind
+/// and how many frames are whole before it; then of each its length, and how many are whole after
 /// it.
 #[derive(Drop)]
 struct Appends(u32, u64, usize, &'static [(u64, usize)]);
 
-/// A script in two parts, its appends, and for each frame what a store shows that goes on behind it.
+/// A script in two parts, its appends, and for each frame what a store shows that goes on after it.
 #[derive(Drop)]
 struct Course {
     steps: &'static [Step],
@@ -99,7 +99,7 @@ fn is_wrong<R: AllocGlobal + Wait>(rt: &R, held: &mut Held, course: &Course) -> 
     wrong_step(rt, held, course.then).is_some()
 }
 
-// The same over a store of these boxes, which then come out.
+// Whether a step of the script goes otherwise over a store of these boxes, which then come out.
 fn stops<R: AllocGlobal + Wait>(rt: &R, over: Over, supply: &mut Supply, course: &Course) -> bool {
     let Some(mut held) = opened(rt, over, &config_of(2, 8, 1), supply) else {
         return false;
@@ -109,7 +109,7 @@ fn stops<R: AllocGlobal + Wait>(rt: &R, over: Over, supply: &mut Supply, course:
     wrong
 }
 
-// Whether recovery tells that no frame is whole, and hands all boxes back.
+// Whether recovery says that no frame is whole, and hands all boxes back.
 fn finds_nothing<R: AllocGlobal>(rt: &R, supply: Supply) -> bool {
     let Supply { boxes, more: _ } = supply;
     match recover(rt.alloc(), boxes) {
@@ -158,7 +158,7 @@ impl Stopped<'_> {
             return false;
         }
         let Supply { boxes, more: _ } = supply;
-        // Where the box kept nothing it is a spare, and is not read.
+        // If the box kept nothing, it is a spare, and is not read.
         let is_spare = *calls == 0 && self.keep == 0;
         match recover(rt.alloc(), boxes) {
             Ok(_recovered) => is_spare && *torn > 0,
@@ -174,7 +174,7 @@ impl Stopped<'_> {
     }
 }
 
-// Whether an append goes as told with each number of bytes kept.
+// Whether an append goes as expected with each number of bytes kept.
 fn goes_well<R: AllocGlobal + Wait>(rt: &R, over: Over, course: &Course, append: &Append) -> bool {
     for keep in 0..=append.2 {
         let stopped = Stopped {
@@ -229,7 +229,7 @@ fn each_append_fails_in_turn(rt: HostRuntime) {
     }
 }
 
-/// Behind five frames pages leave memory, are read, and come back.
+/// After five frames pages leave memory, are read, and come back.
 const AWAY: &[Step] = &[
     Evict(1, Ok(true)),
     Evict(2, Ok(true)),
@@ -242,7 +242,7 @@ const AWAY: &[Step] = &[
     Page(2, "2 c: c=3 d=4 e=5"),
 ];
 
-// How many steps went otherwise once, and then as told; none where one went so twice.
+// How many steps went otherwise once, and then as expected; none if one went so twice.
 fn retried<R: AllocGlobal + Wait>(rt: &R, held: &mut Held, steps: &[Step]) -> Option<usize>
     requires sound { IsSoundBeside held.old.store holding }
     requires feeds { AreItsFeeds held.old.feeds.items held.old.store holding }
@@ -262,7 +262,7 @@ fn retried<R: AllocGlobal + Wait>(rt: &R, held: &mut Held, steps: &[Step]) -> Op
 }
 
 // How many of the last steps were made twice, over boxes of which the first fails once, after so
-// many calls; none where one went otherwise twice, or one of the first steps at all.
+// many calls; none if one went otherwise twice, or one of the first steps at all.
 fn twice<R: AllocGlobal + Wait>(
     rt: &R,
     over: Over,

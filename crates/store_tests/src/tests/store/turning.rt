@@ -48,7 +48,7 @@ const ONE_DELTA: &[Step] = &[
     Page(1, "1 : a=1 b=2"),
 ];
 
-/// A page is cut behind five records of one Delta.
+/// A page is cut after five records of one Delta.
 const CUT: &[Step] = &[
     Each(0, FIVE),
     Turn(9, 5),

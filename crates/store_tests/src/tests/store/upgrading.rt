@@ -19,7 +19,7 @@ use test_subjects::steps::Step::{
 };
 use test_subjects::subject::{BOTH, Over};
 
-/// The page is written again, and the history goes on behind it.
+/// The page is written again, and the history goes on after it.
 const ONE: &[Step] = &[
     Page(1, "1 : k=v"),
     Upgrade(1, 1, 1),
@@ -99,7 +99,7 @@ const TWO_SEGMENTS: &[Step] = &[
     NotUpgraded(StoreFault::NothingOld),
 ];
 
-/// The same behind a stop when all frames stood: before the first box was dropped, and behind it.
+/// Two segments after a stop when all frames stood: before the first box was dropped, and after it.
 const BEFORE_THE_FIRST: &[Step] = &[
     Stands(3, 2),
     Upgrade(2, 0, 0),
@@ -120,7 +120,7 @@ const BEHIND_THE_FIRST: &[Step] = &[
 
 const BEHIND_BOTH: &[Step] = &[NotUpgraded(StoreFault::NothingOld), Page(1, "1 : j=2 k=3")];
 
-/// What waits is not flushed where nothing is old.
+/// What waits is not flushed if nothing is old.
 const NOTHING_OLD: &[Step] = &[
     Taken(b"j", b"w"),
     NotUpgraded(StoreFault::NothingOld),
@@ -167,7 +167,7 @@ fn old_segments_are_given_up(rt: HostRuntime) {
 
 // ---- more pages than a segment has room for
 
-/// A key of 64 bytes: two more tell the page and the pair.
+/// A key of 64 bytes: two more name the page and the pair.
 const KEY: &[u8] = &[b'k'; 62];
 
 const VALUE: &[u8] = &[b'v'; 128];
@@ -199,7 +199,7 @@ fn put_base(out: &mut Vec<u8>, page: u8) -> Option<()> {
     Some(())
 }
 
-// A frame of such pages, from the one behind this on.
+// A frame of such pages, from the one after this on.
 fn put_frame(out: &mut Vec<u8>, number: u8, behind: u8) -> Option<()> {
     let body: u32 = if behind == 0 { 16_048 } else { 16_112 };
     put(
@@ -249,7 +249,7 @@ fn supply(alloc: Global) -> Option<Supply> {
     Some(Supply { boxes, more })
 }
 
-/// 152 pages of 852 bytes, of which a frame has room for 76, as a segment has for a frame. Behind
+/// 152 pages of 852 bytes, of which a frame has room for 76, as a segment has for a frame. After
 /// the first frame the spares are used up; with one more the other half is written.
 const TWICE: &[Step] = &[
     Stands(2, 1),
@@ -268,7 +268,7 @@ const TWICE: &[Step] = &[
 /// The boxes of a store that was upgraded so hold its pages.
 const AGAIN: &[Step] = &[Stands(2, 0), NotUpgraded(StoreFault::NothingOld), Settle(0)];
 
-/// The first step that did not go as told, in the first of two lives where one did not.
+/// The first step that did not go as expected, in the first of two lives where one did not.
 fn half_by_half<R: AllocGlobal + Wait>(rt: &R, over: Over) -> Option<usize> {
     let Some(mut supply) = supply(rt.alloc()) else {
         return Some(100);

@@ -17,7 +17,7 @@ use std::sync::Wait;
 use test_subjects::steps::Step;
 use test_subjects::subject::{BOTH, Over, config_of};
 
-// The first step that did not go as told.
+// The first step that did not go as expected.
 pub(super) fn wrong_step<R: AllocGlobal + Wait>(
     rt: &R,
     opened: &mut Held,
@@ -37,7 +37,7 @@ pub(super) fn wrong_step<R: AllocGlobal + Wait>(
 }
 
 /// The steps over a store of these boxes, with rings of so many places: the first that did not go
-/// as told, and the first one where there was no store. The boxes then come out of it.
+/// as expected, and the first one if there was no store. The boxes then come out of it.
 pub(super) fn lives<R: AllocGlobal + Wait>(
     rt: &R,
     over: Over,
@@ -53,7 +53,7 @@ pub(super) fn lives<R: AllocGlobal + Wait>(
     wrong
 }
 
-// Whether frames 1 to `last` were found, without a tail; where it is not told, any.
+// Whether frames 1 to `last` were found, without a tail; if it is not told, any.
 fn are_found(recovered: &Recovered, last: Option<u64>) -> bool {
     match last {
         Some(last) => (recovered.first, recovered.last, recovered.tail) == (1, last, 0),
@@ -72,9 +72,9 @@ pub(super) fn recovered_from(alloc: Global, supply: &mut Supply) -> Option<Recov
     }
 }
 
-/// The steps over a core or a store of what is recovered from these boxes, with each page in memory:
-/// the first step that did not go as told, and the first one if there was none to walk them over.
-/// Recovery finds frames 1 to `last`, or any if it is `None`.
+/// The steps over a core or a store of what is recovered from these boxes, with each page in
+/// memory: the first step that did not go as expected, and the first one if there was none to walk
+/// them over. Recovery finds frames 1 to `last`, or any if it is `None`.
 pub(super) fn lives_on<R: AllocGlobal + Wait>(
     rt: &R,
     over: Over,
@@ -163,7 +163,7 @@ fn over_bytes<R: AllocGlobal + Wait>(
     }
 }
 
-// Over a box whose failures cannot be counted any more, and so many behind it.
+// Over a box whose failures cannot be counted any more, and so many after it.
 fn over_worn<R: AllocGlobal + Wait>(
     rt: &R,
     over: Over,
@@ -188,9 +188,10 @@ pub(super) enum Stand {
     /// A box for each of these texts in hex, in any order, and two spares: the store goes on from
     /// what is recovered.
     Bytes(&'static [&'static str]),
-    /// The same with one spare.
+    /// A box for each of these texts in hex, in any order, and one spare: the store goes on from
+    /// what is recovered.
     Last(&'static [&'static str]),
-    /// A box whose failures cannot be counted any more, and so many behind it.
+    /// A box whose failures cannot be counted any more, and so many after it.
     Worn(u32),
 }
 
@@ -212,7 +213,7 @@ fn walked<R: AllocGlobal + Wait>(
 /// Tables, and what the store of each of them stands over.
 pub(super) type Tables = (Stand, &'static [&'static [Step]]);
 
-// The first of the tables that went otherwise than told, and its step.
+// The first of the tables that went otherwise than expected, and its step.
 fn first_wrong<R: AllocGlobal + Wait>(
     rt: &R,
     over: Over,
@@ -230,7 +231,7 @@ fn first_wrong<R: AllocGlobal + Wait>(
     None
 }
 
-/// All tables go as told, over a core and then over a store.
+/// All tables go as expected, over a core and then over a store.
 pub(super) fn all_go<R: Abort + AllocGlobal + Wait>(rt: &R, rows: &[Tables]) {
     for over in BOTH {
         all_went(rt, over, first_wrong(rt, over, rows));

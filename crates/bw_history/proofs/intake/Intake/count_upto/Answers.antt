@@ -21,7 +21,7 @@ same_at (x ∷ xs) (suc i) d lt = same_at xs i d (omega arith)
 count_at : (xs : List ℕ) (i d : ℕ) {cs : List ℕ} → i < length xs → xs ≡ cs → get_or xs i d ≡ get_or cs i 0
 count_at xs i d lt is = same_at xs i d lt ∙ ap (λ (ys : List ℕ). get_or ys i 0) is
 
--- how many records the counts tell of a writer: those that are durable, and those behind them
+-- how many records the counts say of a writer: those that are durable, and those after them
 durable_is : (w n : ℕ) (es between : List Entry) (from to waiting : ℕ) → w < n → between ≡ take (to - from) (drop from es) → to ≡ length es
     → waiting ≡ length (of_writer w between) → get_or (counts_of n es) w 0 ≡ length (of_writer w (take from es)) + waiting
 durable_is w n es between from to waiting lt is all count =

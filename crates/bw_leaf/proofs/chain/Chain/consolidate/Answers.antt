@@ -25,7 +25,7 @@ is_newest : (c : goal.Joined-self)
 is_newest c =
     c.in-Some-Flushed.ensures.item.1 ∙ ap (λ links. get_or links (length links - 1) c.in-Some-Flushed.field-0.now) c.as_slice.ensures
 
--- it alone stays there
+-- only it stays there
 one_left : (c : goal.Joined-self) → c.drop-drain.new.self.0.items ≡ Flushed c.in-Some-Flushed.field-0-0 ∷ []
 one_left c =
     let items = c.self.inside.links.items in

@@ -1,4 +1,4 @@
--- `about` makes a value of no bytes, whose ghost field is the one that it was told.
+-- `about` makes a value of no bytes, whose ghost field is the one that it was given.
 use mathlib.Core.Path.{refl, sym, subst}
 use Prim.Native.Nat.{ℕ}
 use mathlib.Core.List.{List, [], ◌∷◌, ◌++◌}

@@ -25,7 +25,7 @@ pub(super) struct Picture {
     pub(super) seen: u64,
 }
 
-/// Whether a reader sees this value of a key; no bytes where it sees none.
+/// Whether a reader sees this value of a key; no bytes if it sees none.
 pub(super) fn is_seen(reader: &mut Reader, key: &[u8], value: &[u8]) -> bool {
     let Ok(key) = Key::new(key) else {
         return false;
@@ -98,8 +98,8 @@ pub(super) fn is_unchanged(before: &Picture, now: &Picture) -> bool {
     *before == *now
 }
 
-/// Whether one frame more is durable, and readers see what they saw: the publication alone was refused.
-/// What waited may have been taken.
+/// Whether one frame more is durable, and readers see what they saw: only the publication was
+/// refused. What waited may have been taken.
 pub(super) fn is_flushed(before: &Picture, now: &Picture) -> bool {
     let frames = (now.durable == before.durable.saturating_add(1))
         & (now.cuts == before.cuts.saturating_add(1));

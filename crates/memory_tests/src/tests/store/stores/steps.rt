@@ -1,4 +1,4 @@
-//! One call of a store in a window, and again where it was refused memory.
+//! One call of a store in a window, and again if it was refused memory.
 
 ghost use Rattle.std.specs.Prelude.{◌≡◌, ◌<◌, length, map};
 ghost use Rattle.bw_ring.specs.Ends.{ring_of_feed};
@@ -41,7 +41,7 @@ pub(super) enum Step {
     Page(u32, &'static [u8]),
     PageFails(u32, StoreFault),
     Get(&'static [u8], &'static [u8]),
-    /// What the reader that was made first sees of a key; no bytes where it sees none.
+    /// What the reader that was made first sees of a key; no bytes if it sees none.
     Sees(&'static [u8], &'static [u8]),
     /// A new reader sees it.
     NewSees(&'static [u8], &'static [u8]),
@@ -107,7 +107,7 @@ fn put_one(feed: &mut Feed, key: &[u8], value: &[u8]) -> bool
     }
 }
 
-// The group of these puts; none where there are none, or too many.
+// The group of these puts; none if there are none, or too many.
 fn group_of(pairs: &[Pair]) -> Option<Records> {
     let ((key, value), rest) = pairs.split_first()?;
     let mut group = Records::one(put(*key, *value)?);
@@ -155,7 +155,7 @@ fn reads(store: &mut Store, page: u32, text: &[u8]) -> Result<bool, StoreFault>
     Ok(shows(&leaf, text))
 }
 
-/// A refusal that is told is what was to come; want of memory is told on.
+/// A refusal that is expected is what was to come; want of memory is handed on.
 fn fails(fault: Option<StoreFault>, told: StoreFault) -> Result<bool, StoreFault> {
     match fault {
         Some(StoreFault::NoMemory) => Err(StoreFault::NoMemory),
@@ -164,7 +164,7 @@ fn fails(fault: Option<StoreFault>, told: StoreFault) -> Result<bool, StoreFault
     }
 }
 
-/// What a cleaning tells.
+/// What a cleaning says.
 fn cleaned(segment: u64, lease: u32, pages: usize, frames: u64) -> Cleaned {
     Cleaned {
         segment,
@@ -174,7 +174,7 @@ fn cleaned(segment: u64, lease: u32, pages: usize, frames: u64) -> Cleaned {
     }
 }
 
-// Whether a walk told this pair.
+// Whether a walk answered this pair.
 fn is_pair(told: Option<&(Key, Value)>, key: &Key, value: &[u8]) -> bool {
     match told {
         Some((at, there)) => at.as_slice() == key.as_slice() && there.as_slice() == value,
@@ -248,7 +248,7 @@ fn learns(alloc: Global, store: &mut Store, key: &[u8], value: &[u8]) -> Option<
     }
 }
 
-/// The bytes of a segment behind what stood there, which stays alone where that is refused.
+/// The bytes of a segment after what stood there; only that stays if the call is refused.
 fn dumps(alloc: Global, store: &mut Store, segment: u64, told: &str) -> Result<bool, StoreFault>
     requires { IsSound store.old holding }
     ensures sound { IsSound store.new holding }
@@ -267,7 +267,7 @@ fn dumps(alloc: Global, store: &mut Store, segment: u64, told: &str) -> Result<b
     }
 }
 
-// A call that takes memory: whether it went as told, or why it was refused.
+// A call that takes memory: whether it went as expected, or why it was refused.
 fn tries<R: Wait>(
     rt: &R,
     alloc: Global,
@@ -361,7 +361,7 @@ fn is_left(step: &Step, before: &Picture, now: &Picture) -> bool {
     }
 }
 
-// The same call with memory: it ends as told, or publishes what was left to be.
+// A refused call once more, with memory: it ends as expected, or publishes what was left to be.
 fn ends<R: Wait>(
     rt: &R,
     alloc: Global,
@@ -392,7 +392,7 @@ fn ends<R: Wait>(
     }
 }
 
-// How one call went; none where that is otherwise than told.
+// How one call went; none if that is otherwise than expected.
 fn one_goes<R: Wait>(
     rt: &R,
     alloc: Global,
@@ -438,7 +438,7 @@ fn one_goes<R: Wait>(
     }
 }
 
-/// How the step went; none where that is otherwise than told.
+/// How the step went; none if that is otherwise than expected.
 pub(super) fn goes<R: Wait>(
     rt: &R,
     alloc: Global,
