@@ -1,1 +1,3 @@
+mod Handed
+mod Led
 mod Starts

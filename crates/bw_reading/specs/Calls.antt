@@ -1,6 +1,6 @@
 -- What the calls write for C.
 
-use Rattle.std.specs.Prelude.{ℕ, ◌/◌, ◌%◌, Bool, [], ◌∷◌, ◌++◌, take, drop, length}
+use Rattle.std.specs.Prelude.{ℕ, ◌+◌, ◌*◌, ◌/◌, ◌%◌, Bool, [], ◌∷◌, ◌++◌, take, drop, length}
 use Rattle.bw_record.specs.Keys.{is_below}
 use Rattle.bw_leaf.specs.Changed.{Bytes}
 use Rattle.bw_codec.specs.declared.head.HeaderRead.{HeaderRead}
@@ -26,6 +26,17 @@ key_in (a ∷ b ∷ c ∷ rest) = take a rest
 -- the key of the pair that begins there in an image
 abbrev pub key_at : Bytes → ℕ → Bytes
 key_at image at = key_in (drop at image)
+
+-- the value of the pair that bytes begin with, or no bytes
+abbrev pub value_in : Bytes → Bytes
+value_in [] = []
+value_in (a ∷ []) = []
+value_in (a ∷ b ∷ []) = []
+value_in (a ∷ b ∷ c ∷ rest) = take (b + 256 * c) (drop a rest)
+
+-- the pair that begins there in an image
+abbrev pub pair_at : Bytes → ℕ → Bytes × Bytes
+pair_at image at = (key_at image at, value_in (drop at image))
 
 -- whether the pair that begins there has a key below this one
 abbrev pub is_below_at : Bytes → Bytes → ℕ → Bool

@@ -1,6 +1,8 @@
 //! The pages of segments, as recovery finds them.
 
-ghost use Rattle.std.specs.Prelude.{◌≡◌, [], map, IfOk};
+ghost use Rattle.std.specs.Prelude.{◌≡◌, ◌+◌, ◌<◌, ◌≤◌, ◌^◌, [], map, take, drop, length, max, not, true, position, slice_set, Some, IfOk};
+ghost use Rattle.bw_device.specs.Memory.{memory_holding, fresh_holding};
+ghost use Rattle.bw_reading.specs.Handed.{boxes_in, FitSums, AreWhole};
 ghost use Rattle.bw_reading.specs.Pages.{ArePagesOf};
 
 use crate::answer::Fault;
@@ -19,7 +21,11 @@ const LEAST: u64 = HEADER_LEN as u64 + MAX_FRAME as u64;
 const NONE_LIMIT: u16 = 32;
 
 // A piece of bytes, if it is all there.
-fn piece(bytes: &[u8], at: u64, len: u64) -> Result<&[u8], Fault> {
+fn piece(bytes: &[u8], at: u64, len: u64) -> Result<&[u8], Fault>
+    ensures value { IfOk result (λ piece. piece.now ≡ take len (drop at bytes.now)) }
+    ensures within { IfOk result (λ piece. at + len ≤ length bytes.now) }
+    ensures small { IfOk result (λ piece. at + len < 2 ^ 64) }
+{
     let Some(end) = at.checked_add(len) else {
         return Err(Fault::Damaged);
     };
@@ -29,13 +35,33 @@ fn piece(bytes: &[u8], at: u64, len: u64) -> Result<&[u8], Fault> {
     Ok(&bytes[at as usize..end as usize])
 }
 
-// The segments, each as a copy in memory whose bytes fit their digests.
+// A copy of a segment in memory, whose bytes fit the sums beside them, with the desk's next lease.
+fn copy_of(alloc: Global, desk: &mut Desk, bytes: &[u8], sums: &[u8]) -> Result<MemSegment, Fault>
+    ensures fits { IfOk result (λ copy. FitSums bytes.now sums.now) }
+    ensures lease { IfOk result
+        (λ copy. position not desk.old ≡ Some (memory_holding copy).lease) }
+    ensures taken { IfOk result
+        (λ copy. desk.new ≡ slice_set desk.old (memory_holding copy).lease true) }
+    ensures made { IfOk result (λ copy. memory_holding copy
+        ≡ fresh_holding (memory_holding copy).lease (max LEAST (length bytes.now)) bytes.now) }
+{
+    check(bytes, sums)?;
+    let lease = desk.take()?;
+    let capacity = LEAST.max(bytes.len() as u64);
+    Ok(MemSegment::with_bytes(alloc, lease, capacity, bytes)?)
+}
+
+// The segments, each as a copy in memory whose bytes fit their sums.
 fn copies_of(
     alloc: Global,
     bytes: &[u8],
     sums: &[u8],
     parts: &[u64],
-) -> Result<Vec<MemSegment>, Fault> {
+) -> Result<Vec<MemSegment>, Fault>
+    ensures copies { IfOk result (λ copies.
+        map memory_holding copies.items ≡ boxes_in bytes.now parts.now) }
+    ensures whole { IfOk result (λ copies. AreWhole bytes.now sums.now parts.now) }
+{
     let count = (parts.len() / 2).min(u32::MAX as usize);
     let mut desk = Desk::new(alloc, count as u32)?;
     let mut copies = Vec::new(alloc);
@@ -43,9 +69,8 @@ fn copies_of(
     for i in 0..count {
         let (len, sums_len) = (parts[2 * i], parts[2 * i + 1]);
         let its = piece(bytes, at, len)?;
-        check(its, piece(sums, sums_at, sums_len)?)?;
-        let lease = desk.take()?;
-        copies.push(MemSegment::with_bytes(alloc, lease, LEAST.max(len), its)?)?;
+        let copy = copy_of(alloc, &mut desk, its, piece(sums, sums_at, sums_len)?)?;
+        copies.push(copy)?;
         at = at.saturating_add(len);
         sums_at = sums_at.saturating_add(sums_len);
     }
@@ -103,7 +128,9 @@ fn pages_of(alloc: Global, boxes: Vec<Box<dyn Segment>>) -> Result<Leaves, Fault
 
 // The pages of these copies in memory. Their boxes are made here only.
 fn pages_in_copies(alloc: Global, copies: Vec<MemSegment>) -> Result<Leaves, Fault>
-    ensures { IfOk result (λ leaves. leaves.evicted ≡ []) }
+    ensures here { IfOk result (λ leaves. leaves.evicted ≡ []) }
+    ensures pages { IfOk result
+        (λ leaves. ArePagesOf (map memory_holding copies.items) leaves.leaves) }
 {
     let mut boxes: Vec<Box<dyn Segment>> = Vec::new(alloc);
     for copy in copies {
@@ -123,7 +150,10 @@ pub(crate) fn pages_in(
     sums: &[u8],
     parts: &[u64],
 ) -> Result<Leaves, Fault>
-    ensures { IfOk result (λ leaves. leaves.evicted ≡ []) }
+    ensures here { IfOk result (λ leaves. leaves.evicted ≡ []) }
+    ensures whole { IfOk result (λ leaves. AreWhole bytes.now sums.now parts.now) }
+    ensures pages { IfOk result
+        (λ leaves. ArePagesOf (boxes_in bytes.now parts.now) leaves.leaves) }
 {
     let copies = copies_of(alloc, bytes, sums, parts)?;
     pages_in_copies(alloc, copies)
