@@ -6,8 +6,9 @@ from hostile.program import Otherwise
 from hostile.reader import Base, Delta, Split, told, word
 from hostile.segments import Parts, block_bytes, linked
 
-# A scan of 1 MB takes less than half a second of a processor (measured, docs/MEASURED.md), and is to take less than two.
-SECONDS = 2
+# A scan of 1 MB takes up to two seconds of a processor whose other thread is busy: recovery goes through a page's records once, and what is
+# printed of the page takes them once more. A way that takes a step for each other key of the page would take many times as long.
+SECONDS = 4
 
 
 def scanned(program, segments, draw):
