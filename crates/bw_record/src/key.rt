@@ -62,7 +62,7 @@ impl Key {
         self.bytes.as_slice()
     }
 
-    /// The same key. No memory is taken.
+    /// A copy of this key. No memory is taken.
     pub fn copy(&self) -> Key
         ensures { result ≡ self.now }
     {
@@ -121,7 +121,7 @@ impl Value {
         self.bytes.as_slice()
     }
 
-    /// The same value. No memory is taken.
+    /// A copy of this value. No memory is taken.
     pub fn copy(&self) -> Value
         ensures { result ≡ self.now }
     {
