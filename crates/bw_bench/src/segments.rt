@@ -7,8 +7,8 @@ use std::alloc::Global;
 /// How many bytes a segment has room for, all of which it takes when it is made.
 pub const CAPACITY: u64 = 16_777_216;
 
-/// The most bytes that a put adds to the log beside its key and value, of which a second copy is its
-/// part of a page that is split.
+/// The most bytes that a put adds to the log beside its key and value, of which a second copy is
+/// its part of a page that is split.
 const AROUND: u64 = 144;
 
 /// How many segments hold all puts, with two spares more.

@@ -1,5 +1,5 @@
-//! Updates of the same keys over a folder of four segments: the room of those that are given up comes
-//! back, and memory stays as it is.
+//! Updates of the same keys over a folder of four segments: the room of those that are given up
+//! comes back, and memory stays as it is.
 
 ghost use Rattle.bw_home.specs.Ready.{IsReady};
 

@@ -1,5 +1,6 @@
 //! Walks over all pairs in the order of their keys, and ranges of pairs from scattered keys on: a
-//! pair a call, and by stretches of pairs that are copied, or that share their bytes with the pages.
+//! pair a call, and by stretches of pairs that are copied, or that share their bytes with the
+//! pages.
 
 ghost use Rattle.bw_store.specs.Views.{IsSound};
 ghost use Rattle.bw_bench.specs.Lent.{Keeps};

@@ -50,8 +50,8 @@ fn copy_of(alloc: Global, desk: &mut Desk, bytes: &[u8]) -> Result<MemSegment, R
     }
 }
 
-/// A segment in memory that holds these bytes, in the list that has them, which gets the room of the
-/// segment.
+/// A segment in memory that holds these bytes, in the list that has them, which gets the room of
+/// the segment.
 fn segment_of(desk: &mut Desk, bytes: Vec<u8>) -> Result<MemSegment, RecoverCause> {
     let lease = desk.take().map_err(not_taken)?;
     let len = bytes.len() as u64;
@@ -99,8 +99,8 @@ fn ask_boxes<W, A: Ask<W>>(
     }
 }
 
-// Asks the pages in these segments. Their boxes are made only here: a function that takes or gives a
-// box makes none.
+// Asks the pages in these segments. Their boxes are made only here: a function that takes or gives
+// a box makes none.
 fn ask_segments<W, A: Ask<W>>(
     alloc: Global,
     segments: Vec<MemSegment>,
@@ -117,8 +117,8 @@ fn ask_segments<W, A: Ask<W>>(
     ask_boxes(alloc, boxes, ask, watch)
 }
 
-/// Asks the pages in these segments, which stay, if recovery accepts them. It takes memory for a copy of
-/// all bytes, and the time of a recovery and of what is asked.
+/// Asks the pages in these segments, which stay, if recovery accepts them. It takes memory for a
+/// copy of all bytes, and the time of a recovery and of what is asked.
 pub fn ask_images<W, A: Ask<W>>(
     alloc: Global,
     images: &[Image],
@@ -128,8 +128,9 @@ pub fn ask_images<W, A: Ask<W>>(
     ask_segments(alloc, copies_of(alloc, images)?, ask, watch)
 }
 
-/// Asks the pages in these segments, if recovery accepts them. It takes the time of a recovery and of
-/// what is asked. The lists of their bytes become the segments, so at most a growth of one copies any.
+/// Asks the pages in these segments, if recovery accepts them. It takes the time of a recovery and
+/// of what is asked. The lists of their bytes become the segments, so at most a growth of one
+/// copies any.
 pub fn ask_owned<W, A: Ask<W>>(
     alloc: Global,
     images: Vec<Image>,

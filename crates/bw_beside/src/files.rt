@@ -60,8 +60,8 @@ fn plain<R: Host>(rt: &R, name: &str) -> Result<File, Miss> {
     Ok(fs::open(rt, name)?)
 }
 
-/// So many bytes of a file, as it is now, or all of them if it has fewer. One that is longer than any
-/// segment is refused.
+/// So many bytes of a file, as it is now, or all of them if it has fewer. One that is longer than
+/// any segment is refused.
 fn front_of(alloc: Global, file: &File, most: u64) -> Result<Vec<u8>, Miss> {
     let len = file.metadata()?.len();
     if len > MAX_CAPACITY {

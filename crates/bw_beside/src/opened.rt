@@ -54,11 +54,11 @@ pub enum Asked<T> {
     Beside(T),
 }
 
-/// Asks the pages of the folder of this path, if somebody writes it; else it is opened, and they are
-/// not asked. Of what stood there, and of each refusal, `open` says what is to be known.
+/// Asks the pages of the folder of this path, if somebody writes it; else it is opened, and they
+/// are not asked. Of what stood there, and of each refusal, `open` says what is to be known.
 ///
-/// It takes memory for all bytes, and the time of a reading, of a recovery and of what is asked; of up to
-/// ten readings and recoveries if the folder is changed meanwhile.
+/// It takes memory for all bytes, and the time of a reading, of a recovery and of what is asked; of
+/// up to ten readings and recoveries if the folder is changed meanwhile.
 pub fn ask<R: Host, W: Watch, A: Ask<W>>(
     rt: &R,
     path: &str,

@@ -96,8 +96,8 @@ fn is_segment(name: &str) -> bool {
         && number.parse::<u32>().is_ok_and(|lease| lease < MAX_LEASES)
 }
 
-/// Whether a file of a folder that is being made has this name: its lock, the times of its frames, a
-/// mark, or what a segment stands in.
+/// Whether a file of a folder that is being made has this name: its lock, the times of its frames,
+/// a mark, or what a segment stands in.
 fn is_ours(name: &str) -> bool {
     name == "lock" || name == "times" || name == MARK || name == DONE || is_segment(name)
 }
@@ -171,8 +171,8 @@ fn taken<R: Host>(rt: &R, path: &str) -> Result<File, FolderFault> {
     locked(rt, path, MARK)
 }
 
-/// Makes the folder of this path, or takes over what is left of it: all that it has but for its mark
-/// is removed then.
+/// Makes the folder of this path, or takes over what is left of it: all that it has but for its
+/// mark is removed then.
 ///
 /// `InUse` if somebody else makes it, or has it open as a store. Refused, and nothing is removed, if
 /// anything else stands in it than the files of a store.
@@ -237,8 +237,8 @@ impl Making {
         Ok(())
     }
 
-    /// Gives the folder, which is whole, its name, and waits until that stands. Then its mark goes: one
-    /// that a stop leaves there says nothing.
+    /// Gives the folder, which is whole, its name, and waits until that stands. Then its mark goes:
+    /// one that a stop leaves there says nothing.
     pub fn name<R: Host>(self, rt: &R, to: &str) -> Result<(), FolderFault> {
         rename(rt, self.path.as_str(), to)?;
         fs::remove_file(rt, path_in(rt, to, DONE)?.as_str())?;

@@ -42,8 +42,8 @@ pub fn frames_in(bytes: &[u8], header: &Header) -> Option<(u64, u64)> {
     found
 }
 
-/// Where the pieces of a segment end, in bytes, ascending. What stands after its last whole frame is
-/// in none of them.
+/// Where the pieces of a segment end, in bytes, ascending. What stands after its last whole frame
+/// is in none of them.
 pub fn ends_of(alloc: Global, bytes: &[u8]) -> Result<Vec<u64>, AllocError> {
     let mut ends = Vec::new(alloc);
     if let HeaderRead::Whole(header) = read_header(bytes) {

@@ -80,7 +80,8 @@ impl Row {
 
     /// In which order the files of these leases are read: the oldest segment first, since it is the
     /// first to be given up; the newest at the end, since it is still there then only if no segment
-    /// that was begun meanwhile is gone again; and before it the files in which no segment was seen.
+    /// that was begun meanwhile is gone again; and before it the files in which no segment was
+    /// seen.
     pub(crate) fn order(&self, alloc: Global, leases: &[u32]) -> Result<Vec<u32>, AllocError> {
         let mut order = Vec::new(alloc);
         let Some((newest, older)) = self.live.as_slice().split_last() else {

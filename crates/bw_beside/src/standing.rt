@@ -91,8 +91,8 @@ pub fn is_unfinished<R: Host>(rt: &R, folder: &str) -> Result<bool, Miss> {
     is_there(rt, folder, MARK)
 }
 
-/// The segments of a folder, by their leases, and how many of their bytes have no digest. They are those
-/// of one frame if recovery accepts them. A folder that is not made whole yet has none.
+/// The segments of a folder, by their leases, and how many of their bytes have no digest. They are
+/// those of one frame if recovery accepts them. A folder that is not made whole yet has none.
 fn read<R: Host, W: Watch>(rt: &R, folder: &str, watch: &mut W) -> Result<(Vec<Image>, u64), Miss> {
     if is_unfinished(rt, folder)? {
         return Err(Miss::Moved);
@@ -121,7 +121,8 @@ pub(crate) fn standing<R: Host, W: Watch>(
     })
 }
 
-/// Asks the pages of a folder as they stood at one of its frames, if that is what a reading comes to.
+/// Asks the pages of a folder as they stood at one of its frames, if that is what a reading comes
+/// to.
 pub(crate) fn ask_standing<R: Host, W: Watch, A: Ask<W>>(
     rt: &R,
     folder: &str,

@@ -476,8 +476,8 @@ impl Buffer {
         self.size += DELTA_HEAD + len;
     }
 
-    /// The place of the Delta that a Delta of this page and of one record joins, if there is one. No
-    /// memory is taken. Time is that of a look-up, however many blocks there are.
+    /// The place of the Delta that a Delta of this page and of one record joins, if there is one.
+    /// No memory is taken. Time is that of a look-up, however many blocks there are.
     pub fn joins(&self, page: u32) -> Option<Place>
         ensures { result ≡ option_map (place_at self.now) (joins page self.now.blocks) }
     {

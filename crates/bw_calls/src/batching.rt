@@ -406,8 +406,8 @@ fn record_of(home: &mut Home, change: &Change) -> Result<Option<Record>, TableFa
     }
 }
 
-// Adds the record of a change to a group that makes those before it; answers whether it has one, and
-// there was room.
+// Adds the record of a change to a group that makes those before it; answers whether it has one,
+// and there was room.
 fn join(home: &mut Home, change: &Change, group: &mut Group) -> Result<bool, TableFault>
     requires { IsReady home.old holding }
     ensures ready { IsReady home.new holding }
@@ -424,8 +424,8 @@ fn join(home: &mut Home, change: &Change, group: &mut Group) -> Result<bool, Tab
     }
 }
 
-// The one group that makes all changes: there are at most four, each value stands in its row, and no
-// row before them names anything. `None` if it is not so.
+// The one group that makes all changes: there are at most four, each value stands in its row, and
+// no row before them names anything. `None` if it is not so.
 fn group_of(home: &mut Home, changes: &[Change]) -> Result<Option<Group>, TableFault>
     requires { IsReady home.old holding }
     ensures ready { IsReady home.new holding }
@@ -480,11 +480,11 @@ fn batch_by_rows(home: &mut Home, changes: &[Change]) -> Result<(), TableFault>
 /// later change of a key takes the place of an earlier one. It is seen from then on; `Home::keep`
 /// makes it durable.
 ///
-/// Up to four short values over such ones go in as one group. Else each row is written twice, and the
-/// chunks of long values once. Refused `NoTable`, `TooLong`, and
-/// else as `put` is: after `Waits` the tables have all changes, and after any other none. If what
-/// follows the step is refused, it answers Ok all the same. The batch is then not carried out, nor
-/// is it after `Waits`: until `open` has done so, each call is refused `Unfinished`.
+/// Up to four short values over such ones go in as one group. Else each row is written twice, and
+/// the chunks of long values once. Refused `NoTable`, `TooLong`, and else as `put` is: after
+/// `Waits` the tables have all changes, and after any other none. If what follows the step is
+/// refused, it answers Ok all the same. The batch is then not carried out, nor is it after `Waits`:
+/// until `open` has done so, each call is refused `Unfinished`.
 pub fn batch(home: &mut Home, changes: &[Change]) -> Result<(), TableFault>
     requires ready { IsReady home.old holding }
     ensures ready { IsReady home.new holding }

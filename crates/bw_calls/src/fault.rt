@@ -20,12 +20,13 @@ pub enum TableFault {
     NoMemory,
     /// The store has pairs that are no tables'.
     NotTables,
-    /// A batch stands that is not carried out: `open` does that, and until then calls are refused so.
+    /// A batch stands that is not carried out: `open` does that, and until then calls are refused
+    /// so.
     Unfinished,
     /// The store was refused to read, or to take what waited before.
     NotRead(StoreFault),
-    /// A group was refused before the step of the call. Of a long value the chunks that were written
-    /// are collected by an opening.
+    /// A group was refused before the step of the call. Of a long value the chunks that were
+    /// written are collected by an opening.
     NotMade(MapFault),
     /// What was put was not made durable.
     NotKept(MapFault),

@@ -1,7 +1,7 @@
 //! Calls on tables in a home: what each answers, and which tables stand after it.
 //!
-//! A home stands for tables by what was put into it. All calls go to it by the same ways (`ways`): a
-//! value is read, the pair next to a key is found, and a group is written.
+//! A home stands for tables by what was put into it. All calls go to it by the same ways (`ways`):
+//! a value is read, the pair next to a key is found, and a group is written.
 //!
 //! Each call says which tables it leaves, and which a stop in the middle of it may leave: the old
 //! ones, or those that it makes. So over any number of lives what is found is the tables as some

@@ -165,8 +165,8 @@ pub(crate) fn value_of(home: &mut Home, row: &[u8]) -> Result<Vec<u8>, TableFaul
 
 /// The value of a key of a table; `None` if the key has none, or no table has this name.
 ///
-/// Refused `NotRead` as the store is, `NoMemory`, `NotTables` if the store has other pairs than those
-/// of tables, and `Unfinished` if a batch stands that is not carried out.
+/// Refused `NotRead` as the store is, `NoMemory`, `NotTables` if the store has other pairs than
+/// those of tables, and `Unfinished` if a batch stands that is not carried out.
 pub fn get(home: &mut Home, name: &Name, key: &RowKey) -> Result<Option<Vec<u8>>, TableFault>
     requires { IsReady home.old holding }
     ensures ready { IsReady home.new holding }

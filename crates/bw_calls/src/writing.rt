@@ -346,8 +346,8 @@ fn put_at(home: &mut Home, table: TableNumber, key: &RowKey, value: &[u8]) -> Re
 /// Puts a value of up to 16 MiB at a key of a table. It is seen from then on; `Home::keep` makes it
 /// durable.
 ///
-/// Refused `NoTable`, and `TooLong`. Else as the store is: `Waits` says that the change waits in the
-/// queue, and the tables have it; after any other the tables are as they were. Chunks that were
+/// Refused `NoTable`, and `TooLong`. Else as the store is: `Waits` says that the change waits in
+/// the queue, and the tables have it; after any other the tables are as they were. Chunks that were
 /// written in vain are doomed, and an opening collects them.
 pub fn put(home: &mut Home, name: &Name, key: &RowKey, value: &[u8]) -> Result<(), TableFault>
     requires ready { IsReady home.old holding }

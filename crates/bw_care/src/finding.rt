@@ -2,10 +2,10 @@
 //! where they lie.
 //!
 //! A page is what its blocks say one after the other. Read page by page, by the links back, a frame
-//! would be looked at once for each page that it touches. Read forwards, each is looked at once, and
-//! each of its blocks changes the line of its page. The first pass found that all bytes are lawful,
-//! so of a frame only the head is read again, and of a page only the keys and the lengths of its
-//! values are kept.
+//! would be looked at once for each page that it touches. Read forwards, each is looked at once,
+//! and each of its blocks changes the line of its page. The first pass found that all bytes are
+//! lawful, so of a frame only the head is read again, and of a page only the keys and the lengths
+//! of its values are kept.
 
 ghost use Rattle.std.specs.Prelude.{◌≡◌, ◌≢◌, ◌≤◌, ◌<◌, ◌++◌, [], Some, None, List, length, map, slice_get, IfOk, IfErr, OnOk, IfSome};
 ghost use Rattle.bw_record.specs.declared.block.Place.{Place as PlaceValue};

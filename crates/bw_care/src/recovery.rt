@@ -37,8 +37,9 @@ impl Debug for RecoverFault {
     }
 }
 
-/// Reads all boxes, in any order, and makes of them the log that they hold, with the pages for which
-/// its frames stand. No page is in memory afterwards: each is read from the log when it is asked for.
+/// Reads all boxes, in any order, and makes of them the log that they hold, with the pages for
+/// which its frames stand. No page is in memory afterwards: each is read from the log when it is
+/// asked for.
 ///
 /// Step by step, and the first fault is the answer. E10 for too many boxes or one that is too
 /// large. E13 for the first box, in list order, with bytes that are neither a header, nor a frame,

@@ -1,8 +1,8 @@
 //! Recovery's steps, one after the other, before any box is moved.
 //!
 //! Frames are found in a first pass over each box, and their blocks are read in a second one, once
-//! the order of all segments is known. The second pass makes no record: it looks at blocks where they
-//! lie. Only what the first pass found to be lawful is read again.
+//! the order of all segments is known. The second pass makes no record: it looks at blocks where
+//! they lie. Only what the first pass found to be lawful is read again.
 
 ghost use Rattle.std.specs.Prelude.{◌≡◌, ◌≤◌, ◌<◌, nat_lt, true, [], IfOk, IfErr, IfSome, IfNone, OnOk, map, length, slice_get};
 ghost use Rattle.std.specs.Vec.{vec_capacity};

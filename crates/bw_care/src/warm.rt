@@ -1,8 +1,8 @@
 //! Pages that recovery left in the log: each is read when it is asked for, or all are brought into
 //! memory at once.
 //!
-//! Recovery makes no page. Whoever only asks for some is done with what these have; whoever looks in
-//! memory and nowhere else, as the readers of a store, brings all of them back first.
+//! Recovery makes no page. Whoever only asks for some is done with what these have; whoever looks
+//! in memory and nowhere else, as the readers of a store, brings all of them back first.
 
 ghost use Rattle.std.specs.Prelude.{◌≡◌, ◌==◌, ◌≤◌, ℕ, [], true, false, if◌then◌else◌, length, Some, IfOk, IfErr, OnOk};
 ghost use Rattle.std.specs.FinMap as finite;
@@ -117,8 +117,8 @@ impl Recovered {
     ghost use Rattle.bw_care.specs.Found.{IsRecovered};
     ghost use Rattle.bw_care.specs.Warming.{AreSame, IsAsked, IsWarm, RefusesWarm};
 
-    /// A copy of a page; `None` if the number is 0 or above the number of pages. A page that is not in
-    /// memory is read by the links back from its last block, and does not stay.
+    /// A copy of a page; `None` if the number is 0 or above the number of pages. A page that is not
+    /// in memory is read by the links back from its last block, and does not stay.
     ///
     /// Refused `NoMemory`. Refused `Device` if the segment with this lease failed and counts it:
     /// the next read may not. Refused `Spent` if no more failure of a segment that has to be read
@@ -139,8 +139,8 @@ impl Recovered {
         Ok(Some(read(&mut self.log, &self.leaves, page)?))
     }
 
-    /// The value of a key. Its page, if it is not in memory, is read from its newest block back, up to
-    /// the first that says something of the key, and does not stay. Refused as `page` is.
+    /// The value of a key. Its page, if it is not in memory, is read from its newest block back, up
+    /// to the first that says something of the key, and does not stay. Refused as `page` is.
     pub fn get(&mut self, key: &Key) -> Result<Option<Value>, RecoverCause>
         requires { IsRecovered (λ b. holding (b.vtable, b.value)) self.old }
         ensures value { IfOk result (λ value.
@@ -160,9 +160,10 @@ impl Recovered {
         }
     }
 
-    /// What was recovered, with each page in memory. It reads each page that is not, in the order of
-    /// the pages' numbers. A page costs its blocks, and of a frame of which no block was read before
-    /// a walk over all of its blocks. Refused as `page` is; what was recovered then comes back.
+    /// What was recovered, with each page in memory. It reads each page that is not, in the order
+    /// of the pages' numbers. A page costs its blocks, and of a frame of which no block was read
+    /// before a walk over all of its blocks. Refused as `page` is; what was recovered then comes
+    /// back.
     pub fn warm(self) -> Result<Recovered, WarmFault>
         requires { IsRecovered (λ b. holding (b.vtable, b.value)) self }
         ensures warm { IfOk result (λ r. IsWarm (λ b. holding (b.vtable, b.value)) self r) }

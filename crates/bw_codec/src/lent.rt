@@ -68,8 +68,8 @@ pub fn lent_delta(bytes: &[u8]) -> Result<(u32, Place, u16, &[u8]), CodecFault>
     Ok((page, back, count, rest))
 }
 
-/// What stands before the pairs of a Base, after its tag: its page, its low key, how many pairs there
-/// are; and what follows.
+/// What stands before the pairs of a Base, after its tag: its page, its low key, how many pairs
+/// there are; and what follows.
 #[tactic(auto, unfolding(crate::specs::Lent::base_parts))]
 pub fn lent_base(version: u16, bytes: &[u8]) -> Result<(u32, &[u8], u16, &[u8]), CodecFault>
     ensures gives { Gives (λ x. ((x.0, x.1.now, x.2), x.3.now)) result

@@ -2,10 +2,10 @@
 //! what was written.
 //!
 //! A frame is what one flush writes: a head of 20 bytes and blocks. A block says what became of one
-//! page: it is set (`Base`), changed by records (`Delta`) or split in two (`Split`). `docs/FORMAT.md`
-//! has the tables. The spelling is a function of the value (`specs/Grammar.antt`); reading is its
-//! inverse, and says of all other bytes whether they are a frame that was torn or no frame at
-//! all.
+//! page: it is set (`Base`), changed by records (`Delta`) or split in two (`Split`).
+//! `docs/FORMAT.md` has the tables. The spelling is a function of the value (`specs/Grammar.antt`);
+//! reading is its inverse, and says of all other bytes whether they are a frame that was torn or no
+//! frame at all.
 //!
 //! A value has one spelling, since each length stands before what it measures, each number has its
 //! width, and keys ascend. So a reader knows after each part where the next one begins, and no two

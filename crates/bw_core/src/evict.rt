@@ -32,8 +32,8 @@ impl Core {
     /// have a block of it, from the last that says all of it on. It is 0 if no frame has the page
     /// yet, and `None` if there is no such page, evicted or not. `rewrite` makes it 1.
     ///
-    /// No memory is taken, and it costs the same for each page. Whoever evicts pages asks this first,
-    /// and writes a page again whose walk is long, so that bringing it back stays cheap.
+    /// No memory is taken, and it costs the same for each page. Whoever evicts pages asks this
+    /// first, and writes a page again whose walk is long, so that bringing it back stays cheap.
     pub fn walk_of(&self, page: u32) -> Option<u64>
         requires { IsSound self.now holding }
         ensures { MatchOption (leaf_at page (leaves_now (kept_by self.now holding)))

@@ -32,8 +32,8 @@ impl Core {
     /// `clean` writes again if it is the oldest, nothing waits in the frame in the making, and no
     /// append fails. `None` if there is no such segment. `bwlog stats` shows this as `rewritten`.
     ///
-    /// No memory is taken and nothing is read. It costs a look at the line of each frame and of each
-    /// page, and at the pairs of each page that is counted and in memory.
+    /// No memory is taken and nothing is read. It costs a look at the line of each frame and of
+    /// each page, and at the pairs of each page that is counted and in memory.
     pub fn needed(&self, i: u32) -> Option<u64>
         requires { IsSound self.now holding }
         ensures { MatchOption (slice_get (kept_by self.now holding).log.live i)

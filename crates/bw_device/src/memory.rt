@@ -17,8 +17,8 @@ pub struct MemSegment {
     lease: Lease,
     /// In bytes.
     capacity: u64,
-    /// The held bytes, in memory that was reserved for all of the capacity when the segment was made:
-    /// so no append asks for any. The system gives it as it is written for the first time.
+    /// The held bytes, in memory that was reserved for all of the capacity when the segment was
+    /// made: so no append asks for any. The system gives it as it is written for the first time.
     bytes: Vec<u8>,
     ghost in_range: { (1 ≤ capacity) × (capacity ≤ MAX_CAPACITY) },
     ghost within_capacity: { vec_len bytes ≤ capacity },
@@ -32,7 +32,8 @@ impl MemSegment {
 
     /// A segment of this capacity, in bytes, that holds nothing yet.
     ///
-    /// All its memory is reserved here, and none of it is written. `BadConfig` is looked at before `NoMemory`.
+    /// All its memory is reserved here, and none of it is written. `BadConfig` is looked at before
+    /// `NoMemory`.
     pub fn new(alloc: Global, lease: Lease, capacity: u64) -> Result<MemSegment, Refused>
         ensures made { IfOk result
             (λ s. memory_holding s ≡ fresh_holding (number_of lease) capacity []) }
@@ -46,7 +47,8 @@ impl MemSegment {
 
     /// A segment of this capacity, in bytes, that holds a copy of the bytes.
     ///
-    /// All its memory is reserved here, and no more of it is written than they take. `BadConfig` is looked at before `NoMemory`.
+    /// All its memory is reserved here, and no more of it is written than they take. `BadConfig` is
+    /// looked at before `NoMemory`.
     pub fn with_bytes(
         alloc: Global,
         lease: Lease,

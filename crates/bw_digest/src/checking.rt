@@ -60,13 +60,14 @@ pub fn told_end(sums: &[u8]) -> u64
     row.end()
 }
 
-/// Checks the bytes of a file against the bytes of its sums, and answers the row of those that count.
+/// Checks the bytes of a file against the bytes of its sums, and answers the row of those that
+/// count.
 ///
 /// These are the first ones, as far as each follows the one before it: what a crash may have left
 /// after them is not looked at. Bytes after the last piece have no digest. `Changed` says where the
-/// first piece begins that does not fit. `Missing` comes if all pieces that are there fit, and a sum
-/// that follows says that there was more: a sum is written once its piece stands, so these bytes were
-/// lost. It costs one walk over the bytes, and two over the sums.
+/// first piece begins that does not fit. `Missing` comes if all pieces that are there fit, and a
+/// sum that follows says that there was more: a sum is written once its piece stands, so these
+/// bytes were lost. It costs one walk over the bytes, and two over the sums.
 pub fn check(bytes: &[u8], sums: &[u8]) -> Result<Row, Damage>
     ensures whole { IsOk result ↔
         (Fits bytes.now no_sums (sums_in (length bytes.now) sums.now)

@@ -10,8 +10,8 @@ pub fn no_false_alarm()
     ensures { NoFalseAlarm }
 {}
 
-/// Bytes that fit the sums of pieces begin with the bytes of these pieces. The one way out is a run of
-/// bytes with the digest of another.
+/// Bytes that fit the sums of pieces begin with the bytes of these pieces. The one way out is a run
+/// of bytes with the digest of another.
 pub fn what_fits_was_written()
     ensures { WhatFitsWasWritten }
 {}

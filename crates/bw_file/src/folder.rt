@@ -223,11 +223,11 @@ impl<F: SegmentFile> Folder<F> {
         Ok(())
     }
 
-    /// Writes these bytes as `write` does, but for the first one, in whose place a 0 stands: no segment
-    /// begins so. It is written at the end of what is handed out.
+    /// Writes these bytes as `write` does, but for the first one, in whose place a 0 stands: no
+    /// segment begins so. It is written at the end of what is handed out.
     ///
-    /// So of several files a part is never taken for the whole: this one is written first, and its end
-    /// comes when all others stand.
+    /// So of several files a part is never taken for the whole: this one is written first, and its
+    /// end comes when all others stand.
     pub fn write_held_back<R: AllocGlobal + Files<File = F>>(
         &self,
         rt: &R,
@@ -267,8 +267,8 @@ impl<F: SegmentFile> Folder<F> {
         let beside = sums_path(rt, self.path.as_str(), lease)?;
         let file = OpenOptions::new().write(true).open(rt, name.as_str())?;
         file.lock_alone()?;
-        // The sums go first, as in `emptied`: one that outlasted its bytes would say that these were
-        // lost.
+        // The sums go first, as in `emptied`: one that outlasted its bytes would say that these
+        // were lost.
         cut_to_nothing(&opened(rt, beside.as_str())?)?;
         cut_to_nothing(&file)?;
         Ok(())

@@ -84,8 +84,9 @@ impl<F: SegmentFile> FolderReader<F> {
         leases_in(rt, self.path.as_str())
     }
 
-    /// The bytes of the file of this lease, be they damaged or not; none if only its sums are there,
-    /// or nothing. `TooLong` if the file is longer than any segment may be, `NotPlain` if it is none.
+    /// The bytes of the file of this lease, be they damaged or not; none if only its sums are
+    /// there, or nothing. `TooLong` if the file is longer than any segment may be, `NotPlain` if it
+    /// is none.
     pub fn bytes<R: AllocGlobal + Files<File = F>>(
         &self,
         rt: &R,
@@ -118,8 +119,8 @@ impl<F: SegmentFile> FolderReader<F> {
         }
     }
 
-    /// The bytes of the sums beside the file of this lease, be they lawful or not; none if there are
-    /// no sums. `NotPlain` if what has their name is no plain file.
+    /// The bytes of the sums beside the file of this lease, be they lawful or not; none if there
+    /// are no sums. `NotPlain` if what has their name is no plain file.
     pub fn sums<R: AllocGlobal + Files<File = F>>(
         &self,
         rt: &R,

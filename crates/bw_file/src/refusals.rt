@@ -29,9 +29,9 @@ pub enum FolderFault {
     /// digest. Nothing was written. What stands before it fits.
     #[error("damaged: segment-{lease:04}.bw at {at}")]
     Damaged { lease: u32, at: u64 },
-    /// A file ends at `from`, in bytes, and a sum beside it says that it went on, up to `to`. A sum is
-    /// written once its piece stands, so these bytes were lost, or the folder was copied in part.
-    /// Nothing was written. What is there fits.
+    /// A file ends at `from`, in bytes, and a sum beside it says that it went on, up to `to`. A sum
+    /// is written once its piece stands, so these bytes were lost, or the folder was copied in
+    /// part. Nothing was written. What is there fits.
     #[error("missing: segment-{lease:04}.bw from {from} to {to}")]
     Missing { lease: u32, from: u64, to: u64 },
     /// Another process has the folder or the file open, or a value of this one.

@@ -73,8 +73,8 @@ pub(crate) fn filled_up(row: Row, bytes: &[u8]) -> (Row, Option<Sum>)
     (row.with(sum), Some(sum))
 }
 
-// Adds the sum of the piece that ends here to the row, and its bytes to the list. An end that is not
-// ahead, or that is past the bytes, adds nothing.
+// Adds the sum of the piece that ends here to the row, and its bytes to the list. An end that is
+// not ahead, or that is past the bytes, adds nothing.
 fn add_sum(list: &mut Vec<u8>, row: Row, bytes: &[u8], end: u64) -> Result<Row, AllocError>
     requires within { length bytes.now ≤ MAX_CAPACITY }
     requires end { (reach row).end ≤ length bytes.now }

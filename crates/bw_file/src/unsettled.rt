@@ -1,6 +1,6 @@
-// Segments over the files that are there. Each file is opened, locked, read and checked once; nothing
-// is made, and nothing is written before whoever opens them says that what was read is a store, and
-// settles it. Up to then no segment of the folder is appended to.
+// Segments over the files that are there. Each file is opened, locked, read and checked once;
+// nothing is made, and nothing is written before whoever opens them says that what was read is a
+// store, and settles it. Up to then no segment of the folder is appended to.
 ghost use Rattle.std.specs.Prelude.{◌≡◌, ◌≢◌, ◌≤◌, ◌<◌, ◌⊎◌, ◌↔◌, ◌-◌, ◌*◌, length, drop, max, IfOk, IfErr, IsErrAnd, MatchOption};
 ghost use Rattle.std.specs.Vec.{vec_capacity};
 ghost use Rattle.bw_device.specs.Leases.{number_of};
@@ -27,8 +27,8 @@ use std::mem;
 use std::rt::Files;
 use std::sync::{Arc, OnceLock};
 
-// So many bytes at the end of a file are written once more, if they have no sum: no append is longer,
-// a header or the longest frame.
+// So many bytes at the end of a file are written once more, if they have no sum: no append is
+// longer, a header or the longest frame.
 const LAST: usize = 262_168;
 
 /// What is owed to a segment that was opened, and its files. The folder keeps both until they are
@@ -127,7 +127,8 @@ fn made_alone<R: AllocGlobal + Files<File = F>, F: SegmentFile>(
     Ok(file)
 }
 
-// The bytes of a segment's file, in a list that has room for so many at least; none if it is missing.
+// The bytes of a segment's file, in a list that has room for so many at least; none if it is
+// missing.
 fn bytes_in<F: SegmentFile>(
     alloc: Global,
     file: &Option<F>,
@@ -153,8 +154,8 @@ fn rows_in<F: SegmentFile>(alloc: Global, sums: &Option<F>) -> Result<Vec<u8>, F
     }
 }
 
-// What is owed to a segment of these bytes, which fit so many bytes of sums, of which those of the row
-// count; and the row once it is paid.
+// What is owed to a segment of these bytes, which fit so many bytes of sums, of which those of the
+// row count; and the row once it is paid.
 //
 // A sum is written after its bytes were waited for. So only those without one may be only in the
 // system's memory, and of these only what was appended last: a folder without sums is an older one.
@@ -268,9 +269,9 @@ impl<F: SegmentFile> Folder<F> {
         Folder::locked(rt.alloc(), path, itself, lock)
     }
 
-    // The bytes of the files of this lease, which fit their sums, in a list that has room for so many
-    // at least, and what a segment over them takes beside; the folder keeps the files, and what is
-    // owed to them. Nothing is written.
+    // The bytes of the files of this lease, which fit their sums, in a list that has room for so
+    // many at least, and what a segment over them takes beside; the folder keeps the files, and
+    // what is owed to them. Nothing is written.
     fn read<R: AllocGlobal + Files<File = F>>(
         &mut self,
         rt: &R,
@@ -310,13 +311,14 @@ impl<F: SegmentFile> Folder<F> {
         })
     }
 
-    /// The segment of this lease, with the bytes of its file; with none if that is missing. Nothing is
-    /// made and nothing is written: `settle` does that, and up to then each append in the folder fails.
+    /// The segment of this lease, with the bytes of its file; with none if that is missing. Nothing
+    /// is made and nothing is written: `settle` does that, and up to then each append in the folder
+    /// fails.
     ///
-    /// Its capacity is the greater of this one, in bytes, and the file's length. The file is read into
-    /// the memory of the segment. `InUse` if a segment stands on the file, `TooLong` if it is
-    /// longer than any segment may be, `NotPlain` if it is no plain file, `Damaged` if its bytes do not
-    /// fit the sums beside it, `Missing` if the sums say that there were more.
+    /// Its capacity is the greater of this one, in bytes, and the file's length. The file is read
+    /// into the memory of the segment. `InUse` if a segment stands on the file, `TooLong` if it is
+    /// longer than any segment may be, `NotPlain` if it is no plain file, `Damaged` if its bytes do
+    /// not fit the sums beside it, `Missing` if the sums say that there were more.
     pub fn segment<R: AllocGlobal + Files<File = F>>(
         &mut self,
         rt: &R,
@@ -359,7 +361,8 @@ impl<F: SegmentFile> Folder<F> {
     /// gives it one. Sums that do not count are taken off. Then it waits until the names stand, and
     /// from there on each segment may be appended to.
     ///
-    /// Refused, no segment of the folder is ever appended to: it is to be dropped, and opened again.
+    /// Refused, no segment of the folder is ever appended to: it is to be dropped, and opened
+    /// again.
     pub fn settle<R: AllocGlobal + Files<File = F>>(&mut self, rt: &R) -> Result<(), FolderFault> {
         match self.settle_waiting(rt) {
             Ok(()) => {
@@ -373,8 +376,8 @@ impl<F: SegmentFile> Folder<F> {
         }
     }
 
-    /// Lets go of the files of all segments that are not settled. Nothing is written, and none of them
-    /// is ever appended to.
+    /// Lets go of the files of all segments that are not settled. Nothing is written, and none of
+    /// them is ever appended to.
     pub fn forget(&mut self) {
         self.waiting.clear();
     }

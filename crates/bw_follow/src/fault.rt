@@ -6,21 +6,22 @@ use std::alloc::{AllocError, AllocFailed};
 use std::fmt::{self, Display, Formatter};
 use thiserror::Error;
 
-/// Why a folder does not follow another one. It is as it was, or as after some first part of a round.
+/// Why a folder does not follow another one. It is as it was, or as after some first part of a
+/// round.
 #[derive(Debug, Clone, Copy, Error)]
 pub enum FollowFault {
     /// A growth was refused.
     NoMemory,
-    /// The folder that is followed, or a file in it, was not opened or read, or is damaged; `InUse`, if
-    /// somebody writes it and it could not be read beside.
+    /// The folder that is followed, or a file in it, was not opened or read, or is damaged;
+    /// `InUse`, if somebody writes it and it could not be read beside.
     Source(FolderFault),
     /// The folder that follows, or a file in it, was not opened, read or written, or is damaged;
     /// `InUse`, if somebody else has it open.
     Target(FolderFault),
     /// The folder in which a whole copy is made was not made: its name has `.partial` at its end.
     Partial(FolderFault),
-    /// The folder that was there before a whole copy could not be moved aside: that name has `.old` at
-    /// its end.
+    /// The folder that was there before a whole copy could not be moved aside: that name has `.old`
+    /// at its end.
     Old(FolderFault),
     /// What the followed folder holds is no store.
     Recovery(RecoverCause),

@@ -7,8 +7,8 @@ use std::alloc::{AllocError, AllocFailed};
 /// What ends a round before its end.
 #[derive(Debug, Clone, Copy)]
 pub(crate) enum Halt {
-    /// What was read of the followed folder is not of one moment, or could not be read. It may be the
-    /// next time.
+    /// What was read of the followed folder is not of one moment, or could not be read. It may be
+    /// the next time.
     Moved,
     Fault(FollowFault),
 }

@@ -1,8 +1,8 @@
 //! The folder that follows: its lock, its segments, and what a round does to them.
 //!
-//! At each moment it has segments of consecutive numbers, and frames of consecutive numbers in them:
-//! a segment is begun only after the one before it has all that the followed one has, and on the disk;
-//! and the oldest is emptied only after recovery took the others without it.
+//! At each moment it has segments of consecutive numbers, and frames of consecutive numbers in
+//! them: a segment is begun only after the one before it has all that the followed one has, and on
+//! the disk; and the oldest is emptied only after recovery took the others without it.
 
 use crate::fault::FollowFault;
 use crate::files::{Files, Told, length_of, read, read_all, segment_path};
@@ -88,8 +88,8 @@ fn ends_behind(
     Ok(ends)
 }
 
-/// What a segment here is owed before anything is written: its end is written again, as each opening
-/// does it, and its pieces get the sums that they lack.
+/// What a segment here is owed before anything is written: its end is written again, as each
+/// opening does it, and its pieces get the sums that they lack.
 #[derive(Drop)]
 struct Debt {
     lease: u32,
@@ -211,7 +211,8 @@ impl Target {
             .copied()
     }
 
-    /// Notes of a segment that its bytes were found to be the other one's, whose last sum is this one.
+    /// Notes of a segment that its bytes were found to be the other one's, whose last sum is this
+    /// one.
     pub(crate) fn note(&mut self, held: Held) {
         for it in self.held.as_mut_slice() {
             if it.header.number == held.header.number {
@@ -220,8 +221,8 @@ impl Target {
         }
     }
 
-    /// A lease for a new segment: that of a file in which a stop left the beginning of one, or else the
-    /// least of which no segment is there.
+    /// A lease for a new segment: that of a file in which a stop left the beginning of one, or else
+    /// the least of which no segment is there.
     fn free_lease<R: Host>(&self, rt: &R) -> Result<Option<u32>, FolderFault> {
         let mut least = None;
         for lease in 0..MAX_LEASES {
@@ -318,8 +319,9 @@ impl Target {
         Ok(Some(pen.write(rt.alloc(), held, bytes, ends)?))
     }
 
-    /// Appends what a segment has more, the newest one or one that follows it. What is to be written
-    /// has to be whole frames whose numbers go on, or nothing is written; how many bytes it was.
+    /// Appends what a segment has more, the newest one or one that follows it. What is to be
+    /// written has to be whole frames whose numbers go on, or nothing is written; how many bytes it
+    /// was.
     pub(crate) fn append<R: Host>(
         &mut self,
         rt: &R,
@@ -376,8 +378,8 @@ impl Target {
         Ok(images)
     }
 
-    /// Empties the files of the segments below this number, the oldest first, once recovery took all
-    /// others without them; how many they are.
+    /// Empties the files of the segments below this number, the oldest first, once recovery took
+    /// all others without them; how many they are.
     pub(crate) fn give_up<R: Host, W: Watch>(
         &mut self,
         rt: &R,

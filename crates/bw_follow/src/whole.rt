@@ -126,8 +126,8 @@ fn part_upto(part: Part, end: u64) -> Result<Part, AllocError> {
     })
 }
 
-/// Segments without the frame that was being appended to the newest one while they were read: it may
-/// never be durable.
+/// Segments without the frame that was being appended to the newest one while they were read: it
+/// may never be durable.
 fn durable_parts<R: Host>(rt: &R, from: &str, parts: Vec<Part>) -> Result<Vec<Part>, FollowFault> {
     let newest = newest_of(parts.as_slice());
     let mut kept = Vec::new(rt.alloc());
@@ -258,8 +258,8 @@ fn unmark<R: Host>(rt: &R, to: &str) -> Result<(), FolderFault> {
     Ok(())
 }
 
-/// Copies the followed folder whole, as TO, which is not there; the number of its last frame, and how
-/// many bytes it has.
+/// Copies the followed folder whole, as TO, which is not there; the number of its last frame, and
+/// how many bytes it has.
 pub(crate) fn copy<R: Host, W: Watch>(
     rt: &R,
     from: &str,
@@ -285,8 +285,8 @@ fn is_bare<R: Host>(rt: &R, path: &str) -> Result<bool, FolderFault> {
     Ok(true)
 }
 
-/// Removes the TO.old of an earlier copy. Its mark goes last but for the folder itself, so a stop may
-/// leave that with nothing in it.
+/// Removes the TO.old of an earlier copy. Its mark goes last but for the folder itself, so a stop
+/// may leave that with nothing in it.
 fn remove_old<R: Host>(rt: &R, path: &str) -> Result<(), FolderFault> {
     if is_bare(rt, path)? {
         fs::remove_dir(rt, path)?;
@@ -296,8 +296,8 @@ fn remove_old<R: Host>(rt: &R, path: &str) -> Result<(), FolderFault> {
 }
 
 /// Puts a whole copy in the place of TO, whose newest segment and last frame these are, and which
-/// becomes TO.old. Its lock is held meanwhile. Refused if the copy would be of an earlier frame: it is
-/// of another store.
+/// becomes TO.old. Its lock is held meanwhile. Refused if the copy would be of an earlier frame: it
+/// is of another store.
 pub(crate) fn replace<R: Host, W: Watch>(
     rt: &R,
     from: &str,
@@ -319,8 +319,8 @@ pub(crate) fn replace<R: Host, W: Watch>(
     Ok((frame, bytes))
 }
 
-/// Whether there is a folder TO to go on with. What a stop left between the two renames is mended: TO
-/// is the one that was there before.
+/// Whether there is a folder TO to go on with. What a stop left between the two renames is mended:
+/// TO is the one that was there before.
 pub(crate) fn mend<R: Host>(rt: &R, to: &str) -> Result<bool, FollowFault> {
     if is_there(rt, to).map_err(FollowFault::of_target)? {
         unmark(rt, to).map_err(FollowFault::of_target)?;

@@ -85,8 +85,8 @@ fn push_each(
     Ok(())
 }
 
-/// A page with so many pairs at the front of the bytes, which are known to be lawful in this format.
-/// A refused growth is the only error.
+/// A page with so many pairs at the front of the bytes, which are known to be lawful in this
+/// format. A refused growth is the only error.
 pub(crate) fn page_of(
     alloc: Global,
     version: u16,

@@ -1,4 +1,5 @@
-//! What holds of the machine itself: each function's contract is a law, and there is nothing to run.
+//! What holds of the machine itself: each function's contract is a law, and there is nothing to
+//! run.
 
 ghost use Rattle.bw_history.specs.Laws.{CallsAreSteps, DurableStays, LivesGoOn, LivesLoseNothing, StopsLeaveBeginnings};
 

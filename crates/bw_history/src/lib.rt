@@ -1,5 +1,5 @@
-//! What was taken: records with their writers, in groups, as a history keeps them, and the lanes from
-//! which they come.
+//! What was taken: records with their writers, in groups, as a history keeps them, and the lanes
+//! from which they come.
 //!
 //! `PackedEntry` is a record that was taken, with its writer; its bytes are shared with the pages
 //! that have them. `Intake` is the lanes and the history together: what is taken from a lane stands

@@ -9,8 +9,8 @@ use crate::options::Options;
 use bw_device::Segment;
 use bw_site::{Found, NotHeld, Site, System, held_in};
 
-/// A new store if all boxes are new, with what was found before; and else the one that they hold. If
-/// they have only the beginning of a first frame, that is cleared. Their files are settled once
+/// A new store if all boxes are new, with what was found before; and else the one that they hold.
+/// If they have only the beginning of a first frame, that is cleared. Their files are settled once
 /// recovery took them, or there was nothing to take: nothing is written before.
 pub(crate) fn begin<R: System>(
     rt: &R,

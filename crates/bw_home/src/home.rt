@@ -35,8 +35,8 @@ use bw_site::{Found, HomeFault, Site, Stock, System};
 /// A store, the feeds of its writers, and where its segments stand and have their leases from.
 ///
 /// The store and the feeds may be used by themselves, also by threads: what a course has to keep is
-/// that the store is sound, and that the feeds are all there, in order. What was not flushed is gone
-/// with it.
+/// that the store is sound, and that the feeds are all there, in order. What was not flushed is
+/// gone with it.
 #[derive(Drop)]
 pub struct Home {
     pub store: Core,
@@ -338,8 +338,8 @@ impl Home {
         self.store.next_at(key)
     }
 
-    /// The pair with the greatest key at or below this one, as all that was taken leaves it, flushed
-    /// or not; `None` before the first pair. As `Core::prev_at`.
+    /// The pair with the greatest key at or below this one, as all that was taken leaves it,
+    /// flushed or not; `None` before the first pair. As `Core::prev_at`.
     pub fn prev_at(&mut self, key: &Key) -> Result<Option<(Key, Value)>, StoreFault>
         requires { IsReady self.old holding }
         ensures ready { IsReady self.new holding }

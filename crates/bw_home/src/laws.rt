@@ -3,8 +3,8 @@
 
 ghost use Rattle.bw_home.specs.Laws.{AMapGoesOn, AStopLeavesACut};
 
-/// Whatever a stop leaves of a home with one writer is one of its cuts: the map that is kept, or one
-/// that a later group made, and never a part of a group.
+/// Whatever a stop leaves of a home with one writer is one of its cuts: the map that is kept, or
+/// one that a later group made, and never a part of a group.
 pub fn a_stop_leaves_a_cut()
     ensures { AStopLeavesACut }
 {}

@@ -140,8 +140,9 @@ impl Home {
         }
     }
 
-    // Puts a group into the queue of the only writer. If it is full, all that waits is taken before;
-    // a refusal says why that was not done, or nothing if the queue is full all the same. Not by
+    // Puts a group into the queue of the only writer. If it is full, all that waits is taken
+    // before; a refusal says why that was not done, or nothing if the queue is full all the same.
+    // Not by
     // `put_group`, which takes turns: no clause of a turn says that what it took is what was put.
     fn queue(&mut self, group: Group) -> Result<(), Option<StoreFault>>
         requires ready { IsReady self.old holding }

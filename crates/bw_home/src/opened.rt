@@ -58,8 +58,8 @@ impl Attempt {
 /// A site, how many segments the store begins with, and how many bytes a new one has room for.
 type Place = (Site, u32, u64);
 
-// The folder of this path over the files that are there, if it was open before. Why it cannot be opened
-// is said by the other way.
+// The folder of this path over the files that are there, if it was open before. Why it cannot be
+// opened is said by the other way.
 fn place_again<R: System>(rt: &R, path: &str, leases: u32, options: &Options) -> Option<Place> {
     let Ok(site) = Site::open_again(rt, path, leases) else {
         return None;
@@ -70,9 +70,9 @@ fn place_again<R: System>(rt: &R, path: &str, leases: u32, options: &Options) ->
     Some((site, count, options.capacity_beside(longest)))
 }
 
-/// Where the segments of a store stand, how many it begins with, and how many bytes a new one has room
-/// for; none if the folder cannot be opened by this way. By the other way a folder is looked at
-/// before: what would be refused is refused before anything is written there.
+/// Where the segments of a store stand, how many it begins with, and how many bytes a new one has
+/// room for; none if the folder cannot be opened by this way. By the other way a folder is looked
+/// at before: what would be refused is refused before anything is written there.
 pub(crate) fn site_of<R: System>(
     rt: &R,
     dir: Option<&str>,

@@ -21,8 +21,8 @@ pub struct Options {
     pub frame_bytes: u32,
     /// How many segments there are at least, up to 4,096. A folder with more files has more.
     pub segments: u32,
-    /// How many bytes a new segment has room for, up to 1 GiB. All of it is reserved in memory. In a
-    /// folder with a longer segment it is as many bytes as that one has, in whole MiB.
+    /// How many bytes a new segment has room for, up to 1 GiB. All of it is reserved in memory. In
+    /// a folder with a longer segment it is as many bytes as that one has, in whole MiB.
     pub capacity: u64,
 }
 

@@ -121,8 +121,8 @@ impl SharedHome {
         self.stock.found
     }
 
-    /// Gives up the oldest segment, and empties its file, as `Home::clean` does; what is durable then
-    /// is published. What the store says of its cleaning holds here, word for word.
+    /// Gives up the oldest segment, and empties its file, as `Home::clean` does; what is durable
+    /// then is published. What the store says of its cleaning holds here, word for word.
     pub fn clean<R: System>(&mut self, rt: &R) -> Result<Cleaned, HomeFault>
         requires { IsShared self.old holding }
         ensures ready { IsShared self.new holding }

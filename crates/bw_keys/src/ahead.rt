@@ -7,8 +7,8 @@ use crate::tending::Tending;
 use bw_home::{Home, HomeFault, System};
 
 impl Tending {
-    /// How many spares there have to be so that blocks with so many bytes surely find room, and as many
-    /// are left after them as are kept.
+    /// How many spares there have to be so that blocks with so many bytes surely find room, and as
+    /// many are left after them as are kept.
     fn wanted(&mut self, home: &Home, bytes: u64) -> u64
         requires { IsReady home.now holding }
     {
@@ -25,8 +25,8 @@ impl Tending {
         u64::from(home.store.spares()) >= self.wanted(home, bytes)
     }
 
-    /// Whether so many bytes of deletes find room in a log in which no room can be made, beside what a
-    /// cleaning wants.
+    /// Whether so many bytes of deletes find room in a log in which no room can be made, beside
+    /// what a cleaning wants.
     fn has_room_to_delete(&mut self, home: &mut Home, bytes: u64) -> Result<bool, HomeFault>
         requires { IsReady home.old holding }
         ensures { IsReady home.new holding }
@@ -85,10 +85,10 @@ impl Tending {
         self.make_some(rt, home)
     }
 
-    /// Whether a call may be done that writes blocks with so many bytes at most. If there is too little
-    /// room for them, a spare is made; then the same is asked again once that was added. If none can
-    /// be made, a call that only deletes may be done as long as there is room for it beside what a
-    /// cleaning wants, and no other.
+    /// Whether a call may be done that writes blocks with so many bytes at most. If there is too
+    /// little room for them, a spare is made; then the same is asked again once that was added. If
+    /// none can be made, a call that only deletes may be done as long as there is room for it
+    /// beside what a cleaning wants, and no other.
     pub fn reserve<R: System>(
         &mut self,
         rt: &R,

@@ -1,4 +1,5 @@
-//! What changes the keys of a folder: one is put, some are deleted, and the pairs of an input go in.
+//! What changes the keys of a folder: one is put, some are deleted, and the pairs of an input go
+//! in.
 
 use crate::deletes::{Named, Sweep};
 use crate::fault::KeysFault;
@@ -81,8 +82,8 @@ pub enum Changed {
     Halted(KeysFault, Effect, u64),
 }
 
-/// A store that one writer puts into, with a queue that is long enough for batches. Its new segments
-/// have room for so many bytes, if that is said.
+/// A store that one writer puts into, with a queue that is long enough for batches. Its new
+/// segments have room for so many bytes, if that is said.
 pub fn options(capacity: Option<u32>) -> Options {
     let other = Options::default();
     let capacity = capacity.map_or(other.capacity, u64::from);

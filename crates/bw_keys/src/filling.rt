@@ -1,8 +1,8 @@
 //! Records that come in the order of their keys go in so that pages get full.
 //!
 //! A page that gets too many pairs keeps the first half of them. So records in the order of their
-//! keys would leave pages that are half full. Here every second record waits until its page has been
-//! split off: the others make the pages, and these fill them.
+//! keys would leave pages that are half full. Here every second record waits until its page has
+//! been split off: the others make the pages, and these fill them.
 
 use crate::fault::KeysFault;
 use crate::records::Records;

@@ -1,5 +1,5 @@
-//! A log in which no room can be made: puts are refused while there is still room for deletes, for a
-//! flush of what was taken, and for a cleaning.
+//! A log in which no room can be made: puts are refused while there is still room for deletes, for
+//! a flush of what was taken, and for a cleaning.
 
 ghost use Rattle.bw_home.specs.Ready.{IsReady};
 
@@ -46,8 +46,8 @@ fn bytes_of_deletes(group: &Group) -> Option<u64> {
     Some(bytes)
 }
 
-/// Whether it is asked once more if room can be made: so much was taken since that each page needs to
-/// be looked at no more than once for eight records.
+/// Whether it is asked once more if room can be made: so much was taken since that each page needs
+/// to be looked at no more than once for eight records.
 pub(crate) fn is_asked_again(home: &Home, full: Full) -> bool {
     let since = taken(home).saturating_sub(full.taken);
     since > u64::from(home.store.pages()) / 8
@@ -59,8 +59,8 @@ impl Tending {
         self.full.is_some()
     }
 
-    /// Makes what was taken durable, and answers how many bytes deletes may add from then on: what is
-    /// left of the newest segment, or of a spare, but for what a cleaning wants.
+    /// Makes what was taken durable, and answers how many bytes deletes may add from then on: what
+    /// is left of the newest segment, or of a spare, but for what a cleaning wants.
     fn room_to_delete(&mut self, home: &mut Home) -> Result<u64, HomeFault>
         requires { IsReady home.old holding }
         ensures { IsReady home.new holding }

@@ -4,7 +4,8 @@ use bw_device::MAX_LEASES;
 use bw_file::{FolderFault, FolderReader};
 use bw_home::System;
 
-/// How many there may be in memory, and in a folder whose last file has a name far above the others.
+/// How many there may be in memory, and in a folder whose last file has a name far above the
+/// others.
 pub const FEW: u32 = 64;
 
 /// How many files a run makes at most for leases below one that has a file.

@@ -1,5 +1,5 @@
-//! Keys and values of a folder for people and for pipes: one is put, some are got or deleted, all are
-//! listed and counted, and whole sets come in and go out as `bw_pairs` spells them.
+//! Keys and values of a folder for people and for pipes: one is put, some are got or deleted, all
+//! are listed and counted, and whole sets come in and go out as `bw_pairs` spells them.
 //!
 //! `perform` does one `Task` over a folder. What reads opens the folder beside other readers, or
 //! beside whoever writes it (`bw_beside`), looks at it as recovery does, and changes nothing; what

@@ -174,8 +174,8 @@ impl<'a, O: Write> Listing<'a, O> {
         Ok(())
     }
 
-    /// Passes over all pairs of these pages but for those with the greatest keys that are wanted, if
-    /// they are not all.
+    /// Passes over all pairs of these pages but for those with the greatest keys that are wanted,
+    /// if they are not all.
     fn pass(&mut self, pages: &mut Recovered, numbers: &[u32]) -> Result<(), KeysFault>
         requires { IsRecovered (λ b. holding (b.vtable, b.value)) pages.old }
         ensures { IsRecovered (λ b. holding (b.vtable, b.value)) pages.new }

@@ -52,8 +52,8 @@ pub struct Load<'a, S, W> {
     has_looked: bool,
     /// Whether there are no more records.
     is_over: bool,
-    /// How many segments are still given up after them, so that the log gets short; none before that
-    /// was asked.
+    /// How many segments are still given up after them, so that the log gets short; none before
+    /// that was asked.
     left: Option<u32>,
     /// Why there are none.
     fault: Option<KeysFault>,
@@ -223,8 +223,8 @@ impl<'a, S: Records, W: Watch> Load<'a, S, W> {
         }
     }
 
-    /// Gives up the next segment of those that are, once all is durable; the last leg is over if there
-    /// is none, or the records ended early.
+    /// Gives up the next segment of those that are, once all is durable; the last leg is over if
+    /// there is none, or the records ended early.
     fn shorten<R: System>(&mut self, rt: &R, home: &mut Home) -> Result<Step, KeysFault>
         requires { IsReady home.old holding }
         ensures { IsReady home.new holding }

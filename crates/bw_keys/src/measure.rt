@@ -129,8 +129,8 @@ impl Measure {
             .saturating_add(1)
     }
 
-    /// About how many bytes of room a cleaning takes that writes so many bytes of pages: at the end of
-    /// each frame half a page does not fit.
+    /// About how many bytes of room a cleaning takes that writes so many bytes of pages: at the end
+    /// of each frame half a page does not fit.
     fn taken_by(&self, needed: u64) -> u64 {
         let filled = self.frame.saturating_sub(PAGE / 2).max(1);
         (needed / filled)
@@ -183,8 +183,8 @@ impl Measure {
         self.taken_by(needed) <= self.most_of_eight()
     }
 
-    /// Whether an eighth of the bytes of all closed segments is not needed, so that a cleaning of each
-    /// of them in turn wins that.
+    /// Whether an eighth of the bytes of all closed segments is not needed, so that a cleaning of
+    /// each of them in turn wins that.
     pub fn is_eighth_waste(&self, home: &Home) -> bool
         requires { IsReady home.now holding }
     {

@@ -118,8 +118,8 @@ fn ask_alone<R: System, W: Watch, A: Ask<W>>(
 /// those of one of its frames, as `bw_beside::open` has it.
 ///
 /// What recovery refuses is refused, a file above so many leases, and a folder without the file of
-/// any segment. It takes memory for a copy of all files, and the time of a recovery and of what is asked;
-/// of up to ten recoveries if somebody writes.
+/// any segment. It takes memory for a copy of all files, and the time of a recovery and of what is
+/// asked; of up to ten recoveries if somebody writes.
 pub(crate) fn ask_in<R: System, W: Watch, A: Ask<W>>(
     rt: &R,
     path: &str,

@@ -1,7 +1,7 @@
 //! What is asked of the pages of a folder: values, a count, and pairs that are written.
 //!
-//! Which pages have the keys that are meant is known without a look at any. Of these each is read when
-//! its turn comes, and none stays, so memory holds one page beside the bytes of the folder.
+//! Which pages have the keys that are meant is known without a look at any. Of these each is read
+//! when its turn comes, and none stays, so memory holds one page beside the bytes of the folder.
 
 ghost use Rattle.bw_care.specs.Found.{IsRecovered};
 

@@ -1,6 +1,6 @@
 //! The log of a new store gets short after an import. It has records that were joined to pages, and
-//! pages that were split. Each segment in turn is given up, so that only whole pages are left, as the
-//! next opening wants them.
+//! pages that were split. Each segment in turn is given up, so that only whole pages are left, as
+//! the next opening wants them.
 
 ghost use Rattle.bw_home.specs.Ready.{IsReady};
 

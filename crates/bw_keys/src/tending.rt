@@ -25,8 +25,8 @@ const RECORD: u64 = 2_048;
 struct Circle {
     /// How many records were taken when it began.
     taken: u64,
-    /// How many cleanings may follow before a further record is taken: as many as there are segments,
-    /// so that those come to an end that win nothing.
+    /// How many cleanings may follow before a further record is taken: as many as there are
+    /// segments, so that those come to an end that win nothing.
     left: u32,
     /// How many of them follow whatever each wins, since all of them together win something.
     known: u32,
@@ -71,8 +71,8 @@ fn has_unflushed(home: &Home) -> bool {
     }
 }
 
-/// Whether a frame may be unable to follow the last one in its segment, since bytes follow there, or it
-/// is of format 1.
+/// Whether a frame may be unable to follow the last one in its segment, since bytes follow there,
+/// or it is of format 1.
 fn may_be_closed(home: &Home) -> bool
     requires { IsReady home.now holding }
 {
@@ -111,8 +111,8 @@ fn renew<R: System>(rt: &R, home: &mut Home) -> Result<Cleaned, HomeFault>
 }
 
 impl Tending {
-    /// Of a store whose segments have room for so many bytes, whose frames have so many at most, and of
-    /// which up to so many segments are added.
+    /// Of a store whose segments have room for so many bytes, whose frames have so many at most,
+    /// and of which up to so many segments are added.
     pub fn new(capacity: u64, frame: u64, most: u32) -> Tending {
         Tending {
             measure: Measure { capacity, frame },
@@ -257,8 +257,8 @@ impl Tending {
         self.clean_for_room(rt, home)
     }
 
-    /// Gives up the oldest segment, if that wins anything now that no segment can be added; `false` if
-    /// it was not given up.
+    /// Gives up the oldest segment, if that wins anything now that no segment can be added; `false`
+    /// if it was not given up.
     fn clean_at_last<R: System>(
         &mut self,
         rt: &R,
@@ -323,8 +323,9 @@ impl Tending {
         }
     }
 
-    /// Makes room if few spares are left: by a cleaning if that pays, and else by a further segment; if
-    /// there can be none, by a cleaning that wins anything. `false` if there is no need, or no way.
+    /// Makes room if few spares are left: by a cleaning if that pays, and else by a further
+    /// segment; if there can be none, by a cleaning that wins anything. `false` if there is no
+    /// need, or no way.
     pub fn make_room<R: System>(&mut self, rt: &R, home: &mut Home) -> Result<bool, HomeFault>
         requires { IsReady home.old holding }
         ensures { IsReady home.new holding }
@@ -354,9 +355,9 @@ impl Tending {
         Ok(false)
     }
 
-    /// Whether the spares have room for a call that adds so many bytes of records, beside those that
-    /// are kept for a flush and a cleaning. If they have not, a spare is made, and the same is asked
-    /// again once it was added.
+    /// Whether the spares have room for a call that adds so many bytes of records, beside those
+    /// that are kept for a flush and a cleaning. If they have not, a spare is made, and the same is
+    /// asked again once it was added.
     pub fn admits_call<R: System>(
         &mut self,
         rt: &R,
@@ -379,16 +380,16 @@ impl Tending {
         }
     }
 
-    /// Whether what is left of the newest segment has room for so many bytes of records, and a frame
-    /// beside them. So a call that deletes finds room in a full log.
+    /// Whether what is left of the newest segment has room for so many bytes of records, and a
+    /// frame beside them. So a call that deletes finds room in a full log.
     pub fn has_rest(&self, home: &Home, bytes: u64) -> bool
         requires { IsReady home.now holding }
     {
         bytes.saturating_add(self.measure.frame) <= self.rest(home)
     }
 
-    /// Makes room after a cleaning: another one follows if the log gets shorter by it, so this comes to
-    /// an end. No segment is added.
+    /// Makes room after a cleaning: another one follows if the log gets shorter by it, so this
+    /// comes to an end. No segment is added.
     fn make_room_again<R: System>(&mut self, rt: &R, home: &mut Home) -> Result<bool, HomeFault>
         requires { IsReady home.old holding }
         ensures { IsReady home.new holding }
@@ -405,8 +406,8 @@ impl Tending {
         self.make_room(rt, home)
     }
 
-    /// Makes room if a segment was begun since the spares were looked at last, or after a cleaning: to
-    /// ask whether one pays costs a look at each page.
+    /// Makes room if a segment was begun since the spares were looked at last, or after a cleaning:
+    /// to ask whether one pays costs a look at each page.
     pub fn look<R: System>(&mut self, rt: &R, home: &mut Home) -> Result<bool, HomeFault>
         requires { IsReady home.old holding }
         ensures { IsReady home.new holding }
@@ -443,8 +444,8 @@ impl Tending {
         self.full = None;
     }
 
-    /// Whether a group may go into the queue before what waits there is taken: it may as long as all
-    /// of that has an eighth of a segment at most.
+    /// Whether a group may go into the queue before what waits there is taken: it may as long as
+    /// all of that has an eighth of a segment at most.
     pub fn waits(&mut self, group: &Group) -> bool {
         let mut bytes = self.queued;
         for item in group.as_slice() {
@@ -477,8 +478,8 @@ impl Tending {
         }
     }
 
-    /// Takes all that waits, a part at a time, and looks at the spares after each; `true` if room was
-    /// made before all was taken.
+    /// Takes all that waits, a part at a time, and looks at the spares after each; `true` if room
+    /// was made before all was taken.
     pub fn take_waiting<R: System>(&mut self, rt: &R, home: &mut Home) -> Result<bool, HomeFault>
         requires { IsReady home.old holding }
         ensures { IsReady home.new holding }

@@ -157,8 +157,8 @@ impl Chain {
         Ok(leaf)
     }
 
-    /// What the newest of the chain's records that speaks of a key says. No memory is taken. Time is
-    /// linear in the links.
+    /// What the newest of the chain's records that speaks of a key says. No memory is taken. Time
+    /// is linear in the links.
     pub fn word(&self, key: &Key) -> Word
         ensures { result ≡ records_word key.now (records_of self.now.links) }
     {

@@ -1,8 +1,8 @@
 //! A page while its blocks are read forwards.
 //!
-//! Between two blocks it may hold far more pairs than a page at rest: only what stands in the end is
-//! judged. Few pairs stand in a row, as in a leaf, and more in a tree. So a record costs a search,
-//! whatever the order of the keys is, and a Split what it takes off the end.
+//! Between two blocks it may hold far more pairs than a page at rest: only what stands in the end
+//! is judged. Few pairs stand in a row, as in a leaf, and more in a tree. So a record costs a
+//! search, whatever the order of the keys is, and a Split what it takes off the end.
 
 ghost use Rattle.std.specs.Prelude.{◌≡◌, IfOk, OnOk};
 ghost use Rattle.std.specs.List.{fold};

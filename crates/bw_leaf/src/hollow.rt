@@ -1,4 +1,5 @@
-//! Pairs of which only the keys and the lengths of the values are known, in the order of their keys.
+//! Pairs of which only the keys and the lengths of the values are known, in the order of their
+//! keys.
 //!
 //! Whether a page is lawful, and how long its Base is, hangs on these; its values need not be read
 //! for it. A pair takes eight bytes and its key.
@@ -67,7 +68,8 @@ fn add_key(keys: &mut Vec<u8>, key: &[u8], size: usize) -> Result<Item, AllocErr
 {
     let at = keys.len();
     let len = key.len();
-    // Neither is ever so large: no key has more than 124 bytes, and no row more than `SLACK` and one.
+    // Neither is ever so large: no key has more than 124 bytes, and no row more than `SLACK` and
+    // one.
     if at > u32::MAX as usize || len > u16::MAX as usize || size > u16::MAX as usize {
         return Err(AllocError);
     }
@@ -191,8 +193,8 @@ impl Hollow {
         Ok(())
     }
 
-    /// Sets the length of the value of the pair at an index, which has this key. A value is never too
-    /// long; a refusal changes nothing.
+    /// Sets the length of the value of the pair at an index, which has this key. A value is never
+    /// too long; a refusal changes nothing.
     fn set(&mut self, at: usize, size: usize) -> Result<(), AllocError>
         requires { at < length self.old }
         ensures ok { (key : Bytes) → ((d : Bytes × Bytes) → (slice_index_or self.old at d).0 ≡ key)

@@ -105,8 +105,8 @@ fn blank_pair(alloc: Global, pairs: &Hollow, at: usize) -> Result<Pair, AllocErr
     pair_of(alloc, pairs.key(at), &value)
 }
 
-// A pair of these bytes. Bytes that are too long for one are refused as if memory was: no record has
-// any.
+// A pair of these bytes. Bytes that are too long for one are refused as if memory was: no record
+// has any.
 fn pair_of(alloc: Global, key: &[u8], value: &[u8]) -> Result<Pair, AllocError>
     ensures { IfOk result (λ pair. pair ≡ (key.now, value.now)) }
 {
@@ -295,7 +295,8 @@ impl HollowDraft {
         }
     }
 
-    /// The page after a put. A refused growth is the only error; nothing is said of the page after it.
+    /// The page after a put. A refused growth is the only error; nothing is said of the page after
+    /// it.
     pub fn put(&mut self, alloc: Global, key: &[u8], value: &[u8]) -> Result<(), AllocError>
         ensures { OnOk result (self.new ≡ changed (Put key.now value.now) self.old) }
     {
@@ -316,8 +317,8 @@ impl HollowDraft {
         }
     }
 
-    /// The page after a delete. A refused growth is the only error; nothing is said of the page after
-    /// it.
+    /// The page after a delete. A refused growth is the only error; nothing is said of the page
+    /// after it.
     pub fn delete(&mut self, alloc: Global, key: &[u8]) -> Result<(), AllocError>
         ensures { OnOk result (self.new ≡ changed (Del key.now) self.old) }
     {
@@ -353,8 +354,8 @@ impl HollowDraft {
         }
     }
 
-    /// The page as it stands. It takes memory only if the page had very many pairs, whose refusal is
-    /// the only error.
+    /// The page as it stands. It takes memory only if the page had very many pairs, whose refusal
+    /// is the only error.
     pub fn into_page(self, alloc: Global) -> Result<HollowPage, AllocError>
         ensures { IfOk result (λ page. page ≡ self) }
     {

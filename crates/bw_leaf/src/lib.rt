@@ -1,10 +1,10 @@
 //! One page: what a record does to it, its chain in memory, and what blocks of the log say of it.
 //!
-//! A page has a number, a low key and its pairs in the order of their keys. A record sets or removes
-//! one pair (`specs/Changed.antt`). A chain holds a page as its newest records over a whole page, or
-//! over the log (`specs/Links.antt`). Blocks say of a page what it is: read forwards they give the
-//! page (`specs/Forwards.antt`), and read from the newest back they give the value of one key
-//! (`specs/Words.antt`).
+//! A page has a number, a low key and its pairs in the order of their keys. A record sets or
+//! removes one pair (`specs/Changed.antt`). A chain holds a page as its newest records over a whole
+//! page, or over the log (`specs/Links.antt`). Blocks say of a page what it is: read forwards they
+//! give the page (`specs/Forwards.antt`), and read from the newest back they give the value of one
+//! key (`specs/Words.antt`).
 //!
 //! A search compares eight bytes of keys as numbers, after those that a page's keys share, and
 //! whole keys only if these do not set them apart. `find_key` gives the place; what changes a page

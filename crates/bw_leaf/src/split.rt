@@ -17,8 +17,8 @@ pub struct Halves {
     pub upper: Leaf,
 }
 
-/// Splits a leaf that has more than `m` pairs: the first (m + 1) / 2 stay, and the others become the
-/// page of this number. A refused growth is the only error; the leaf is then dropped.
+/// Splits a leaf that has more than `m` pairs: the first (m + 1) / 2 stay, and the others become
+/// the page of this number. A refused growth is the only error; the leaf is then dropped.
 pub fn split_in_two(alloc: Global, m: u16, leaf: Leaf, page: u32) -> Result<Halves, AllocError>
     requires some { 1 ≤ m }
     requires over { m < length leaf.pairs }

@@ -131,9 +131,9 @@ fn word_of_block(page: u32, key: &Key, block: &Block) -> Word
     }
 }
 
-/// What the newest of these blocks that speaks of a key on a page says, oldest first: a record of the
-/// key, a block that sets the page, or one that splits the key off. Their pairs ascend. No memory is
-/// taken.
+/// What the newest of these blocks that speaks of a key on a page says, oldest first: a record of
+/// the key, a block that sets the page, or one that splits the key off. Their pairs ascend. No
+/// memory is taken.
 pub fn word_in_blocks(page: u32, key: &Key, blocks: &[Block]) -> Word
     requires { AllByRecursion HasOrder blocks.now }
     ensures { result ≡ blocks_word page key.now blocks.now }

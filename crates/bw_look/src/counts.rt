@@ -95,10 +95,10 @@ fn room_of(survey: &Survey, pages: u64) -> u64 {
     }
 }
 
-/// Writes how many segments, frames, blocks, pages and pairs there are, and of each segment how many
-/// bytes of its blocks are still needed, and how many bytes of Bases its cleaning would write, were
-/// it the oldest; beside these it writes 20 bytes for each frame. `lengths` says how long the Base
-/// of each page is, from page 1 on.
+/// Writes how many segments, frames, blocks, pages and pairs there are, and of each segment how
+/// many bytes of its blocks are still needed, and how many bytes of Bases its cleaning would write,
+/// were it the oldest; beside these it writes 20 bytes for each frame. `lengths` says how long the
+/// Base of each page is, from page 1 on.
 pub fn write_counts<O: Write>(
     out: &mut Printer<'_, O>,
     survey: &Survey,

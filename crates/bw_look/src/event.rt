@@ -2,7 +2,8 @@
 
 use std::fmt::{self, Display, Formatter};
 
-/// What happened to a store, with numbers by their names. Its `Display` is the one form of all events.
+/// What happened to a store, with numbers by their names. Its `Display` is the one form of all
+/// events.
 #[derive(Debug, Clone, Copy)]
 pub struct Event<'a> {
     pub name: &'static str,
@@ -13,8 +14,8 @@ impl Event<'_> {
     /// The name of the numbers of a store, as they are written from time to time.
     pub const NUMBERS: &'static str = "counters";
 
-    /// The name of a refusal, whose first number says which: a program that goes on all the same has
-    /// many of them.
+    /// The name of a refusal, whose first number says which: a program that goes on all the same
+    /// has many of them.
     pub const REFUSED: &'static str = "refused";
 }
 

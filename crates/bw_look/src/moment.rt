@@ -22,9 +22,9 @@ pub fn now<R: Clock>(rt: &R) -> Moment {
 }
 
 impl Moment {
-    /// The moment that a text gives: a number of seconds since 1970, or a date with its time and its
-    /// distance from UTC, of which a part of a second is let go. `None` for any other text, and for
-    /// one before 1970.
+    /// The moment that a text gives: a number of seconds since 1970, or a date with its time and
+    /// its distance from UTC, of which a part of a second is let go. `None` for any other text, and
+    /// for one before 1970.
     pub fn of_text(text: &str) -> Option<Moment> {
         if text.bytes().all(|byte| byte.is_ascii_digit()) {
             let second = text.parse().ok()?;

@@ -10,8 +10,8 @@ use std::{fs, str};
 /// How many digits the second of a note has. A line that was torn off has fewer, and is none.
 const DIGITS: usize = 10;
 
-/// A frame that was the last one of its log that was durable, at a moment. Its `Display` is its line in
-/// the file, without the end.
+/// A frame that was the last one of its log that was durable, at a moment. Its `Display` is its
+/// line in the file, without the end.
 #[derive(Debug, Clone, Copy, PartialEq, Eq)]
 pub struct Note {
     /// The number of the frame.
@@ -48,8 +48,8 @@ pub(crate) fn note_in(line: &[u8]) -> Option<Note> {
     })
 }
 
-/// Adds a note to those before it. What names an earlier frame belongs to another log than they do, so
-/// they are let go; what names the same one says nothing new.
+/// Adds a note to those before it. What names an earlier frame belongs to another log than they do,
+/// so they are let go; what names the same one says nothing new.
 fn push_note(notes: &mut Vec<Note>, note: Note) -> Result<(), AllocError> {
     let last = notes.last().map_or(0, |last| last.frame);
     if note.frame < last {
@@ -75,8 +75,8 @@ pub(crate) fn may_be_opened<R: Files>(rt: &R, path: &str) -> bool {
     }
 }
 
-/// The notes of a folder, whose frames ascend. Lines that are none are passed over. There are none if
-/// it has no file `times`, or what has that name is no plain file.
+/// The notes of a folder, whose frames ascend. Lines that are none are passed over. There are none
+/// if it has no file `times`, or what has that name is no plain file.
 pub fn notes_in<R: AllocGlobal + Files>(rt: &R, folder: &str) -> io::Result<Vec<Note>> {
     let mut notes = Vec::new(rt.alloc());
     let path = path_of(rt, folder)?;

@@ -11,7 +11,8 @@ use std::time::Clock;
 /// As many bytes as the longest line has, twice.
 const END: usize = 64;
 
-/// Notes the frames of the log in a folder, if it stands in one. What cannot be written is not noted.
+/// Notes the frames of the log in a folder, if it stands in one. What cannot be written is not
+/// noted.
 #[derive(Debug, Clone, Copy)]
 pub struct Noting<'a> {
     folder: Option<&'a str>,
@@ -134,9 +135,9 @@ impl<'a> Noting<'a> {
         }
     }
 
-    /// This frame is durable, and is the last one now; 0 if there is none. The first frame of a second
-    /// is noted at once, and the last one before the next note, if that comes more than a second later.
-    /// A frame that was the last one before costs a comparison.
+    /// This frame is durable, and is the last one now; 0 if there is none. The first frame of a
+    /// second is noted at once, and the last one before the next note, if that comes more than a
+    /// second later. A frame that was the last one before costs a comparison.
     pub fn durable<R: AllocGlobal + Clock + Files<File = File>>(&mut self, rt: &R, frame: u64) {
         if let Some(folder) = self.folder {
             if !self.is_known(frame) {

@@ -1,5 +1,5 @@
-//! Work on a terminal: one line that is written over, once the whole has taken a second; and lines of
-//! what happens to a store, wherever standard error goes.
+//! Work on a terminal: one line that is written over, once the whole has taken a second; and lines
+//! of what happens to a store, wherever standard error goes.
 
 use crate::amount::Amount;
 use crate::event::{Event, Hearing};

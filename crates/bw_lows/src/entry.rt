@@ -39,8 +39,8 @@ impl Model for Entry {
 }
 
 impl Entry {
-    /// A low with its page. A low of at most eight bytes takes no memory; of a longer one a refusal is
-    /// the only error.
+    /// A low with its page. A low of at most eight bytes takes no memory; of a longer one a refusal
+    /// is the only error.
     pub(crate) fn of(alloc: Global, low: &Key, page: u32) -> Result<Entry, AllocError>
         ensures { IfOk result (λ entry. entry ≡ (low.now, page)) }
     {

@@ -1,5 +1,5 @@
-//! The frame in the making, and what it does to pages: how it begins, the blocks of a record or of a
-//! group, where the last block of each page stands, and what it has of a page.
+//! The frame in the making, and what it does to pages: how it begins, the blocks of a record or of
+//! a group, where the last block of each page stands, and what it has of a page.
 //!
 //! Nothing here knows the log, the rings or the history: what is planned is given by leaves, places
 //! and a buffer. `specs/Begun.antt` has the frame that begins, `specs/Adding.antt` what a record

@@ -1,9 +1,9 @@
 //! What the frame in the making does to a page that the log has.
 //!
 //! A page that leaves memory is the page in the log with the records that the frame in the making
-//! has of it: its overlay. Nothing is kept for that beside the frame, so a record that is taken costs
-//! nothing here: the records are read back out of the frame when somebody asks for the page. A page
-//! that the frame makes or splits has no overlay: it stays until the log has it whole.
+//! has of it: its overlay. Nothing is kept for that beside the frame, so a record that is taken
+//! costs nothing here: the records are read back out of the frame when somebody asks for the page.
+//! A page that the frame makes or splits has no overlay: it stays until the log has it whole.
 
 ghost use Rattle.std.specs.Prelude.{◌≡◌, ◌<◌, ◌++◌, length, slice_get, IfOk, IfSome, OnOk};
 ghost use Rattle.bw_making.specs.Share.{ops_at, ops_of};

@@ -16,8 +16,8 @@ const DELETE: u64 = 128;
 /// More than a row adds that goes away with its table.
 const ROW: u64 = 256;
 
-/// More than is added for what it names, beside the chunks: a mark that comes and goes, and the number
-/// that is free then.
+/// More than is added for what it names, beside the chunks: a mark that comes and goes, and the
+/// number that is free then.
 const NAMED: u64 = 2_048;
 
 /// How many chunks the longest value has.

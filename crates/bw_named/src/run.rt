@@ -1,5 +1,5 @@
-//! Calls on the tables of a store, one after another, in legs: room is made before each for all that
-//! it writes.
+//! Calls on the tables of a store, one after another, in legs: room is made before each for all
+//! that it writes.
 
 ghost use Rattle.bw_home.specs.Ready.{IsReady};
 
@@ -250,8 +250,9 @@ impl<'a, C: Calls, W: Watch> Run<'a, C, W> {
         Ok(self.tending.make_some(rt, home)?)
     }
 
-    /// What comes after a refusal: the same again, once room was made for it; or what was done before
-    /// it is made durable. An opening comes first, since a refusal may leave something half done.
+    /// What comes after a refusal: the same again, once room was made for it; or what was done
+    /// before it is made durable. An opening comes first, since a refusal may leave something half
+    /// done.
     fn after<R: System>(
         &mut self,
         rt: &R,

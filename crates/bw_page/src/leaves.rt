@@ -224,8 +224,8 @@ impl Leaves {
     /// more than `m` pairs: the first (m + 1) / 2 stay, and the others become a new last page.
     ///
     /// It costs a search among the pages and work within one page; a new page also costs what a
-    /// push on a `Vec` does. The pairs of a page that is split are moved, and none is copied. A refusal
-    /// changes nothing.
+    /// push on a `Vec` does. The pairs of a page that is split are moved, and none is copied. A
+    /// refusal changes nothing.
     pub fn apply(&mut self, change: &Packed) -> Result<Applied, ApplyError>
         requires { IsHere (key_of change.now) self.old }
         ensures ok { OnOk result (self.new ≡ after_record self.old change.now) }
@@ -390,8 +390,8 @@ impl Leaves {
         Ok(back)
     }
 
-    /// Applies a record where `aim` says, which splits the page in two. It gives what puts the page back
-    /// as it was, and the number of the page that is made.
+    /// Applies a record where `aim` says, which splits the page in two. It gives what puts the page
+    /// back as it was, and the number of the page that is made.
     fn split_page(
         &mut self,
         at: usize,

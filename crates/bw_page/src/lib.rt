@@ -8,9 +8,9 @@
 //! `specs/Standing.antt` has what blocks of the log say of all pages.
 //!
 //! A search finds the right page, since lows ascend and the first is the empty key: the pages'
-//! ranges part all keys, each pair stands on the page that its key is directed at, and a split gives
-//! the upper part its own first key as low. So a guess at a page costs nothing but a look: a key
-//! among the page's pairs is at home there.
+//! ranges part all keys, each pair stands on the page that its key is directed at, and a split
+//! gives the upper part its own first key as low. So a guess at a page costs nothing but a look: a
+//! key among the page's pairs is at home there.
 //!
 //! A batch is applied whole or not at all. What takes each record back is kept until the last is
 //! applied, and taking back is never refused.

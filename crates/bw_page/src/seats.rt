@@ -1,7 +1,7 @@
 //! Leaves of which each is in memory or evicted.
 //!
-//! What a leaf that is evicted holds only the proof knows. A leaf may be evicted from the start: of a
-//! page that was found in the log only the keys and the lengths of the values were read.
+//! What a leaf that is evicted holds only the proof knows. A leaf may be evicted from the start: of
+//! a page that was found in the log only the keys and the lengths of the values were read.
 
 ghost use Rattle.std.specs.Prelude.{ℕ, ◌≡◌, ◌==◌, ◌<◌, ◌≤◌, ◌+◌, ◌-◌, ◌++◌, ◌^◌, [], ◌∷◌, true, false, None, Some, length, take, slice_get, slice_set, slice_index_or, if◌then◌else◌, IfSome, IsOk, IfOk, OnOk, OnErr, IsTrue};
 ghost use Rattle.std.specs.List.{AllByRecursion};

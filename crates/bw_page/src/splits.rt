@@ -81,9 +81,9 @@ fn sever(index: &mut LowIndex, m: u16, leaf: &mut Leaf, page: u32) -> Result<Lea
     })
 }
 
-/// Splits one of some leaves that has one pair too many after a record, in which the search for its key
-/// ended so: the lower part stays in its place, the upper one stands last and in the index. A refusal
-/// changes nothing.
+/// Splits one of some leaves that has one pair too many after a record, in which the search for its
+/// key ended so: the lower part stays in its place, the upper one stands last and in the index. A
+/// refusal changes nothing.
 pub(crate) fn split_one(
     leaves: &mut Seats,
     index: &mut LowIndex,

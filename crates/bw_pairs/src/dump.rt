@@ -156,8 +156,8 @@ impl<B: Buffer> Unescaping<B> {
     }
 }
 
-/// The bytes of a line with escapes, in a buffer that had none; `too_long` if it has not room for so
-/// many.
+/// The bytes of a line with escapes, in a buffer that had none; `too_long` if it has not room for
+/// so many.
 pub fn unescaped<B: Buffer>(line: &[u8], bytes: B, too_long: LineFault) -> Result<B, LineFault> {
     let mut read = Unescaping {
         bytes,

@@ -40,7 +40,8 @@ pub fn name_from(bytes: &[u8]) -> Result<Name, LineFault> {
     Name::new(bytes).map_err(|_| LineFault::BadName)
 }
 
-/// The name of a table that a word stands for: its own bytes, or those of its hex digits after `0x`.
+/// The name of a table that a word stands for: its own bytes, or those of its hex digits after
+/// `0x`.
 pub fn name_of(word: &[u8]) -> Result<Name, LineFault> {
     let mut room = [0u8; MAX_VALUE];
     name_from(bytes_of(word, &mut room, LineFault::BadName)?)

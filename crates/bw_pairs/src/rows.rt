@@ -1,5 +1,5 @@
-//! The pairs of tables in an input, one after another. Their values are longer than those of a store,
-//! so memory is asked for as a line wants it.
+//! The pairs of tables in an input, one after another. Their values are longer than those of a
+//! store, so memory is asked for as a line wants it.
 
 use crate::csv::{Field, field_of};
 use crate::dump::{Header, Letters, behind_space, unescaped};

@@ -58,8 +58,8 @@ fn image_in(
 /// how many it has, and how many pairs. If that is refused, nothing is written.
 ///
 /// The bytes of the segments stand one after the other, and so do those of the sums beside them; of
-/// each segment `parts` has two lengths, of its bytes and of its sums. A length without its other is
-/// of no segment. No segment, and more than 4,096, are refused.
+/// each segment `parts` has two lengths, of its bytes and of its sums. A length without its other
+/// is of no segment. No segment, and more than 4,096, are refused.
 #[unsafe(no_mangle)]
 pub extern "C" fn bw_pairs_in(
     alloc: Global,

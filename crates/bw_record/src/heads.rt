@@ -52,8 +52,8 @@ pub fn compare(a: &[u8], b: &[u8]) -> Ordering
     compare_short(ours, theirs)
 }
 
-// How two keys stand to one another, of which one has fewer than eight bytes. If their heads are the
-// same, one is the other and zeros, if any.
+// How two keys stand to one another, of which one has fewer than eight bytes. If their heads are
+// the same, one is the other and zeros, if any.
 fn compare_short(a: &[u8], b: &[u8]) -> Ordering
     requires { 8 ≤ length a.now → length b.now < 8 }
     ensures { result ≡ order a.now b.now }

@@ -80,8 +80,8 @@ impl Model for Pairs {
 }
 
 impl Pairs {
-    /// Pairs as they stand in a `Vec`. It is never refused; their row takes memory, and is linear in
-    /// them.
+    /// Pairs as they stand in a `Vec`. It is never refused; their row takes memory, and is linear
+    /// in them.
     pub fn of(items: Vec<Pair>) -> Pairs
         ensures { result ≡ items.items }
     {
@@ -121,8 +121,8 @@ impl Pairs {
         *self.items.allocator()
     }
 
-    /// Puts a pair in the place of the one at an index, which it gives back. No memory is taken. That
-    /// the keys still ascend is the caller's care.
+    /// Puts a pair in the place of the one at an index, which it gives back. No memory is taken.
+    /// That the keys still ascend is the caller's care.
     pub fn set(&mut self, at: usize, pair: Pair) -> Pair
         requires { at < length self.old }
         ensures set { self.new ≡ slice_set self.old at pair }

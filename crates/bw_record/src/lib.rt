@@ -5,9 +5,9 @@
 //! stand once in memory, and whoever holds the pair shares them. So does a packed record. A leaf is
 //! a page: its number, its low key, and its pairs in the order of their keys.
 //!
-//! A block says what became of one page: it is set (`Base`), changed by records (`Delta`) or split in
-//! two (`Split`). A frame is the blocks that one flush writes. `version` has the numbers in which
-//! the two formats differ.
+//! A block says what became of one page: it is set (`Base`), changed by records (`Delta`) or split
+//! in two (`Split`). A frame is the blocks that one flush writes. `version` has the numbers in
+//! which the two formats differ.
 //!
 //! Lengths are kept by the types: a `Key` has 1 to 128 bytes and a `Value` 0 to 512, so nobody
 //! above has to ask. Keys are ordered by their bytes, a beginning before its continuation.

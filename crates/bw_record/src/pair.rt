@@ -34,8 +34,8 @@ impl Pair {
         Pair::of_bytes(alloc, key.as_slice(), value.as_slice())
     }
 
-    /// The key and the value of these bytes, which have their lengths. It takes memory, whose refusal
-    /// is the only error.
+    /// The key and the value of these bytes, which have their lengths. It takes memory, whose
+    /// refusal is the only error.
     pub fn of_bytes(alloc: Global, key: &[u8], value: &[u8]) -> Result<Pair, AllocError>
         requires some { 1 ≤ length key.now }
         requires key { length key.now ≤ 128 }

@@ -52,13 +52,13 @@ impl<W: Watch> Ask<W> for Compacting {
     }
 }
 
-/// Writes all pairs of the store in a folder into a new store, by these options, in a new folder. Its
-/// pages are full, but for the last one, and stand in the order of their keys. There are so many
-/// leases. It is refused as `copy` is, and `Home` if the options allow no store, or the leases too few
-/// segments.
+/// Writes all pairs of the store in a folder into a new store, by these options, in a new folder.
+/// Its pages are full, but for the last one, and stand in the order of their keys. There are so
+/// many leases. It is refused as `copy` is, and `Home` if the options allow no store, or the leases
+/// too few segments.
 ///
-/// Pages are read one by one, so it takes memory for the bytes of both logs, and of a copy of the new
-/// one.
+/// Pages are read one by one, so it takes memory for the bytes of both logs, and of a copy of the
+/// new one.
 pub fn compact<R: System, W: Watch>(
     rt: &R,
     from: &str,

@@ -8,8 +8,8 @@ use std::alloc::{AllocError, Global};
 /// No pairs have so many bytes together.
 const ENOUGH: u64 = u64::MAX / 2;
 
-/// Pairs in the order of their keys: a row of digests, one for each of them, of which each goes on from
-/// the one before it.
+/// Pairs in the order of their keys: a row of digests, one for each of them, of which each goes on
+/// from the one before it.
 #[derive(Drop)]
 pub(crate) struct Tally {
     row: Row,
@@ -69,16 +69,16 @@ impl Tally {
     }
 }
 
-/// What a new folder has to hold: these segments, byte by byte, and no other, and these pairs, if their
-/// tally is there.
+/// What a new folder has to hold: these segments, byte by byte, and no other, and these pairs, if
+/// their tally is there.
 #[derive(Clone, Copy)]
 pub(crate) struct Wanted<'a> {
     pub(crate) images: &'a [Image],
     pub(crate) tally: Option<&'a Tally>,
 }
 
-/// Whether a segment that was read is one of these: it has a byte, and another one of its lease has the
-/// same.
+/// Whether a segment that was read is one of these: it has a byte, and another one of its lease has
+/// the same.
 fn is_among(images: &[Image], read: &Image) -> bool {
     let mut its = images.iter().filter(|image| image.lease == read.lease);
     match its.next() {

@@ -42,8 +42,8 @@ fn live_of(images: Vec<Image>) -> Result<Vec<Image>, AllocError> {
     Ok(live)
 }
 
-/// Copies the live segments of a folder, byte by byte, into a new one, with a digest for each of their
-/// pieces, and the times that are noted of its frames. It opens as the store of that moment:
+/// Copies the live segments of a folder, byte by byte, into a new one, with a digest for each of
+/// their pieces, and the times that are noted of its frames. It opens as the store of that moment:
 /// before it gets its name, its bytes are read again and compared, and recovery has to accept them.
 /// There are so many leases.
 ///

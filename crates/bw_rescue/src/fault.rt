@@ -30,8 +30,8 @@ pub enum RescueFault {
     Unlike,
     /// The log has the frames from the first to the last, and not the one that was asked for.
     NoFrame { first: u64, last: u64 },
-    /// What the log was at the frame that was asked for went with a segment that a cleaning gave up:
-    /// the second one is the oldest frame that can be restored.
+    /// What the log was at the frame that was asked for went with a segment that a cleaning gave
+    /// up: the second one is the oldest frame that can be restored.
     GivenUp { frame: u64, oldest: u64 },
 }
 

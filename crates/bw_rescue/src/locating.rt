@@ -18,7 +18,8 @@ use std::fmt::{self, Display, Formatter};
 pub enum Located {
     /// The first fault of a file.
     Hurt(Hurt),
-    /// Between the segments in these files, named by their leases, those with these numbers are missing.
+    /// Between the segments in these files, named by their leases, those with these numbers are
+    /// missing.
     Segments {
         first: u64,
         last: u64,
@@ -227,9 +228,10 @@ fn list_of(alloc: Global, found: Option<Located>) -> Result<Vec<Located>, Rescue
     Ok(list)
 }
 
-/// Where that stands for which recovery refused the folder of this path, which is not changed: bytes
-/// that are no frame, what is missing between two segments, or the oldest one if a page is not whole.
-/// Nothing is known of other causes. There are so many leases. It reads the folder once more.
+/// Where that stands for which recovery refused the folder of this path, which is not changed:
+/// bytes that are no frame, what is missing between two segments, or the oldest one if a page is
+/// not whole. Nothing is known of other causes. There are so many leases. It reads the folder once
+/// more.
 pub fn locate<R: System>(
     rt: &R,
     path: &str,

@@ -10,8 +10,8 @@ pub enum Loss {
     File { lease: u32, fault: FolderFault },
     /// The digests beside the file of a lease were not read: its pieces were taken without them.
     Sums { lease: u32, fault: FolderFault },
-    /// A piece of a file, from one byte to another, has not its digest, and is no frame but has some:
-    /// these were taken as they are.
+    /// A piece of a file, from one byte to another, has not its digest, and is no frame but has
+    /// some: these were taken as they are.
     Unchecked { lease: u32, from: u64, to: u64 },
     /// The file of a lease ends at a byte, and its digests say that it went on to another.
     Missing { lease: u32, from: u64, to: u64 },

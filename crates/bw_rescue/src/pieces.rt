@@ -1,4 +1,5 @@
-//! The pieces of a file by the sums beside it, of which each is looked at, be others damaged or not.
+//! The pieces of a file by the sums beside it, of which each is looked at, be others damaged or
+//! not.
 //! `bw_digest::check`, by which a file is opened, ends at the first that does not fit.
 
 use bw_digest::{Row, SUM_LEN, Sum};

@@ -103,8 +103,8 @@ struct Restored {
     then: Judged,
 }
 
-/// The page that a block sets, and from which frame on a log has to be kept for that: a Split makes its
-/// page, which was not there before.
+/// The page that a block sets, and from which frame on a log has to be kept for that: a Split makes
+/// its page, which was not there before.
 fn set_by(row: &BlockRow) -> Option<(u32, u64)> {
     match row.kind {
         Kind::Base => Some((row.page, row.frame)),
@@ -113,8 +113,8 @@ fn set_by(row: &BlockRow) -> Option<(u32, u64)> {
     }
 }
 
-/// The oldest frame as of which a sound log can be restored, of which this frame is the first that it
-/// has: each page that was there is set in a frame up to that one.
+/// The oldest frame as of which a sound log can be restored, of which this frame is the first that
+/// it has: each page that was there is set in a frame up to that one.
 fn oldest_of(alloc: Global, survey: &Survey, first: u64) -> Result<u64, AllocError> {
     let mut seen = BTreeMap::new(alloc);
     let mut oldest = first;

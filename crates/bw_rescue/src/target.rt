@@ -51,8 +51,8 @@ fn write_images<R: System, W: Watch>(
     Ok(())
 }
 
-/// What recovery says of segments that were written and read again. Their pairs have this tally, if there
-/// is one.
+/// What recovery says of segments that were written and read again. Their pairs have this tally, if
+/// there is one.
 fn judge_again<W: Watch>(
     alloc: Global,
     images: Vec<Image>,
@@ -112,9 +112,9 @@ impl Making {
     }
 
     /// Reads what was written again, compares it with what it has to be, waits until it stands, and
-    /// gives it its name; answers what it holds. If it has the frames of another folder, the times that
-    /// this one has noted of them go with it, as far as they can be written: a folder without them is
-    /// whole.
+    /// gives it its name; answers what it holds. If it has the frames of another folder, the times
+    /// that this one has noted of them go with it, as far as they can be written: a folder without
+    /// them is whole.
     pub(crate) fn end<R: System, W: Watch>(
         self,
         rt: &R,

@@ -1,5 +1,5 @@
-//! The pairs of a store, page by page, in the order of their keys. No more of them than one page is in
-//! memory.
+//! The pairs of a store, page by page, in the order of their keys. No more of them than one page is
+//! in memory.
 
 ghost use Rattle.bw_care.specs.Found.{IsRecovered};
 

@@ -1,4 +1,5 @@
-// An owner of the block of a run, with the allocator that the block goes back to, which takes no bytes.
+// An owner of the block of a run, with the allocator that the block goes back to, which takes no
+// bytes.
 ghost use Rattle.std.specs.Prelude.{◌≡◌, ◌∷◌, ◌++◌, ◌<◌, ◌^◌, List, ℕ, IfOk, IfSome};
 ghost use Rattle.bw_run.specs.Ownership.{run_owns, run_shares};
 
@@ -12,8 +13,8 @@ use std::sync::atomic::raw;
 // No run is longer: its length has two bytes.
 const MOST: usize = 65_535;
 
-/// Bytes in one run of memory, which its owners share. A run of more than 65,535 bytes is refused as
-/// one for which there is no memory.
+/// Bytes in one run of memory, which its owners share. A run of more than 65,535 bytes is refused
+/// as one for which there is no memory.
 pub struct Run {
     pub(crate) ptr: *const Head,
     pub(crate) alloc: Global,

@@ -54,7 +54,8 @@ pub enum Answer {
     Walk(u64),
     /// What was given up with the oldest segment.
     Cleaned(Cleaned),
-    /// What was given up with the oldest segment, and by how many bytes the live segments got shorter.
+    /// What was given up with the oldest segment, and by how many bytes the live segments got
+    /// shorter.
     Won(Cleaned, u64),
     Rolled,
     /// The bytes of a segment.

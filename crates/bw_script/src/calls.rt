@@ -429,7 +429,8 @@ pub fn answer<R: System>(rt: &R, home: &mut Home, request: Request) -> Result<An
         Request::Backup(to) => backup_served(rt, home, &to),
         Request::Durable => Ok(Answer::Durable(durable(home))),
         Request::Pages => Ok(Answer::Pages(home.store.pages())),
-        // What hangs on a key is decided before, and put as a command; many pairs are put one by one.
+        // What hangs on a key is decided before, and put as a command; many pairs are put one by
+        // one.
         Request::If(_) | Request::PutMany(_) => Ok(Answer::Kept),
         Request::Stats | Request::Reopen | Request::Quit => Ok(Answer::Stats(Standing::NONE)),
     }

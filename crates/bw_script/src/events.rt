@@ -46,8 +46,8 @@ impl Standing {
         tally: Tally::NONE,
     };
 
-    /// Whether the segments that a store uses are four fifths of the most that there may be. One that
-    /// is kept for the cleaner counts as used.
+    /// Whether the segments that a store uses are four fifths of the most that there may be. One
+    /// that is kept for the cleaner counts as used.
     pub fn is_near(&self, home: &Home) -> bool
         requires { IsReady home.now holding }
     {

@@ -248,8 +248,8 @@ fn refusal_of(end: &Result<Told, KeysFault>) -> Option<Refusal> {
     }
 }
 
-/// Says which file of a folder keeps a run out, if there is no lease for it; and which are at fault, if
-/// recovery refused them.
+/// Says which file of a folder keeps a run out, if there is no lease for it; and which are at
+/// fault, if recovery refused them.
 fn tell_files<R: Host, E: Write>(
     rt: &R,
     dir: &str,

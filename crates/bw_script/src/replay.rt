@@ -167,8 +167,8 @@ impl Ended {
     }
 }
 
-/// Says that the folder was opened once more: which frame is its last, and how many records that were
-/// accepted are gone.
+/// Says that the folder was opened once more: which frame is its last, and how many records that
+/// were accepted are gone.
 fn print_reopened<O: Write>(output: &mut O, frame: u64, lost: u64) -> Result<(), Stop> {
     let mut out = Printer::new(output);
     out.named("reopened frame ", frame);
@@ -857,8 +857,8 @@ impl<I: Read + Drop, O: Write, W: Watch> Script<'_, I, O, W> {
         }
     }
 
-    /// Ends the run before its first line, if the store may not be opened so. What a stop left half done
-    /// of tables is finished before the first call on them.
+    /// Ends the run before its first line, if the store may not be opened so. What a stop left half
+    /// done of tables is finished before the first call on them.
     fn check(&mut self, home: &mut Home)
         requires { IsReady home.old holding }
         ensures { IsReady home.new holding }

@@ -1,8 +1,8 @@
-//! What the store below has of tables, without their values: how many rows a table has, and how many
-//! bytes of log a call on tables takes.
+//! What the store below has of tables, without their values: how many rows a table has, and how
+//! many bytes of log a call on tables takes.
 //!
-//! A call writes many groups, and no spare is added between two of them. So it is reckoned before how
-//! much it writes at most, and the room for that is made.
+//! A call writes many groups, and no spare is added between two of them. So it is reckoned before
+//! how much it writes at most, and the room for that is made.
 
 ghost use Rattle.bw_home.specs.Ready.{IsReady};
 
@@ -20,8 +20,8 @@ use std::alloc::Global;
 /// How many pairs of the store are looked at in one search.
 const PART: usize = 512;
 
-/// The kinds of keys that say what is left half done: numbers whose chunks go away, and tables whose
-/// rows do.
+/// The kinds of keys that say what is left half done: numbers whose chunks go away, and tables
+/// whose rows do.
 const DOOMED: u8 = 2;
 
 const GONE: u8 = 3;
@@ -39,8 +39,8 @@ const ROW: u8 = 8;
 /// pages.
 const CALL: u64 = 65_536;
 
-/// More than a record adds beside twice its bytes, which go in with it, and once more as its page is
-/// split.
+/// More than a record adds beside twice its bytes, which go in with it, and once more as its page
+/// is split.
 const RECORD: u64 = 128;
 
 /// More than the put of a chunk adds.
@@ -148,8 +148,8 @@ pub fn has_batch(home: &mut Home) -> Result<bool, StoreFault>
     Ok(home.get(&stands_key())?.is_some())
 }
 
-/// Adds the pairs of a part whose keys begin so, and answers where the next part begins, if there may
-/// be one.
+/// Adds the pairs of a part whose keys begin so, and answers where the next part begins, if there
+/// may be one.
 fn add_part(sum: &mut Sum, front: &Key, part: &[Pair]) -> Option<Key> {
     for pair in part {
         if !pair.key().starts_with(front.as_slice()) {
@@ -290,8 +290,8 @@ fn old_bytes(home: &mut Home, name: &Name, key: &RowKey) -> Result<u64, StoreFau
     }
 }
 
-/// How many bytes a change takes at most, but for the old value. Its row may go in twice, as that of a
-/// batch does.
+/// How many bytes a change takes at most, but for the old value. Its row may go in twice, as that
+/// of a batch does.
 fn new_bytes(change: &Change) -> u64 {
     let key = change.key.as_slice().len() as u64;
     let length = match &change.value {
@@ -337,7 +337,8 @@ fn drop_bytes(alloc: Global, home: &mut Home, name: &Name) -> Result<u64, StoreF
     }
 }
 
-/// How many bytes of log a call takes at most, without a look at the store; `None` if one is needed.
+/// How many bytes of log a call takes at most, without a look at the store; `None` if one is
+/// needed.
 pub fn quick_bytes(call: &TableCall) -> Option<u64> {
     match call {
         TableCall::Change(change) => {

@@ -1,5 +1,5 @@
-//! What `bwlog shell` does beside a request: it keeps what was put before it waits for a line, walks
-//! over all pairs of a listing, a part of them at a time, and prints answers for a person.
+//! What `bwlog shell` does beside a request: it keeps what was put before it waits for a line,
+//! walks over all pairs of a listing, a part of them at a time, and prints answers for a person.
 
 ghost use Rattle.bw_home.specs.Ready.{IsReady};
 
@@ -101,8 +101,8 @@ impl Shell {
         self.has_put = true;
     }
 
-    /// Begins to keep what was put, if something was, no listing goes on, and the next line has to be
-    /// waited for.
+    /// Begins to keep what was put, if something was, no listing goes on, and the next line has to
+    /// be waited for.
     pub fn keep_before_wait(&mut self, waits: bool) {
         if self.walk.is_none() && self.has_put && (waits || self.is_over) {
             self.is_keeping = true;

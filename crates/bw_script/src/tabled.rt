@@ -1,5 +1,5 @@
-//! A store of tables that is served. Before a call on tables there is room made for all that it writes,
-//! and what a stop or a refusal left half done is finished.
+//! A store of tables that is served. Before a call on tables there is room made for all that it
+//! writes, and what a stop or a refusal left half done is finished.
 
 ghost use Rattle.bw_home.specs.Ready.{IsReady};
 

@@ -119,8 +119,8 @@ pub fn tell_far<R: System, E: Write>(rt: &R, dir: &str, errors: &mut E) -> Resul
     }
 }
 
-/// Says which files of a folder are at fault, that recovery refused for this cause, as far as that is
-/// known. A folder that cannot be read any more says nothing here.
+/// Says which files of a folder are at fault, that recovery refused for this cause, as far as that
+/// is known. A folder that cannot be read any more says nothing here.
 pub fn tell_located<R: System, E: Write>(
     rt: &R,
     dir: &str,

@@ -17,8 +17,8 @@ const LONGEST: u32 = 2_097_152;
 /// The least capacity of a copy, in bytes: a header and the longest frame.
 pub const LEAST: u64 = HEADER_LEN as u64 + MAX_FRAME as u64;
 
-/// The segments of a folder that is open, by their leases. One whose bytes do not fit the sums beside
-/// it is refused.
+/// The segments of a folder that is open, by their leases. One whose bytes do not fit the sums
+/// beside it is refused.
 fn images_under<R: System, W: Watch>(
     rt: &R,
     path: &str,

@@ -24,8 +24,8 @@ pub struct Judged {
     pub fills: Vec<u64>,
 }
 
-/// How many bytes a page has as a Base: a pair is its key and value, with one byte for the length of
-/// the key and two for that of the value.
+/// How many bytes a page has as a Base: a pair is its key and value, with one byte for the length
+/// of the key and two for that of the value.
 fn base_length(leaf: &Leaf) -> u64 {
     let mut length = 8 + leaf.low.as_slice().len() as u64;
     for pair in leaf.pairs.as_slice() {

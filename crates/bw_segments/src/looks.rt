@@ -100,7 +100,8 @@ fn print_numbers<O: Write>(
     Ok(Met::NOTHING)
 }
 
-/// Draws segments, once recovery has found them to be those of a log. Each has room for so many bytes.
+/// Draws segments, once recovery has found them to be those of a log. Each has room for so many
+/// bytes.
 fn draw_images<O: Write>(
     alloc: Global,
     images: &[Image],

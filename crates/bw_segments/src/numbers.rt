@@ -1,4 +1,5 @@
-//! The numbers of `bwlog stats` as an object of JSON: each line is a member, by the words of its text.
+//! The numbers of `bwlog stats` as an object of JSON: each line is a member, by the words of its
+//! text.
 
 use bw_look::Printer;
 use std::io::Write;

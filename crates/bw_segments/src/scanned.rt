@@ -45,8 +45,8 @@ impl<O: Write, W: Watch> Ask<W> for Scanning<'_, O> {
     }
 }
 
-/// Prints what recovery says of segments: those of a folder, or lines in hex. No more of them is kept
-/// than their bytes, and no more of the pages than one.
+/// Prints what recovery says of segments: those of a folder, or lines in hex. No more of them is
+/// kept than their bytes, and no more of the pages than one.
 pub fn scan<R: System, I: Read, O: Write, W: Watch>(
     rt: &R,
     dir: Option<&str>,

@@ -1,5 +1,6 @@
-//! What boxes of a site hold: a store, which is settled once recovery has taken it; or the beginning of
-//! a first frame only. Then no store was ever there, and nothing is lost if it is cleared.
+//! What boxes of a site hold: a store, which is settled once recovery has taken it; or the
+//! beginning of a first frame only. Then no store was ever there, and nothing is lost if it is
+//! cleared.
 
 ghost use Rattle.std.specs.Prelude.{◌≡◌, true, IfOk, OnOk, OnErr};
 ghost use Rattle.bw_care.specs.Found.{IsRecovered};
@@ -62,8 +63,8 @@ fn cleared<R: System>(
     Ok(Found::none(count, beginning.bytes))
 }
 
-/// The store that these boxes of the site hold. Their files are settled once recovery has taken them,
-/// and not before: if there is none, they stay unsettled.
+/// The store that these boxes of the site hold. Their files are settled once recovery has taken
+/// them, and not before: if there is none, they stay unsettled.
 pub fn held_in<R: System>(
     rt: &R,
     site: &mut Site,

@@ -1,10 +1,10 @@
-//! Where the segments of a store stand: in memory, or in the files of a folder, and what is looked at,
-//! made and emptied there beside the store.
+//! Where the segments of a store stand: in memory, or in the files of a folder, and what is looked
+//! at, made and emptied there beside the store.
 //!
-//! A `Site` makes segments, each with a lease of its desk. A `Stock` is a site that knows which file
-//! is still to be emptied, and which segments were made and are no spares yet: a stop must never
-//! show a later segment gone and an earlier one still there. `look` reads a folder before anything
-//! is written in it.
+//! A `Site` makes segments, each with a lease of its desk. A `Stock` is a site that knows which
+//! file is still to be emptied, and which segments were made and are no spares yet: a stop must
+//! never show a later segment gone and an earlier one still there. `look` reads a folder before
+//! anything is written in it.
 #![tactic(auto)]
 
 mod beginning;

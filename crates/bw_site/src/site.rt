@@ -154,7 +154,8 @@ impl Site {
         }
     }
 
-    /// Settles the files of all segments: what recovery found has to stand before anything follows it.
+    /// Settles the files of all segments: what recovery found has to stand before anything follows
+    /// it.
     pub fn settle<R: System>(&mut self, rt: &R) -> Result<(), HomeFault>
         ensures refused { IfErr result IsOfSite }
         ensures settled { OnOk result (self.new.is_settled ≡ true) }

@@ -71,8 +71,8 @@ impl Stock {
     }
 
     /// Notes that the segment of this lease was given up: its file is to be emptied. That of an
-    /// earlier one has to be emptied before, since a stop must never show a later segment gone and an
-    /// earlier one still there.
+    /// earlier one has to be emptied before, since a stop must never show a later segment gone and
+    /// an earlier one still there.
     pub fn give_up(&mut self, lease: u32)
         requires { IsNone self.old.given_up }
         ensures noted { self.new.given_up ≡ Some lease }
@@ -91,8 +91,8 @@ impl Stock {
         self.is_owed = true;
     }
 
-    /// Empties the file of the segment that was given up last. Refused, it is tried again by the next
-    /// call.
+    /// Empties the file of the segment that was given up last. Refused, it is tried again by the
+    /// next call.
     pub fn empty<R: System>(&mut self, rt: &R) -> Result<(), HomeFault>
         ensures refused { IfErr result IsOfSite }
         ensures emptied { OnOk result (IsNone self.new.given_up) }

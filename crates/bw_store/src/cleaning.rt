@@ -49,7 +49,8 @@ impl Store {
         ensures follows { Continues (kept_by self.old holding) (kept_by self.new holding) }
         ensures boxes { HasBoxesAfter 1 (kept_by self.old holding) result (kept_by self.new holding) }
 
-        // As the machine: all that was taken is kept and then shown, and what a stop leaves is found.
+        // As the machine: all that was taken is kept and then shown, and what a stop leaves is
+        // found.
         ensures runs { RunsAs (kept_by self.old holding) result (kept_by self.new holding) }
     {
         let cleaned = self.core.clean()?;
@@ -93,7 +94,8 @@ impl Store {
         ensures counts { CountsUpgrade (kept_by self.old holding) (noted_of self.old).tally result
             (kept_by self.new holding) (noted_of self.new).tally }
 
-        // As the machine: all that was taken is kept and then shown, and what a stop leaves is found.
+        // As the machine: all that was taken is kept and then shown, and what a stop leaves is
+        // found.
         ensures runs { RunsAs (kept_by self.old holding) result (kept_by self.new holding) }
     {
         let upgraded = self.core.upgrade()?;
@@ -129,7 +131,8 @@ impl Store {
         ensures no_page { IsErrOf result StoreFault.NoPage
             ↔ (are_pages (length (kept_by self.old holding).filed.leaves) pages.now ≡ false) }
 
-        // As the machine: all that was taken is kept and then shown, and what a stop leaves is found.
+        // As the machine: all that was taken is kept and then shown, and what a stop leaves is
+        // found.
         ensures runs { RunsAs (kept_by self.old holding) result (kept_by self.new holding) }
     {
         let frames = self.core.rewrite(pages)?;

@@ -36,7 +36,8 @@ impl Store {
         ensures leaves { FlushShows (kept_by self.old holding) result (kept_by self.new holding) }
         ensures settled { OnOk result (IsSettled (kept_by self.new holding)) }
 
-        // As the machine: all that was taken is kept and then shown, and what a stop leaves is found.
+        // As the machine: all that was taken is kept and then shown, and what a stop leaves is
+        // found.
         ensures runs { RunsAs (kept_by self.old holding) result (kept_by self.new holding) }
     {
         let number = self.core.flush()?;

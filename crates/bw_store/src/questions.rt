@@ -91,8 +91,8 @@ impl Store {
     /// have a block of it, from the last that says all of it on. It is 0 if no frame has the page
     /// yet, and `None` if there is no such page, evicted or not. `rewrite` makes it 1.
     ///
-    /// No memory is taken, and it costs the same for each page. Whoever evicts pages asks this first,
-    /// and writes a page again whose walk is long, so that bringing it back stays cheap.
+    /// No memory is taken, and it costs the same for each page. Whoever evicts pages asks this
+    /// first, and writes a page again whose walk is long, so that bringing it back stays cheap.
     pub fn walk_of(&self, page: u32) -> Option<u64>
         requires { IsSound self.now holding }
         ensures { MatchOption (leaf_at page (leaves_now (kept_by self.now holding)))
@@ -137,8 +137,8 @@ impl Store {
     /// `clean` writes again if it is the oldest, nothing waits in the frame in the making, and no
     /// append fails. `None` if there is no such segment. `bwlog stats` shows this as `rewritten`.
     ///
-    /// No memory is taken and nothing is read. It costs a look at the line of each frame and of each
-    /// page, and at the pairs of each page that is counted and in memory.
+    /// No memory is taken and nothing is read. It costs a look at the line of each frame and of
+    /// each page, and at the pairs of each page that is counted and in memory.
     pub fn needed(&self, i: u32) -> Option<u64>
         requires { IsSound self.now holding }
         ensures { MatchOption (slice_get (kept_by self.now holding).log.live i)

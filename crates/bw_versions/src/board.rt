@@ -115,8 +115,8 @@ impl Board {
         share_stretch(&self.leaves, key, most, found)
     }
 
-    /// Appends entries, all or none: a refusal changes nothing. No record is copied: the pages share
-    /// its bytes. Each is looked for on the page that was guessed for its entry.
+    /// Appends entries, all or none: a refusal changes nothing. No record is copied: the pages
+    /// share its bytes. Each is looked for on the page that was guessed for its entry.
     pub fn publish(&mut self, more: &[PackedEntry]) -> Result<(), ApplyError>
         ensures added { OnOk result
             (self.new ≡ record self.old { entries = self.old.entries ++ more.now }) }

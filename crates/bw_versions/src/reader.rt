@@ -141,8 +141,8 @@ impl<L: Looker> ReaderOf<L> {
     }
 
     /// The pairs at or above a key in what was published, in order and no more than so many. All
-    /// are of one version: no publication comes between two of them. Their bytes are not copied, and
-    /// stay in memory as long as a pair does that was found.
+    /// are of one version: no publication comes between two of them. Their bytes are not copied,
+    /// and stay in memory as long as a pair does that was found.
     ///
     /// It costs a search and a look for each page, and a look at each pair; meanwhile a publication
     /// waits. Refused `NoReader` as `get` is, or `NoMemory`.

@@ -173,7 +173,8 @@ impl Frames {
         Ok(())
     }
 
-    /// Ends the frame: it stands in a segment, and the next one is empty. A refusal changes nothing.
+    /// Ends the frame: it stands in a segment, and the next one is empty. A refusal changes
+    /// nothing.
     pub fn end_frame(&mut self) -> Result<(), WholeFault>
         ensures ok { OnOk result (self.new ≡ with_frame self.old) }
         ensures cause { IfErr result (λ cause. cause ≡ FaultValue.NotAbove → ⊥) }

@@ -59,8 +59,9 @@ fn are_limits(m: u16, f: u32, room: u64) -> bool
 }
 
 impl Writer {
-    /// A log without pairs: pages of at most `m` pairs, 4 to 32, frames of at most `f` bytes, 65,536
-    /// to 262,144, and segments of at most `room` bytes, from a header and a frame to 1 GiB. Else
+    /// A log without pairs: pages of at most `m` pairs, 4 to 32, frames of at most `f` bytes,
+    /// 65,536 to 262,144, and segments of at most `room` bytes, from a header and a frame to 1 GiB.
+    /// Else
     /// `BadConfig`.
     pub fn new(alloc: Global, m: u16, f: u32, room: u64) -> Result<Writer, WholeFault>
         ensures ok { IfOk result (λ writer. writer ≡ without_pairs m f room) }
@@ -212,8 +213,8 @@ impl Writer {
         self.pairs.push_reserved(pair);
     }
 
-    /// Ends the log: its segments, the oldest first, each as its bytes. The last page stands in them,
-    /// be it full or not, and an empty page 1 if no pair was put.
+    /// Ends the log: its segments, the oldest first, each as its bytes. The last page stands in
+    /// them, be it full or not, and an empty page 1 if no pair was put.
     pub fn end(self) -> Result<Vec<Vec<u8>>, WholeFault>
         ensures { IfOk result (λ segments. bytes_of segments.items ≡ finished self) }
     {

@@ -1,4 +1,5 @@
-//! One line of a program that drives tables: a call on them, a request to the store below, or a fault.
+//! One line of a program that drives tables: a call on them, a request to the store below, or a
+//! fault.
 
 use crate::miss::Miss;
 use crate::request::{MOST_PAIRS, Request, path_of};

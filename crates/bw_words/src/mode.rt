@@ -209,8 +209,8 @@ impl<'a> Mode<'a> {
 /// The options of `replay`, and of `serve` and `threads` likewise.
 #[derive(Clone, Copy)]
 pub struct Options<'a> {
-    /// The store: 2 to 64 segments at the beginning, with room for 65,560 to 16,777,216 bytes each; in
-    /// a folder up to 4,096, and up to 1 GiB.
+    /// The store: 2 to 64 segments at the beginning, with room for 65,560 to 16,777,216 bytes each;
+    /// in a folder up to 4,096, and up to 1 GiB.
     pub store: bw_home::Options,
     /// The folder in which they are; in memory if there is none.
     pub dir: Option<&'a str>,
@@ -218,8 +218,8 @@ pub struct Options<'a> {
     pub reuse: bool,
     /// How the words of its lines give their bytes.
     pub reading: Reading,
-    /// Up to how many segments a store adds by itself, 2 to 64, in a folder to 4,096; 0 if it makes no
-    /// room by itself.
+    /// Up to how many segments a store adds by itself, 2 to 64, in a folder to 4,096; 0 if it makes
+    /// no room by itself.
     pub most: u32,
     /// Whether `m` was given, and is no default.
     pub gives_m: bool,

@@ -13,8 +13,8 @@ use std::fmt::{self, Display, Formatter};
 pub enum Refusal {
     /// A call on a store or on its log.
     Store(StoreFault),
-    /// What the segments hold is no store; of bytes that cannot be read, the segment is its position
-    /// in the list, from 0.
+    /// What the segments hold is no store; of bytes that cannot be read, the segment is its
+    /// position in the list, from 0.
     Recovery(RecoverCause),
     /// A frame that was asked for is none of those that the log has.
     NoFrame { first: u64, last: u64 },

@@ -105,8 +105,8 @@ fn writer_of(word: &str, writers: usize) -> Result<usize, Fault> {
     }
 }
 
-/// The bytes that a word stands for in this reading; those of hex digits come to the front of `room`.
-/// The room is enough for a value, and a key is shorter.
+/// The bytes that a word stands for in this reading; those of hex digits come to the front of
+/// `room`. The room is enough for a value, and a key is shorter.
 pub fn bytes_of<'a>(
     reading: Reading,
     word: &'a [u8],

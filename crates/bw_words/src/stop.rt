@@ -26,7 +26,8 @@ pub enum Stop {
     Output,
     /// The folder of the segments could not be opened, read or written.
     Folder(FolderFault),
-    /// The folder that is read was not opened, or a file in it is damaged, and another one is written.
+    /// The folder that is read was not opened, or a file in it is damaged, and another one is
+    /// written.
     Source(FolderFault),
     /// The folder in which the new one is made, whose name ends in `.partial`, was not made.
     Partial(FolderFault),
@@ -48,11 +49,11 @@ pub enum Stop {
     Within,
     /// What was given as a time is none.
     BadTime,
-    /// No frame of the folder that is read was noted at this moment or before it. The first one that
-    /// was is this, if there is one.
+    /// No frame of the folder that is read was noted at this moment or before it. The first one
+    /// that was is this, if there is one.
     NotNoted(Moment, Option<Note>),
-    /// The folder that is read has not all that it was at this frame: a segment was given up since. The
-    /// other one is the oldest frame that can be restored.
+    /// The folder that is read has not all that it was at this frame: a segment was given up since.
+    /// The other one is the oldest frame that can be restored.
     GivenUp { frame: u64, oldest: u64 },
 }
 

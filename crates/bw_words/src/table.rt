@@ -397,8 +397,8 @@ const THREADS: [Row; 15] = [
     },
 ];
 
-/// A mode of the program: its name, what it does, its options in the order of the help, and a line of
-/// its use.
+/// A mode of the program: its name, what it does, its options in the order of the help, and a line
+/// of its use.
 pub struct Form {
     pub name: &'static str,
     pub about: &'static str,

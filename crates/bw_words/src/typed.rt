@@ -1,4 +1,5 @@
-//! One line of a shell: words as a person types them, with quotes and escapes, and what they ask for.
+//! One line of a shell: words as a person types them, with quotes and escapes, and what they ask
+//! for.
 
 use crate::request::{Condition, MOST_PAIRS, Request};
 use crate::script::{Command, LONGEST, number_of};
@@ -364,8 +365,8 @@ fn too_many(name: &str) -> NotTyped {
     }
 }
 
-/// What a line asks for. A word that is not quoted and begins with `0x` is hex, and any other is its
-/// own bytes.
+/// What a line asks for. A word that is not quoted and begins with `0x` is hex, and any other is
+/// its own bytes.
 pub fn parse_typed(alloc: Global, line: &[u8]) -> Result<Typed, NotTyped> {
     let words = words_of(alloc, line)?;
     match words.as_slice() {

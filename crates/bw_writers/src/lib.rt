@@ -1,5 +1,5 @@
-//! The mode `threads` of the program `bwlog`: each writer's script is run by a thread of its own over
-//! one store, and readers look keys up meanwhile.
+//! The mode `threads` of the program `bwlog`: each writer's script is run by a thread of its own
+//! over one store, and readers look keys up meanwhile.
 #![tactic(auto)]
 
 mod legs;

@@ -28,8 +28,8 @@ pub fn is_due(home: &SharedHome, pace: Pace) -> bool
     pace.clean_at != 0 && home.store.live() >= pace.clean_at && home.store.pays()
 }
 
-/// Whether a cleaning of the oldest segment writes at most half of what it gives back, and makes the
-/// log shorter.
+/// Whether a cleaning of the oldest segment writes at most half of what it gives back, and makes
+/// the log shorter.
 fn wins(home: &SharedHome, capacity: u64) -> bool
     requires { IsShared home.now holding }
 {

@@ -79,8 +79,8 @@ fn write_accepted<O: Write>(out: &mut Printer<'_, O>, accepted: &[u64], lengths:
     gave_up
 }
 
-/// Prints how many pairs a reader has, and answers whether it saw a key go back, or has not as many as
-/// the store.
+/// Prints how many pairs a reader has, and answers whether it saw a key go back, or has not as many
+/// as the store.
 fn write_reader<O: Write>(out: &mut Printer<'_, O>, number: usize, seen: Seen, pairs: u64) -> bool {
     out.named("reader ", number);
     out.line(" pairs ", seen.pairs);

@@ -1,4 +1,5 @@
-//! A module for each of `bw_codec`, `bw_buffer`, `bw_whole`, `bw_ring`, `bw_page` and `bw_versions`.
+//! A module for each of `bw_codec`, `bw_buffer`, `bw_whole`, `bw_ring`, `bw_page` and
+//! `bw_versions`.
 
 mod buffer;
 mod codec;

@@ -1,5 +1,5 @@
-//! Segments in memory for tests, of worked bytes and with a fuse, and what is read and recovered from
-//! boxes.
+//! Segments in memory for tests, of worked bytes and with a fuse, and what is read and recovered
+//! from boxes.
 #![tactic(auto)]
 
 mod logs;

@@ -1,5 +1,5 @@
-//! Segments in memory with the bytes of texts in hex, and what is recovered from boxes. Each crate of
-//! tests puts the segments into boxes itself.
+//! Segments in memory with the bytes of texts in hex, and what is recovered from boxes. Each crate
+//! of tests puts the segments into boxes itself.
 
 ghost use Rattle.std.specs.Prelude.{IfSome};
 ghost use Rattle.bw_care.specs.Found.{IsRecovered};
@@ -29,8 +29,9 @@ pub fn fused(
     Some(FuseSegment::new(segment, fuse.0, fuse.1))
 }
 
-/// So many segments of this capacity, with leases 0, 1, .., of which the first ones have the bytes of
-/// these texts in hex, and the others none; the first one fails so. And the desk of their leases.
+/// So many segments of this capacity, with leases 0, 1, .., of which the first ones have the bytes
+/// of these texts in hex, and the others none; the first one fails so. And the desk of their
+/// leases.
 pub fn segments_of(
     alloc: Global,
     many: usize,

@@ -1,7 +1,7 @@
 //! Calls that are asked again and again, each time with another of their allocations refused.
 //!
-//! A test makes what it needs, and then asks: `make memory` runs the tests of refused memory beside a
-//! shim that refuses allocations by `marks`, and without it each call is asked once, with memory.
+//! A test makes what it needs, and then asks: `make memory` runs the tests of refused memory beside
+//! a shim that refuses allocations by `marks`, and without it each call is asked once, with memory.
 
 use crate::marks::refuse;
 use std::sync::Wait;

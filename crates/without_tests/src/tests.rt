@@ -1,5 +1,6 @@
-//! Calls that take no memory: each allocation is refused while they run, none is asked for, and they
-//! answer as they do with memory. What may take some and is never refused is asked in the same way.
+//! Calls that take no memory: each allocation is refused while they run, none is asked for, and
+//! they answer as they do with memory. What may take some and is never refused is asked in the same
+//! way.
 
 mod bytes;
 mod ends;

@@ -12,7 +12,8 @@ use super::{HasRecord, Leaves};
 const ROW: usize = 8;
 
 impl Leaves {
-    /// Reads ahead what these records will look at, if the page of each is the one that was guessed.
+    /// Reads ahead what these records will look at, if the page of each is the one that was
+    /// guessed.
     pub(super) fn read_ahead<T: HasRecord>(&self, items: &[T]) -> u64 {
         self.read_fronts(items) ^ self.read_rows(items) ^ self.read_pairs(items)
     }

@@ -1,8 +1,9 @@
 //! Records applied as one: what takes each of them back is kept until the last is applied.
 //!
 //! A record that adds no pair takes back most of them: a put of the key's old value, or a delete of
-//! a key that had none. To put back a pair that was removed might take memory; there the leaf is kept
-//! as it was before. A page that was split is joined again in room that was made before the split.
+//! a key that had none. To put back a pair that was removed might take memory; there the leaf is
+//! kept as it was before. A page that was split is joined again in room that was made before the
+//! split.
 
 ghost use Rattle.std.specs.Prelude.{◌≡◌, ◌≤◌, ◌<◌, ◌+◌, [], length, map, vec_len, is_none, is_some, IfOk, IfSome, IsOk, IsErr, OnOk, OnErr, ◌⊎◌};
 ghost use Rattle.std.specs.Vec.{vec_capacity};

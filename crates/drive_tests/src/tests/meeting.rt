@@ -88,8 +88,8 @@ impl Gate for Sums {
     }
 }
 
-/// A ring of one place, one try and one turn at most: whether the turn comes early or late, one of three records is given up, the
-/// second or the third.
+/// A ring of one place, one try and one turn at most: whether the turn comes early or late, one of
+/// three records is given up, the second or the third.
 const GIVEN_UP: &Table = &Table {
     name: "given up",
     writers: 1,
@@ -136,8 +136,8 @@ fn each_record_passes_the_gate(rt: HostRuntime) {
     assert_eq!(rt; wrong_sums(&rt), None);
 }
 
-/// Keeps how many records of each of two writers were told as durable last, and whether that was ever
-/// fewer than before.
+/// Keeps how many records of each of two writers were told as durable last, and whether that was
+/// ever fewer than before.
 #[derive(Drop)]
 struct Receipts {
     first: AtomicU64,

@@ -98,8 +98,8 @@ pub(super) fn begun(entries: &[PackedEntry], keys: u32) -> Option<[u32; 64]> {
     Some(next)
 }
 
-/// Whether the entries are whole groups of scripts of mixed sizes: an entry has `more` just where the
-/// next of its writer's records stands in the same group, and then that one is the next entry.
+/// Whether the entries are whole groups of scripts of mixed sizes: an entry has `more` just where
+/// the next of its writer's records stands in the same group, and then that one is the next entry.
 pub(super) fn are_whole(entries: &[PackedEntry]) -> bool {
     let mut next: [u32; 64] = [0; 64];
     let mut behind: Option<u16> = None;

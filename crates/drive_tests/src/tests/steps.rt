@@ -72,8 +72,8 @@ fn are_taken(accepted: &[u64], taken: &[u32], part: Part, least: u64, most: u64)
     true
 }
 
-// Whether a run of so many feeds that ended well was to end so: each writer's records in the history
-// are all that its feed accepted, so many here, at least and at most.
+// Whether a run of so many feeds that ended well was to end so: each writer's records in the
+// history are all that its feed accepted, so many here, at least and at most.
 fn is_told(store: &Store, driven: &Driven, many: usize, run: &Run) -> bool {
     let Run(part, _, Ok((least, most))) = run else {
         return false;

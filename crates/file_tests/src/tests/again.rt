@@ -1,5 +1,5 @@
-//! The end of a file is written again when it is settled, if it has no sum: all of a short one, and of a
-//! long one as many bytes as a header and the longest frame have.
+//! The end of a file is written again when it is settled, if it has no sum: all of a short one, and
+//! of a long one as many bytes as a header and the longest frame have.
 
 use super::Watched;
 use super::steps::lease_of;
@@ -24,8 +24,8 @@ fn is_made(watched: &Watched, length: usize) -> bool {
         && fs::write(&rt, "again/segment-0000.bw", bytes.as_slice()).is_ok()
 }
 
-// What is written of it when it is settled: sums are made, the end is written, and the wait for that
-// fails.
+// What is written of it when it is settled: sums are made, the end is written, and the wait for
+// that fails.
 fn written(rt: HostRuntime, length: usize) -> Option<(u64, u64)> {
     let watched = Watched::new(rt, "again")?;
     if !is_made(&watched, length) {

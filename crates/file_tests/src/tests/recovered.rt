@@ -17,8 +17,8 @@ use test_kit::vectors::SECOND;
 /// What recovery says of a folder.
 #[derive(Clone, Copy)]
 pub(super) enum Said {
-    /// The first and the last frame, tail bytes, live segments, spares, boxes dropped, and the pairs
-    /// of its one page.
+    /// The first and the last frame, tail bytes, live segments, spares, boxes dropped, and the
+    /// pairs of its one page.
     Found(u64, u64, u64, u32, u32, u32, &'static [(&'static str, &'static str)]),
     Fault(RecoverCause),
 }
@@ -227,7 +227,8 @@ fn goes_with(
     }
 }
 
-/// Whether the step goes well in the folder, which is opened for it, over boxes of its first leases.
+/// Whether the step goes well in the folder, which is opened for it, over boxes of its first
+/// leases.
 pub(super) fn goes_opened(rt: &Watched, act: &Act) -> bool {
     let n = match act {
         Tells(n, _) => *n,

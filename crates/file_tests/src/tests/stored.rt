@@ -1,5 +1,5 @@
-//! A store and a cleaner over files: what was flushed is there again after a stop, and of what could
-//! not be flushed either the whole frame or none.
+//! A store and a cleaner over files: what was flushed is there again after a stop, and of what
+//! could not be flushed either the whole frame or none.
 
 ghost use Rattle.bw_care.specs.Views.{IsSound as IsSoundLog};
 ghost use Rattle.bw_store.specs.Views.{IsSound};
@@ -161,7 +161,8 @@ fn is_there<R: Wait>(wait: &R, rt: HostRuntime, stop: Stop, of_second: u64) -> b
 
 // The first stop after which it is otherwise: how many calls passed, or how many bytes were kept.
 fn wrong_stop<R: Wait>(wait: &R, rt: HostRuntime) -> Option<(&'static str, usize)> {
-    // No call fails; or the write of the sum, or the sync: the frame was not promised, and is there.
+    // No call fails; or the write of the sum, or the sync: the frame was not promised, and is
+    // there.
     for passes in [99, 2, 1] {
         if !is_there(wait, rt, Stop(passes, 0), SECOND_LENGTH) {
             return Some(("passed", passes as usize));

@@ -53,8 +53,8 @@ const SUMMED: &[Row] = &[
     Row(Has(SUMS, ABCDE, 24), Done, ""),
 ];
 
-/// A file that is written whole has a sum for each piece, written at once after its bytes. Ends that
-/// do not ascend, or that are past the bytes, end no piece.
+/// A file that is written whole has a sum for each piece, written at once after its bytes. Ends
+/// that do not ascend, or that are past the bytes, end no piece.
 const WHOLE: &[Row] = &[
     Row(Open, Done, "doanool"),
     Row(Whole(0, "abcde", &[]), Done, "nnoloacacwaw"),

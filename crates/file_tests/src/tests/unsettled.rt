@@ -1,5 +1,5 @@
-//! Files that are opened again, and settled once what was read is taken: up to then nothing is made or
-//! written, and nothing is appended.
+//! Files that are opened again, and settled once what was read is taken: up to then nothing is made
+//! or written, and nothing is appended.
 
 use super::steps::Act::{
     Append, Bytes, Empty, File, Forget, Has, Holds, Leave, Make, NoFile, Open, OpenAgain, Reads,

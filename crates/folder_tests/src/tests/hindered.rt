@@ -1,5 +1,5 @@
-//! A file that cannot be emptied hinders all others: a stop must never show a later segment gone and
-//! an earlier one still there.
+//! A file that cannot be emptied hinders all others: a stop must never show a later segment gone
+//! and an earlier one still there.
 
 ghost use Rattle.bw_home.specs.Ready.{IsReady};
 

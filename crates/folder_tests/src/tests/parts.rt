@@ -1,5 +1,5 @@
-//! A cleaning in parts: what is given up keeps its file until that is emptied, and nothing stands in
-//! its place but what is made.
+//! A cleaning in parts: what is given up keeps its file until that is emptied, and nothing stands
+//! in its place but what is made.
 
 ghost use Rattle.bw_home.specs.Ready.{IsReady};
 

@@ -1,5 +1,5 @@
-//! A walk goes over the pairs of a prefix, or over all, as they are at each step; a stretch of pairs
-//! stays as it was found; and the least key above another.
+//! A walk goes over the pairs of a prefix, or over all, as they are at each step; a stretch of
+//! pairs stays as it was found; and the least key above another.
 
 ghost use Rattle.bw_home.specs.Ready.{IsReady};
 

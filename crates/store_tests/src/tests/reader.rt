@@ -1,5 +1,5 @@
-//! A store with readers, with writers in threads, and two stores side by side: what readers see, that a
-//! value never goes back, and that writers put while the store turns.
+//! A store with readers, with writers in threads, and two stores side by side: what readers see,
+//! that a value never goes back, and that writers put while the store turns.
 
 mod cases;
 mod readers;

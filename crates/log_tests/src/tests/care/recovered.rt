@@ -18,7 +18,8 @@ use test_kit::vectors::{
 /// What is said of a list of boxes.
 #[derive(Clone, Copy)]
 enum Told {
-    /// The first and the last frame, tail bytes, live segments, spares, boxes dropped, and the pages.
+    /// The first and the last frame, tail bytes, live segments, spares, boxes dropped, and the
+    /// pages.
     Found(u64, u64, u64, u32, u32, u32, &'static str),
     Fault(RecoverCause),
 }

@@ -20,8 +20,8 @@ pub(super) enum Step {
     Cleans(u64, u32, usize, u64),
     /// No lease comes back.
     NotCleaned(CleanFault),
-    /// An upgrade: how many segments were given up, how many pages were written, in how many frames.
-    /// As many leases come back.
+    /// An upgrade: how many segments were given up, how many pages were written, in how many
+    /// frames. As many leases come back.
     Upgrades(u32, usize, u64),
     /// No lease comes back.
     NotUpgraded(CleanFault),

@@ -80,7 +80,8 @@ const NO_SPARE: &[Step] = &[
     Stands(1, 0, 3),
 ];
 
-/// The append of the upgrade fails: no box is dropped, the page is as before, and the log is Failed.
+/// The append of the upgrade fails: no box is dropped, the page is as before, and the log is
+/// Failed.
 const FAILED: &[Step] = &[
     NotUpgraded(CleanFault::Log(LogFault::Device { lease: 1 })),
     Page(1, "1 : k=v;"),

@@ -1,4 +1,5 @@
-// A log of one page that is refused memory: by `put` for `append`, by `rewrite` for `append_care`, and
+// A log of one page that is refused memory: by `put` for `append`, by `rewrite` for `append_care`,
+// and
 // `give_up` for `give_up_oldest`, which takes none.
 
 ghost use Rattle.std.specs.Prelude.{OnOk};
@@ -87,7 +88,8 @@ fn is_given_up(alloc: Global, log: &mut Log, leaf: &Leaf) -> bool
     !end(alloc) & went
 }
 
-// Two puts, each in a segment of its own, and the page written again in a third; the first is then given up.
+// Two puts, each in a segment of its own, and the page written again in a third; the first is then
+// given up.
 fn all_go(alloc: Global, log: &mut Log, leaf: &mut Leaf) -> Result<bool, bool>
     requires { HoldsOne (seen log.old holding) leaf.old }
 {

@@ -1,4 +1,5 @@
-//! Folders and segments in files: a call that was refused memory is made again, over the same files.
+//! Folders and segments in files: a call that was refused memory is made again, over the same
+//! files.
 
 use bw_device::{Desk, Lease, Segment};
 use bw_file::{FileSegment, Folder, FolderFault, FolderReader, NotOpened};

@@ -156,7 +156,8 @@ fn started(leaves: &Leaves) -> Result<Leaves, AllocError>
     Start::copy_of(leaves)?.leaves()
 }
 
-/// One try of a copy of pages, or of these pages by way of a start. The first ones stay as they were.
+/// One try of a copy of pages, or of these pages by way of a start. The first ones stay as they
+/// were.
 fn copies(alloc: Global, leaves: &Leaves, starts: bool) -> Option<Try>
     requires { leaves.now.evicted ≡ [] }
 {

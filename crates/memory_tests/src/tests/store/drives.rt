@@ -1,4 +1,5 @@
-//! Writers in threads: a run that was refused is settled, and followed by another over the same feeds.
+//! Writers in threads: a run that was refused is settled, and followed by another over the same
+//! feeds.
 
 ghost use Rattle.std.specs.Prelude.{◌≡◌, map, vec_len, length, IfOk, IfSome};
 ghost use Rattle.bw_ring.specs.Ends.{ring_of_feed};

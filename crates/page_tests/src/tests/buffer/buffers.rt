@@ -352,8 +352,8 @@ fn buffers_go_as_told(rt: HostRuntime) {
     assert_eq!(rt; wrong, None);
 }
 
-/// Whether a new buffer of this number gives the bytes whose blocks it takes, and a second seal changes
-/// nothing.
+/// Whether a new buffer of this number gives the bytes whose blocks it takes, and a second seal
+/// changes nothing.
 fn is_given(alloc: Global, number: u64, hex: &'static str) -> bool {
     let steps = [
         Step::Put(hex, Ok((number, 0))),

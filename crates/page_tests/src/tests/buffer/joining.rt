@@ -141,7 +141,8 @@ const SET_BETWEEN: &[Step] = &[
     Step::Spells(4),
 ];
 
-/// Records of two pages by turns: each joins the Delta of its page, in the order in which they came.
+/// Records of two pages by turns: each joins the Delta of its page, in the order in which they
+/// came.
 const TURNS: &[Step] = &[
     Step::Puts(&[
         (PUT_A, 0),

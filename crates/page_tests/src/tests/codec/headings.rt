@@ -6,7 +6,8 @@ use test_kit::tables::{Row, WrongRow, rows_go};
 use test_kit::vectors::digits::changed;
 use test_kit::vectors::{FIRST, OLD_FIRST};
 
-/// What the first segment of either format begins with then: its own header, a part of one, or none.
+/// What the first segment of either format begins with then: its own header, a part of one, or
+/// none.
 #[derive(Clone, Copy)]
 enum Begun {
     Whole,

@@ -151,8 +151,8 @@ impl Row for Front {
     }
 }
 
-/// A frame that is torn, or one of whose bytes was changed. That of format 1 has 52 bytes, and that of
-/// format 2 has 53.
+/// A frame that is torn, or one of whose bytes was changed. That of format 1 has 52 bytes, and that
+/// of format 2 has 53.
 const FRAMES: &[Front] = &[
     Both(0, 0x46, Left::All, Kind::Whole),
     Both(0, 0x46, Left::More, Kind::Whole),
@@ -171,7 +171,8 @@ const FRAMES: &[Front] = &[
     // The byte after the frame.
     Of(1, 52, 0x46, 53, Found::Whole(52)),
     Of(1, 52, 0xff, 53, Found::Whole(52)),
-    // A body of one byte more, and of one less; the word of the other format; a body beyond the limit.
+    // A body of one byte more, and of one less; the word of the other format; a body beyond the
+    // limit.
     Of(1, 12, 0x21, 52, Found::Tail),
     Of(1, 12, 0x1f, 52, Found::Bad),
     Of(1, 3, 0x32, 52, Found::Bad),

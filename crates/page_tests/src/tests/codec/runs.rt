@@ -9,8 +9,8 @@ use test_kit::vectors::{behind, is_at_end};
 enum Runs {
     /// How many bytes two parts have, and whether there is a run of one byte and both.
     Made(usize, usize, bool),
-    /// So many owners read the same bytes, while the run's maker and half of them are gone, and while
-    /// other runs take the room that these would leave.
+    /// So many owners read the same bytes, while the run's maker and half of them are gone, and
+    /// while other runs take the room that these would leave.
     Shared(usize),
 }
 

@@ -113,8 +113,8 @@ fn is_written(alloc: Global, bytes: &[u8]) -> bool {
     }
 }
 
-/// Whether the first segment's head, its frame's, and its first block are written as they stand there
-/// by the calls that take no memory.
+/// Whether the first segment's head, its frame's, and its first block are written as they stand
+/// there by the calls that take no memory.
 fn are_written(alloc: Global, bytes: &[u8]) -> bool {
     let rest = behind(Some(bytes), header_cells(1, 4, 65_536).as_slice());
     match behind(rest, frame_cells(1, 33, 2).as_slice()) {

@@ -33,8 +33,8 @@ enum Read {
     /// The records put `a` and `b`, and the page is split at `b`: a page, and what it shows; no
     /// text if they never set it.
     Page(u32, &'static str),
-    /// The records are so many puts, and a delete of the least: where the page is split, and how many
-    /// keys it keeps.
+    /// The records are so many puts, and a delete of the least: where the page is split, and how
+    /// many keys it keeps.
     Grown(u8, u8, usize),
 }
 

@@ -150,8 +150,8 @@ fn wrong_of_places(alloc: Global, table: &OfPlaces) -> Option<usize> {
     }
 }
 
-/// A ring of two places. The feed looks again, so a place that was freed since is found by a put and
-/// by `room`.
+/// A ring of two places. The feed looks again, so a place that was freed since is found by a put
+/// and by `room`.
 const TWO_PLACES: &[Step] = &[
     Step::Room(2),
     Step::Put(0),

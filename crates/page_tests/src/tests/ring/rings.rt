@@ -82,8 +82,8 @@ fn the_ranges_are_exact(rt: HostRuntime) {
     );
 }
 
-/// Whether a group of all the numbers but the last takes no more, hands that one back, and is what it
-/// was.
+/// Whether a group of all the numbers but the last takes no more, hands that one back, and is what
+/// it was.
 fn hands_back(numbers: &[u32]) -> Option<bool> {
     let (last, some) = numbers.split_last()?;
     let mut group = group_of(some)?;

@@ -116,8 +116,8 @@ const CUT: &[Step] = &[
     Needed(0, Some(42)),
 ];
 
-/// Eight puts of a key with 60 bytes each are 65 bytes each, and the segment has 591; of it a Base of
-/// 77 bytes is needed.
+/// Eight puts of a key with 60 bytes each are 65 bytes each, and the segment has 591; of it a Base
+/// of 77 bytes is needed.
 const UPDATED: &[Step] = &[
     Same(0, b"k", 8, 60),
     Settle(8),

@@ -138,8 +138,8 @@ const BACKWARDS: &[Step] = &[
     Evict(2, Ok(false)),
 ];
 
-/// A walk that shares its pairs goes over pages in memory and over evicted ones, from a low and from
-/// between keys, and over a page whose pairs are all gone. It brings no page back.
+/// A walk that shares its pairs goes over pages in memory and over evicted ones, from a low and
+/// from between keys, and over a page whose pairs are all gone. It brings no page back.
 const SHARED: &[Step] = &[
     Each(0, FOUR),
     Turn(9, 4),

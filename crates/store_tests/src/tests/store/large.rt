@@ -30,8 +30,8 @@ const ROUNDS: u64 = 5;
 /// The longest value.
 const LONG: [u8; 512] = [b'v'; 512];
 
-// Whether a writer's feed takes 4,000 records of its first four keys, each with the longest value. Few
-// pages, since each is read back through all frames that touch it.
+// Whether a writer's feed takes 4,000 records of its first four keys, each with the longest value.
+// Few pages, since each is read back through all frames that touch it.
 fn are_put(feeds: &mut Vec<Feed>, writer: usize) -> bool
     requires { writer < length feeds.old.items }
     ensures { map ring_of_feed feeds.new.items ≡ map ring_of_feed feeds.old.items }

@@ -1,5 +1,5 @@
-//! Of two scripts each append fails in turn, and keeps each number of bytes that it may; and each read
-//! fails in turn.
+//! Of two scripts each append fails in turn, and keeps each number of bytes that it may; and each
+//! read fails in turn.
 
 ghost use Rattle.test_subjects.specs.Views.{AreItsFeeds, IsSoundBeside};
 

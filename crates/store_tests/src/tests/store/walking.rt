@@ -149,7 +149,8 @@ pub(super) fn with_bytes(alloc: Global, texts: &[&'static str], spares: u32) -> 
     })
 }
 
-// Over what is recovered from a box for each of these texts in hex, in any order, and so many spares.
+// Over what is recovered from a box for each of these texts in hex, in any order, and so many
+// spares.
 fn over_bytes<R: AllocGlobal + Wait>(
     rt: &R,
     over: Over,

@@ -9,9 +9,9 @@ use bw_device::Desk;
 use bw_ring::Feed;
 use bw_store::{Reader, Store};
 
-/// How many entries, cuts and durable frames there are, which frame is next, how many segments are live,
-/// with how many bytes the newest, and how many spares stand; how many places the first writer's ring
-/// has, and how much the first reader sees of `a` to `l`.
+/// How many entries, cuts and durable frames there are, which frame is next, how many segments are
+/// live, with how many bytes the newest, and how many spares stand; how many places the first
+/// writer's ring has, and how much the first reader sees of `a` to `l`.
 #[derive(Clone, Copy, PartialEq, Drop)]
 pub(super) struct Picture {
     pub(super) entries: usize,
@@ -116,8 +116,8 @@ pub(super) fn is_taken(before: &Picture, now: &Picture) -> bool {
         & (now.seen == before.seen)
 }
 
-/// Whether a cleaning got so far: what waited is flushed, some of its own frames stand, or the oldest
-/// segment is given up; readers see what they saw.
+/// Whether a cleaning got so far: what waited is flushed, some of its own frames stand, or the
+/// oldest segment is given up; readers see what they saw.
 pub(super) fn is_cleaned(before: &Picture, now: &Picture) -> bool {
     let frames = (now.durable > before.durable) & (now.cuts as u64 == now.durable);
     let boxes = (now.live <= before.live.saturating_add(1))
