@@ -7,8 +7,8 @@ It needs `make run` and `make lib`. Folders are made by `import` and by `serve`:
 others, keys that begin one another, deletes and groups, cleanings, one pair, none, a cut tail. Of each folder every key is asked for,
 absent keys, the first pair at or above each, and walks of prefixes; C is compiled as C11 and as C++14, with a sanitizer where there is
 one, and run under valgrind where it is there; Rust where cargo is there. Refused have to be: a folder that is not there, has no store,
-has other files, has one byte changed, or is open to be written; and each allocation of an opening is refused in turn. No file is changed by a reader. The two examples of
-EMBED run.
+has other files, or has one byte changed; and each allocation of an opening is refused in turn. Folders that `serve` writes meanwhile are
+read as one of their frames. No file is changed by a reader. The two examples of EMBED run.
 It prints one line with counts; what is left out is said."""
 
 import bisect

@@ -1,4 +1,4 @@
--- The segments that C hands in: their bytes stand one behind the other, and so do those of the sums beside them. Of each there are two
+-- The segments that C hands in: their bytes stand one after the other, and so do those of the sums beside them. Of each there are two
 -- lengths, of its bytes and of its sums; a length without the other is of no segment.
 
 use Rattle.std.specs.Prelude.{ℕ, ◌+◌, ◌≤◌, List, [], ◌∷◌, take, drop, length, max}
@@ -15,7 +15,7 @@ boxes_from n bytes [] = []
 boxes_from n bytes (len ∷ []) = []
 boxes_from n bytes (len ∷ sums_len ∷ parts) = fresh_holding n (max LEAST len) (take len bytes) ∷ boxes_from (n + 1) (drop len bytes) parts
 
--- the same from lease 0 on
+-- the segments that C hands in: the first has lease 0
 abbrev pub boxes_in : Bytes → List ℕ → List Holding
 boxes_in bytes parts = boxes_from 0 bytes parts
 

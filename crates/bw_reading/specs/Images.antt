@@ -62,7 +62,7 @@ abbrev pub starts_from : Bytes → ℕ → ℕ → List ℕ
 starts_from image zero at = []
 starts_from image (suc n) at = at ∷ starts_from image n (end_at image at)
 
--- where the first pairs of an image begin, which is one of all pairs of a map: other bytes may stand behind it
+-- where the first pairs of an image begin, which is one of all pairs of a map: other bytes may stand after it
 pub record IsIndexOf (map : Map) (image : Bytes) (starts : List ℕ) : Type 0 where
   pub whole : Bytes
   pub rest : Bytes
@@ -72,7 +72,7 @@ pub record IsIndexOf (map : Map) (image : Bytes) (starts : List ℕ) : Type 0 wh
   pub notes : starts ≡ starts_from image (length starts) 0
   pub within : length starts ≤ count
 
--- and so for all of them
+-- where all pairs of an image begin
 pub record IsWholeIndexOf (map : Map) (image : Bytes) (starts : List ℕ) : Type 0 where
   pub index : IsIndexOf map image starts
   pub each : length starts ≡ index.count
