@@ -31,6 +31,10 @@ module _ (P : Low → Type 0) where
   all_mapped Q f [] all = tt
   all_mapped Q f (p ∷ ps) all = (f p all.0, all_mapped Q f ps all.1)
 
+pub ascends_front : (front back : List Low) → Ascends (front ++ back) → Ascends front
+ascends_front [] back a = tt
+ascends_front (p ∷ ps) back a = (all_front (λ q. Below p.0 q.0) ps back a.0, ascends_front ps back a.1)
+
 pub ascends_back : (front back : List Low) → Ascends (front ++ back) → Ascends back
 ascends_back [] back a = a
 ascends_back (p ∷ ps) back a = ascends_back ps back a.1

@@ -4,11 +4,14 @@ use Rattle.std.proofs.Common.{◌≡◌, ℕ, zero, suc, ◌<◌, List, [], ◌�
 use Rattle.std.proofs.Common.{refl, sym, ap, ◌∙◌, subst, arith}
 use Rattle.std.proofs.lemmas.List.{map-set, length-map, length-set, get_or_read, get_or-set_same}
 use Rattle.std.specs.Prelude.{slice_set}
+use Rattle.std.specs.List.{AllByRecursion}
 use Rattle.bw_record.specs.Keys.{is_below}
 use Rattle.bw_lows.specs.LowHeads.{Bytes}
-use Rattle.bw_lows.specs.Rows.{Low, nothing, low_at, IsBetween}
+use Rattle.bw_lows.specs.Rows.{Low, nothing, low_at, Ascends, IsBetween}
 use Rattle.bw_lows.specs.LowRow.{IsRow}
-use Rattle.bw_lows.specs.Flat.{firsts, block_at}
+use Rattle.bw_lows.specs.Flat.{flat, firsts, block_at, AreFilled}
+use Rattle.bw_record.proofs.Order.{Below}
+use Rattle.bw_lows.proofs.Ascending.{all_back, ascends_back}
 use Rattle.bw_lows.proofs.HeadBounds.{map_inserted, map_removed, row_kept}
 use Rattle.bw_lows.proofs.Flattened.{first_of_both}
 
@@ -21,6 +24,21 @@ pub first_at : (blocks : List (List Low)) (i : ℕ) → get_or (firsts blocks) i
 first_at [] i = refl
 first_at (b ∷ bs) zero = refl
 first_at (b ∷ bs) (suc i) = first_at bs i
+
+module _ (P : Low → Type 0) where
+  all_firsts : (blocks : List (List Low)) → AreFilled blocks → AllByRecursion P (flat blocks) → AllByRecursion P (firsts blocks)
+  all_firsts [] filled all = tt
+  all_firsts ([] ∷ bs) filled all = absurd (omega (arith, filled.0))
+  all_firsts ((p ∷ ps) ∷ bs) filled all = (all.0, all_firsts bs filled.1 (all_back P ps (flat bs) all.1))
+
+-- the first lows of blocks ascend as all lows do
+pub firsts_ascend : (blocks : List (List Low)) → AreFilled blocks → Ascends (flat blocks) → Ascends (firsts blocks)
+firsts_ascend [] filled a = tt
+firsts_ascend ([] ∷ bs) filled a = absurd (omega (arith, filled.0))
+firsts_ascend ((p ∷ ps) ∷ bs) filled a = (
+  all_firsts (λ q. Below p.0 q.0) bs filled.1 (all_back (λ q. Below p.0 q.0) ps (flat bs) a.0),
+  firsts_ascend bs filled.1 (ascends_back (p ∷ ps) (flat bs) a),
+)
 
 -- a search among the first lows is one among blocks
 pub between_firsts : (key : Bytes) (blocks : List (List Low)) (count from to : ℕ)

@@ -9,7 +9,7 @@ use Rattle.bw_record.proofs.Order.{Below, UpTo, not_both}
 use Rattle.bw_lows.specs.LowHeads.{Bytes, page_of_low, IsGreatestLow, HasNoLow, IsLeastLow, HasNoHigher}
 use Rattle.bw_lows.specs.Rows.{Low, nothing, low_at, page_at, AllUpTo, AllAbove, Ascends, IsBoundary}
 use Rattle.bw_lows.specs.Flat.{flat, block_at, lows_before, lows_behind, AreFilled, AreBlocks, IsPlace}
-use Rattle.bw_lows.proofs.Ascending.{AllBelow, all_back, all_both, ascends_back, before_low, below_through, above_first, greatest_there, least_there, none_there, none_higher}
+use Rattle.bw_lows.proofs.Ascending.{AllBelow, all_back, all_both, ascends_front, ascends_back, before_low, below_through, above_first, greatest_there, least_there, none_there, none_higher}
 
 -- ---- one row
 
@@ -67,6 +67,12 @@ pub before_next : (blocks : List (List Low)) (i m : ℕ) → m < length (block_a
 before_next blocks i m h =
     ap (λ (rest : List Low). flat (take i blocks) ++ rest) (take_next (block_at blocks i) m h)
     ∙ sym (append_assoc (flat (take i blocks)) (take m (block_at blocks i)) (get_or (block_at blocks i) m nothing ∷ []))
+
+-- a block of lows that ascend
+pub block_ascends : (blocks : List (List Low)) (i : ℕ) → Ascends (flat blocks) → Ascends (block_at blocks i)
+block_ascends [] i a = tt
+block_ascends (b ∷ bs) zero a = ascends_front b (flat bs) a
+block_ascends (b ∷ bs) (suc i) a = block_ascends bs i (ascends_back b (flat bs) a)
 
 -- ---- blocks that are not empty
 

@@ -3,14 +3,15 @@
 use Rattle.std.proofs.Common.{◌≡◌, ◌≢◌, ℕ, zero, suc, ◌+◌, Option, Some, None, IsSome, ◌<◌, ◌≤◌, inl, inr, List, [], ◌∷◌, ◌++◌, length, get_or, take, drop, map, insert, remove}
 use Rattle.std.proofs.Common.{refl, sym, ap, ◌∙◌, subst, arith}
 use Rattle.std.proofs.lemmas.List.{length-map, map-append, take-map, drop-map, map-set, take-append-drop}
+use Rattle.std.proofs.lemmas.Bool.{cases_lt}
 use Rattle.std.specs.Prelude.{slice_set, IfSome}
 use Rattle.std.specs.List.{AllByRecursion}
 use Rattle.bw_record.specs.Keys.{is_below, IsBytes}
 use Rattle.bw_record.specs.Heads.{head}
-use Rattle.bw_record.proofs.Order.{below_beginning, below_by_head, below_behind, above_beginning, Below, UpTo, below_upto}
+use Rattle.bw_record.proofs.Order.{below_beginning, below_by_head, below_behind, above_beginning, Below, UpTo, below_upto, not_both}
 use Rattle.bw_lows.specs.LowHeads.{Bytes}
-use Rattle.bw_lows.specs.Rows.{Low, nothing, low_at, IsBetween}
-use Rattle.bw_lows.specs.LowRow.{Begins, head_behind, IsHeadBehind, IsWholeRow, IsRow, IsHeadRun}
+use Rattle.bw_lows.specs.Rows.{Low, nothing, keys, low_at, Ascends, IsBetween}
+use Rattle.bw_lows.specs.LowRow.{Begins, head_behind, IsHeadBehind, IsWholeRow, IsRow, DoAscend, IsHeadRun}
 use Rattle.bw_lows.proofs.Ascending.{all_front, all_back, all_both}
 use Rattle.bw_lows.proofs.Flattened.{take_next}
 
@@ -31,10 +32,25 @@ all_at P [] i h all = absurd (omega arith)
 all_at P (p ∷ ps) zero h all = all.0
 all_at P (p ∷ ps) (suc i) h all = all_at P ps i (omega arith) all.1
 
+ascends_at : (lows : List Low) (i j : ℕ) → Ascends lows → i < j → j < length lows → Below (low_at lows i) (low_at lows j)
+ascends_at [] i j a less inside = absurd (omega arith)
+ascends_at (p ∷ ps) i zero a less inside = absurd (omega arith)
+ascends_at (p ∷ ps) zero (suc j) a less inside = all_at (λ x. Below p.0 x.0) ps j (omega arith) a.0
+ascends_at (p ∷ ps) (suc i) (suc j) a less inside = ascends_at ps i j a.1 (omega arith) (omega arith)
+
 map_at : (f : Low → ℕ) (lows : List Low) (i : ℕ) → i < length lows → get_or (map f lows) i 0 ≡ f (get_or lows i nothing)
 map_at f [] i h = absurd (omega arith)
 map_at f (p ∷ ps) zero h = refl
 map_at f (p ∷ ps) (suc i) h = map_at f ps i (omega arith)
+
+its_key : (lows : List Low) (i : ℕ) → get_or (keys lows) i [] ≡ low_at lows i
+its_key [] i = refl
+its_key (p ∷ ps) zero = refl
+its_key (p ∷ ps) (suc i) = its_key ps i
+
+-- what stands beside lows
+pub key_at : (lows : List Low) (ks : List Bytes) (i : ℕ) → keys lows ≡ ks → get_or ks i [] ≡ low_at lows i
+key_at lows ks i e = ap (λ (bs : List Bytes). get_or bs i []) (sym e) ∙ its_key lows i
 
 module _ {X Y : Type 0} (f : X → Y) (xs : List X) (at : ℕ) where
   pub map_inserted : (x : X) → insert (map f xs) at (f x) ≡ map f (insert xs at x)
@@ -144,6 +160,25 @@ module _ (shared row : List ℕ) (lows : List Low) (count : ℕ) (long : length 
 
   head_is : (i : ℕ) → i < count → get_or row i 0 ≡ head_behind shared (low_at lows i)
   head_is i h = ap (λ (r : List ℕ). get_or r i 0) whole.1 ∙ map_at (λ p. head_behind shared p.0) lows i (omega (arith, lows_long))
+
+  -- what stands behind the bytes ascends as the lows do, and so do its heads
+  pub heads_ascend : Ascends lows → DoAscend row
+  heads_ascend a i j less inside =
+      let there : j < count = omega (arith, long) in
+      let here : i < count = omega arith in
+      let below : Below (low_at lows i) (low_at lows j) = ascends_at lows i j a less (omega (arith, lows_long)) in
+      elim (cases_lt (get_or row j 0) (get_or row i 0)) as (λ _. get_or row i 0 ≤ get_or row j 0) [
+        | inl k ↦
+            let rest : Below (drop (length shared) (low_at lows j)) (drop (length shared) (low_at lows i)) =
+            below_by_head 8 (drop (length shared) (low_at lows j)) (drop (length shared) (low_at lows i)) (begins i here).1
+            (omega (arith, k, head_is i here, head_is j there)) in
+            let whole_too : Below (low_at lows j) (low_at lows i) =
+            subst (λ (x : Bytes). Below x (low_at lows i)) (sym (begins j there).0)
+            (subst (λ (x : Bytes). Below (shared ++ drop (length shared) (low_at lows j)) x) (sym (begins i here).0)
+            (below_behind shared (drop (length shared) (low_at lows j)) (drop (length shared) (low_at lows i)) rest)) in
+            not_both (is_below (low_at lows j) (low_at lows i)) whole_too (below_upto (low_at lows i) (low_at lows j) below)
+        | inr k ↦ k
+      ]
 
   module _ (key : Bytes) where
     -- the key begins with the bytes too

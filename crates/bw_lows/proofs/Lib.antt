@@ -3,4 +3,6 @@ pub mod Ascending
 pub mod Flattened
 pub mod HeadBounds
 pub mod FirstHeads
+pub mod HeadCounts
+pub mod PagesBeside
 pub mod Changed

@@ -6,4 +6,5 @@ pub mod LowHeads
 pub mod Rows
 pub mod LowRow
 pub mod Packing
+pub mod Beside
 pub mod Flat

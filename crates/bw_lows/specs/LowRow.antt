@@ -27,6 +27,19 @@ IsWholeRow shared row lows = AllByRecursion (λ p. Begins shared p.0) lows × (r
 abbrev pub IsRow : Bytes → List ℕ → List Low → Type 0
 IsRow shared row lows = (row ≡ []) ⊎ IsWholeRow shared row lows
 
+-- heads ascend, and may be the same
+abbrev pub DoAscend : List ℕ → Type 0
+DoAscend row = (i j : ℕ) → i < j → j < length row → get_or row i 0 ≤ get_or row j 0
+
+-- what a search among heads keeps: of those from `least` on, the one before `from` is below another
+-- head, and the one at `to` is not
+pub record IsHeadBetween (row : List ℕ) (h least from to : ℕ) : Type 0 where
+  pub least_from : least ≤ from
+  pub order : from ≤ to
+  pub within : to ≤ length row
+  pub before : (i : ℕ) → suc i ≡ from → least < from → get_or row i 0 < h
+  pub behind : to < length row → h ≤ get_or row to 0
+
 -- of the heads from `least` on, the one before the n-th is below another head, and the n-th is not
 pub record IsHeadBoundary (row : List ℕ) (h least n : ℕ) : Type 0 where
   pub order : least ≤ n

@@ -1,12 +1,10 @@
--- A low as it stands in memory, with its page: its first eight bytes as a number, and its bytes if
--- they are more.
+-- A low as it stands in memory: its first eight bytes as a number, and its bytes if they are more.
 
 use Rattle.std.specs.Prelude.{ℕ, ◌≡◌, ◌≤◌, cond, List, length, take}
 use Rattle.std.specs.Int.{w64, to_be_bytes}
 use Rattle.bw_record.specs.Keys.{IsBytes}
 use Rattle.bw_record.specs.Heads.{head}
 use Rattle.bw_lows.specs.LowHeads.{Bytes}
-use Rattle.bw_lows.specs.Rows.{Low}
 use Rattle.bw_lows.specs.declared.entry.Entry.TheInside.{Inside}
 
 -- a number in eight bytes, the highest first
@@ -15,9 +13,6 @@ eight_bytes x = to_be_bytes w64 x
 
 abbrev pub low_of : Inside → Bytes
 low_of a = cond a.short (take a.count (eight_bytes a.first)) a.whole.items
-
-abbrev pub entry_of : Inside → Low
-entry_of a = (low_of a, a.page)
 
 pub record IsEntry (a : Inside) : Type 0 where
   pub first : head (low_of a) ≡ a.first

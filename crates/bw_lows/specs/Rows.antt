@@ -1,6 +1,6 @@
 -- Lows in a row, each with its page.
 
-use Rattle.std.specs.Prelude.{ℕ, ◌≡◌, ◌<◌, ◌≤◌, suc, Bool, true, false, IsTrue, List, [], ◌∷◌, get_or}
+use Rattle.std.specs.Prelude.{ℕ, ◌≡◌, ◌<◌, ◌≤◌, suc, Bool, true, false, IsTrue, List, [], ◌∷◌, get_or, map}
 use Rattle.std.specs.List.{AllByRecursion}
 use Rattle.bw_record.specs.Keys.{is_below}
 use Rattle.bw_lows.specs.LowHeads.{Bytes}
@@ -17,6 +17,10 @@ low_at lows i = (get_or lows i nothing).0
 
 abbrev pub page_at : List Low → ℕ → ℕ
 page_at lows i = (get_or lows i nothing).1
+
+-- lows without their pages
+abbrev pub keys : List Low → List Bytes
+keys lows = map (λ p. p.0) lows
 
 -- no low is above a key
 abbrev pub AllUpTo : Bytes → List Low → Type 0

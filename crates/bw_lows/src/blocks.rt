@@ -65,9 +65,9 @@ impl Blocks {
         &self.blocks[at]
     }
 
-    // How many blocks begin with a low that is not above a key with this head, if lows ascend.
+    // How many blocks begin with a low that is not above a key with this head.
     fn count_begun(&self, start: u64, key: &Key) -> usize
-        requires filled { AreFilled self.now }
+        requires blocks { AreBlocks self.now }
         requires start { start ≡ head key.now }
         requires bytes { IsBytes key.now }
         ensures { IsBoundary (λ i. is_below key.now (low_at (block_at self.now i) 0))
@@ -99,26 +99,32 @@ impl Blocks {
     }
 
     /// Adds a block of one low after all blocks. A refusal changes nothing.
-    pub(crate) fn begin(&mut self, entry: Entry) -> Result<(), AllocError>
-        ensures ok { OnOk result (self.new ≡ self.old ++ (entry ∷ []) ∷ []) }
+    pub(crate) fn begin(&mut self, entry: Entry, page: u32) -> Result<(), AllocError>
+        ensures ok { OnOk result (self.new ≡ self.old ++ ((entry, page) ∷ []) ∷ []) }
         ensures err { OnErr result (self.new ≡ self.old) }
     {
         let alloc = *self.blocks.allocator();
-        self.blocks.push(Block::of(alloc, entry)?)?;
+        self.blocks.push(Block::of(alloc, entry, page)?)?;
         self.begins = Row::of_firsts(alloc, self.blocks.as_slice());
         Ok(())
     }
 
     /// Puts a low into a block, before the one at an index or last. A refusal changes nothing.
-    pub(crate) fn insert(&mut self, at: usize, index: usize, entry: Entry) -> Result<(), AllocError>
+    pub(crate) fn insert(
+        &mut self,
+        at: usize,
+        index: usize,
+        entry: Entry,
+        page: u32,
+    ) -> Result<(), AllocError>
         requires within { at < length self.old }
         requires low { index ≤ length (block_at self.old at) }
         ensures ok { OnOk result (self.new
-            ≡ slice_set self.old at (insert (block_at self.old at) index entry)) }
+            ≡ slice_set self.old at (insert (block_at self.old at) index (entry, page))) }
         ensures err { OnErr result (self.new ≡ self.old) }
     {
         let _ = self.blocks.as_slice().len(); // For the proof.
-        self.blocks[at].insert(index, entry)?;
+        self.blocks[at].insert(index, entry, page)?;
         note_first(&mut self.begins, self.blocks.as_slice(), at);
         mend(&mut self.begins, self.blocks.as_slice());
         Ok(())

@@ -1,4 +1,4 @@
-//! A low key with its page, in no more room than they take.
+//! A low key, in no more room than it takes.
 
 ghost use Rattle.std.specs.Prelude.{◌≡◌, ◌≤◌, length, IfOk, IfSome};
 ghost use Rattle.bw_record.specs.Keys.{is_below, IsBytes};
@@ -12,14 +12,13 @@ use std::alloc::{AllocError, Global};
 use std::cmp::Ordering;
 use std::marker::Model;
 
-/// A low key with its page.
+/// A low key.
 #[derive(Drop)]
 pub(crate) struct Entry {
     /// The low's first eight bytes as a number; zeros stand for those that it lacks.
     first: u64,
     /// The low's bytes, if they are more than eight.
     whole: Vec<u8>,
-    page: u32,
     /// How many bytes the low has, if they are at most eight.
     count: u8,
     /// Whether they are at most eight.
@@ -29,20 +28,19 @@ pub(crate) struct Entry {
 impl Model for Entry {
     ghost use Rattle.std.specs.Prelude.{List, ℕ};
 
-    ghost Value = { List ℕ × ℕ };
+    ghost Value = { List ℕ };
 
-    ghost use Rattle.bw_lows.specs.Packing.{entry_of, IsEntry};
+    ghost use Rattle.bw_lows.specs.Packing.{low_of, IsEntry};
 
-    ghost view = { entry_of };
+    ghost view = { low_of };
 
     ghost invariant = { IsEntry };
 }
 
 impl Entry {
-    /// A low with its page. A low of at most eight bytes takes no memory; of a longer one a refusal
-    /// is the only error.
-    pub(crate) fn of(alloc: Global, low: &Key, page: u32) -> Result<Entry, AllocError>
-        ensures { IfOk result (λ entry. entry ≡ (low.now, page)) }
+    /// A low of at most eight bytes takes no memory; of a longer one a refusal is the only error.
+    pub(crate) fn of(alloc: Global, low: &Key) -> Result<Entry, AllocError>
+        ensures { IfOk result (λ entry. entry ≡ low.now) }
     {
         let first = low.head();
         let bytes = low.as_slice();
@@ -50,7 +48,6 @@ impl Entry {
             return Ok(Entry {
                 first,
                 whole: Vec::new(alloc),
-                page,
                 count: bytes.len() as u8,
                 short: true,
             });
@@ -59,7 +56,6 @@ impl Entry {
         Ok(Entry {
             first,
             whole,
-            page,
             count: 0,
             short: false,
         })
@@ -67,7 +63,7 @@ impl Entry {
 
     /// The low in fixed room. No memory is taken.
     pub(crate) fn low(&self) -> Key
-        ensures { result ≡ self.now.0 }
+        ensures { result ≡ self.now }
     {
         if self.short {
             let first = bytes_of(self.first);
@@ -79,7 +75,7 @@ impl Entry {
 
     /// The head of what stands in the low after these bytes, if it begins with them.
     pub(crate) fn head_behind(&self, shared: &[u8]) -> Option<u64>
-        ensures { IfSome result (λ h. IsHeadBehind shared.now self.now.0 h) }
+        ensures { IfSome result (λ h. IsHeadBehind shared.now self.now h) }
     {
         if self.short {
             let first = bytes_of(self.first);
@@ -89,28 +85,9 @@ impl Entry {
         }
     }
 
-    /// Whether the low has more than eight bytes, so that its head does not determine it.
-    pub(crate) fn is_long(&self) -> bool {
-        !self.short
-    }
-
-    /// The low's page.
-    pub(crate) fn page(&self) -> u32
-        ensures { result ≡ self.now.1 }
-    {
-        self.page
-    }
-
-    /// Sets the low's page.
-    pub(crate) fn set_page(&mut self, page: u32)
-        ensures { self.new ≡ (self.old.0, page) }
-    {
-        self.page = page;
-    }
-
     /// How a key compares with the low, by all their bytes.
     pub(crate) fn compare(&self, key: &Key) -> Ordering
-        ensures { result ≡ order key.now self.now.0 }
+        ensures { result ≡ order key.now self.now }
     {
         if self.short {
             let first = bytes_of(self.first);
@@ -124,7 +101,7 @@ impl Entry {
     pub(crate) fn is_above(&self, start: u64, key: &Key) -> bool
         requires start { start ≡ head key.now }
         requires bytes { IsBytes key.now }
-        ensures { result ≡ is_below key.now self.now.0 }
+        ensures { result ≡ is_below key.now self.now }
     {
         if start < self.first {
             return true;

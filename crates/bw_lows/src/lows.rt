@@ -123,12 +123,12 @@ impl LowIndex {
             ≡ (if eq_by_cmp order q low.now then Some page else page_of_low self.old q)) }
         ensures unchanged { OnErr result (self.new ≡ self.old) }
     {
-        let entry = Entry::of(self.blocks.allocator(), low, page)?;
+        let entry = Entry::of(self.blocks.allocator(), low)?;
         let (at, within) = self.blocks.place(low);
         if at >= self.blocks.len() {
-            return self.blocks.begin(entry);
+            return self.blocks.begin(entry, page);
         }
-        self.blocks.insert(at, within, entry)
+        self.blocks.insert(at, within, entry, page)
     }
 
     /// Drops a low. No memory is taken.

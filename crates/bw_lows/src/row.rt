@@ -3,12 +3,13 @@
 //! Long lows that stand next to each other often begin with the same bytes. Their own heads set
 //! nothing apart then, and each step of a search would read a whole low, which stands elsewhere in
 //! memory. A row of heads taken after these bytes sets most of them apart, eight to a cache line.
+//! Short lows have one too: their own heads stand too far apart for a search that counts.
 
-ghost use Rattle.std.specs.Prelude.{◌≡◌, List, [], ◌∷◌, ◌++◌, ◌≤◌, ◌<◌, length, insert, remove, slice_set, vec_len, IsSome, IfSome};
+ghost use Rattle.std.specs.Prelude.{◌≡◌, ℕ, ◌+◌, List, [], ◌∷◌, ◌++◌, ◌≤◌, ◌<◌, length, insert, remove, slice_set, vec_len, vec_capacity, IsSome, IfSome, OnOk};
 ghost use Rattle.std.specs.Bool.{OnTrue};
 ghost use Rattle.bw_record.specs.Keys.{is_below};
-ghost use Rattle.bw_lows.specs.Rows.{Low, low_at, IsBetween};
-ghost use Rattle.bw_lows.specs.LowRow.{IsHeadBehind, IsRow, IsHeadBoundary, IsHeadRun};
+ghost use Rattle.bw_lows.specs.Rows.{Low, keys, low_at, Ascends, IsBetween};
+ghost use Rattle.bw_lows.specs.LowRow.{IsHeadBehind, IsRow, DoAscend, IsHeadBetween, IsHeadBoundary, IsHeadRun};
 ghost use Rattle.bw_lows.specs.Flat.{firsts};
 
 use crate::block::Block;
@@ -24,8 +25,7 @@ const MOST: usize = 32;
 const STEP: usize = 16;
 
 /// The heads of lows in their order, each taken after the bytes with which all these lows begin.
-/// There are none if they would say nothing that the lows' own heads do not, or if memory for them
-/// is refused: then a search is slower, and nothing else changes.
+/// There are none if memory for them is refused: then a search is slower, and nothing else changes.
 #[derive(Drop)]
 pub(crate) struct Row {
     shared: ArrayVec<u8, MOST>,
@@ -44,20 +44,18 @@ impl Row {
     }
 
     /// The row of lows. What the first and the last share, all between them do if lows ascend.
-    /// There is none if they share nothing, or if the last is known by its own head.
     pub(crate) fn of(alloc: Global, entries: &[Entry]) -> Row
-        ensures { IsRow result.shared.items result.heads.items entries.now }
+        ensures { (lows : List Low) → keys lows ≡ entries.now
+            → IsRow result.shared.items result.heads.items lows }
     {
         let shared = match (entries.first(), entries.last()) {
-            (Some(first), Some(last)) if last.is_long() => {
+            (Some(first), Some(last)) => {
                 beginning(first.low().as_slice(), last.low().as_slice())
             }
             _ => ArrayVec::new(),
         };
         let mut heads = Vec::new(alloc);
-        if !shared.as_slice().is_empty() {
-            fill(&mut heads, shared.as_slice(), entries);
-        }
+        fill(&mut heads, shared.as_slice(), entries);
         Row { shared, heads }
     }
 
@@ -88,7 +86,7 @@ impl Row {
 
     /// The head of a low, taken after the shared bytes, if it begins with them.
     pub(crate) fn head(&self, low: &Entry) -> Option<u64>
-        ensures { IfSome result (λ h. IsHeadBehind self.now.shared.items low.now.0 h) }
+        ensures { IfSome result (λ h. IsHeadBehind self.now.shared.items low.now h) }
     {
         low.head_behind(self.shared.as_slice())
     }
@@ -153,7 +151,7 @@ impl Row {
     /// not above it, and those from the second on are. A key that does not begin with what these
     /// lows do is above all of them or below all.
     pub(crate) fn bounds(&self, count: usize, key: &Key) -> (usize, usize)
-        ensures { (lows : List Low) → length lows ≡ count
+        ensures { (lows : List Low) → length lows ≡ count → Ascends lows
             → IsRow self.now.shared.items self.now.heads.items lows
             → IsBetween (λ i. is_below key.now (low_at lows i)) count result.0 result.1 }
     {
@@ -175,7 +173,7 @@ impl Row {
 // is refused.
 fn fill(row: &mut Vec<u64>, shared: &[u8], entries: &[Entry])
     requires { row.old.items ≡ [] }
-    ensures { IsRow shared.now row.new.items entries.now }
+    ensures { (lows : List Low) → keys lows ≡ entries.now → IsRow shared.now row.new.items lows }
 {
     let _ = row.reserve_exact(entries.len() + STEP);
     for entry in entries {
@@ -216,6 +214,7 @@ fn push(row: &mut Vec<u64>, head: Option<u64>) -> bool
 pub(crate) fn make_room<T>(items: &mut Vec<T>) -> Result<(), AllocError>
     ensures items { items.new.items ≡ items.old.items }
     ensures len { vec_len items.new ≡ vec_len items.old }
+    ensures room { OnOk result (vec_len items.new < vec_capacity items.new) }
 {
     if items.len() == items.capacity() {
         items.reserve_exact(STEP)?;
@@ -225,7 +224,7 @@ pub(crate) fn make_room<T>(items: &mut Vec<T>) -> Result<(), AllocError>
 
 // The run of heads that equal this one, if heads ascend: where it begins, and where it ends.
 fn equal(row: &[u64], head: u64) -> (usize, usize)
-    ensures { IsHeadRun row.now head result.0 result.1 }
+    ensures { DoAscend row.now → IsHeadRun row.now head result.0 result.1 }
 {
     let from = count_below(row, 0, head);
     if from == row.len() || row[from] != head {
@@ -238,19 +237,42 @@ fn equal(row: &[u64], head: u64) -> (usize, usize)
 }
 
 // How many heads are below this one, if heads ascend and so many are known to be.
+//
+// A search by halves tests one head at each step, and the processor guesses wrong at every second
+// test. Here each round looks at few heads, and only counts those that are below: at each 512th, at
+// each 64th between two of these, at each eighth, and at each. There is nothing to guess at.
 fn count_below(row: &[u64], least: usize, head: u64) -> usize
     requires { least ≤ length row.now }
-    ensures { IsHeadBoundary row.now head least result }
+    ensures within { result ≤ length row.now }
+    ensures boundary { DoAscend row.now → IsHeadBoundary row.now head least result }
 {
-    let mut from = least;
-    let mut to = row.len();
-    while from < to {
-        let middle = from + (to - from) / 2;
-        if row[middle] < head {
-            from = middle + 1;
-        } else {
-            to = middle;
-        }
-    }
+    let (from, to) = narrow(row, least, row.len(), 512, head);
+    let (from, to) = narrow(row, from, to, 64, head);
+    let (from, to) = narrow(row, from, to, 8, head);
+    let (from, _) = narrow(row, from, to, 1, head);
     from
+}
+
+// Two places closer together, between which the heads below this one end if they end between the
+// given ones. It goes over parts of such a width, and looks at the last head of each.
+fn narrow(row: &[u64], from: usize, to: usize, width: usize, head: u64) -> (usize, usize)
+    requires order { from ≤ to }
+    requires within { to ≤ length row.now }
+    requires some { 0 < width }
+    requires few { width ≤ 512 }
+    ensures order { result.0 ≤ result.1 }
+    ensures within { result.1 ≤ to }
+    ensures width { result.1 < result.0 + width }
+    ensures found { (least : ℕ) → DoAscend row.now → IsHeadBetween row.now head least from to
+        → IsHeadBetween row.now head least result.0 result.1 }
+{
+    let mut below = from;
+    let mut at = from + width - 1;
+    while at < to {
+        if row[at] < head {
+            below += width;
+        }
+        at += width;
+    }
+    (below, to.min(below + width - 1))
 }

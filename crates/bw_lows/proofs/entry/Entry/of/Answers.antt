@@ -20,4 +20,4 @@ invariant_of-result c = record {
 }
 
 pub returns-then-bytes-le8 : goal.returns-then-bytes-le8
-returns-then-bytes-le8 c = ap (λ (k : Bytes). (k, c.args.page)) (low c)
+returns-then-bytes-le8 c = low c
