@@ -4,7 +4,7 @@ use Rattle.std.proofs.Common.{◌≡◌, ℕ, IfSome, zero, suc, ◌+◌, ◌-�
 use Rattle.std.proofs.Common.{take, drop, get_or, slice_get, refl, sym, ap, subst, ◌∙◌}
 use Rattle.std.proofs.Common.{append_assoc, append-nil, arith, length-append}
 use Rattle.std.specs.List.{AllByRecursion}
-use Rattle.std.proofs.lemmas.List.{drop_at, take_at, take_all, drop-drop, drop-take, length-drop}
+use Rattle.std.proofs.lemmas.List.{drop_at, take_at, take_all, take-append-drop, drop-drop, drop-take, length-drop}
 use Rattle.std.proofs.lemmas.Grind.{flat_map-append}
 use Rattle.std.proofs.lemmas.Option.{slice_get-get_or, get_or_from_slice_get}
 use Rattle.bw_codec.specs.Grammar.{block_bytes_in, body_bytes_in, head_bytes_in, frame_bytes_in, IsBlockIn, IsFrameIn}
@@ -365,3 +365,54 @@ pub placed_alone : {c : Contents} {place : Place} {b : Block} {spot : Spot} (fir
 placed_alone first line span sound x is s own spans =
     let n = numbered_at first sound x is in
     alone_at span line.starts (placed_spot first sound x is s) n.stands (ap (λ (l : FrameAt). l.starts) (line_is n.inside s line own)) spans
+
+-- ---- bytes that a segment lends
+
+-- a frame among them
+pub lent_frame : (o : Option Holding) (bytes frame : List ℕ) (from len : ℕ) → IfSome o (λ h. bytes ≡ h.bytes) → frame ≡ take len (drop from bytes)
+    → IfSome o (λ h. frame ≡ [] ++ take len (drop from h.bytes))
+lent_frame None bytes frame from len lent is = tt
+lent_frame (Some h) bytes frame from len lent is = is ∙ ap (λ (l : List ℕ). take len (drop from l)) lent
+
+pub lent_within : {c : Contents} {i : ℕ} {spot : Spot} {line : FrameAt} (s : Spotted c i spot line) (bytes : List ℕ)
+    → IfSome (slice_get c.live spot.at) (λ h. bytes ≡ h.bytes)
+    → (spot.from ≤ length bytes) × (spot.len ≤ length (drop spot.from bytes))
+lent_within {c} {i} {spot} {line} s bytes lent =
+    let there : slice_get c.live spot.at ≡ Some s.boxed.box = ap (slice_get c.live) (sym s.at) ∙ s.boxed.there in
+    let own : bytes ≡ s.boxed.box.bytes = subst (λ (o : Option Holding). IfSome o (λ h. bytes ≡ h.bytes)) there lent in
+    let within = s.boxed.within in
+    let from = s.from in
+    let len = s.len in
+    let size = ap (λ (l : List ℕ). length l) own in
+    (omega (arith, size), omega (arith, size, length-drop spot.from bytes))
+
+-- a block among them, and what follows it
+lent_spelled : {v m : ℕ} {live : List Holding} {at from start len : ℕ} {b : Block} (bytes : List ℕ) → (s : IsSpelledAt v m live at (from + start) len b)
+    → IfSome (slice_get live at) (λ h. bytes ≡ h.bytes)
+    → (from ≤ length bytes) × (start ≤ length (drop from bytes)) × IsSpelled v m (drop start (drop from bytes)) b
+lent_spelled {v} {m} {live} {at} {from} {start} {len} {b} bytes s lent =
+    let own : bytes ≡ s.segment.bytes = subst (λ (o : Option Holding). IfSome o (λ h. bytes ≡ h.bytes)) s.there lent in
+    let within = s.within in
+    let size = ap (λ (l : List ℕ). length l) own in
+    let rest = drop start (drop from bytes) in
+    let spelled : take len rest ≡ block_bytes_in v b =
+    ap (λ (l : List ℕ). take len l) (drop-drop start from bytes) ∙ ap (λ (l : List ℕ). take len (drop (from + start) l)) own ∙ s.is in (
+      omega (arith, size),
+      omega (arith, size, length-drop from bytes),
+      record {
+        lawful = s.lawful;
+        rest = drop len rest;
+        is = sym (take-append-drop len rest) ∙ ap (λ (l : List ℕ). l ++ drop len rest) spelled;
+      },
+    )
+
+pub lent_at : {c : Contents} {i index : ℕ} {b : Block} {spot : Spot} (line : FrameAt) (span : ℕ × ℕ) (bytes : List ℕ) → IsSound c → i < length c.frames
+    → IsSpot c i spot → line ≡ get_or c.frames i line → BlockAt (counted c) i index b → IsSpan line.starts spot.len index span
+    → IfSome (slice_get c.live spot.at) (λ h. bytes ≡ h.bytes)
+    → (spot.from ≤ length bytes) × (span.0 ≤ length (drop spot.from bytes)) × IsSpelled spot.version c.m (drop span.0 (drop spot.from bytes)) b
+lent_at {c} {i} {index} {b} {spot} line span bytes sound inside s own x is lent =
+    lent_spelled bytes (alone_at span line.starts (spotted sound inside s line own) x refl is).2 lent
+
+-- a log that is as it was has its blocks where they were
+pub block_now : {c : Contents} {i index : ℕ} {b : Block} (now : Contents) → now ≡ c → BlockAt (counted c) i index b → BlockAt (counted now) i index b
+block_now {c} {i} {index} {b} now same x = subst (λ (d : Contents). BlockAt (counted d) i index b) (sym same) x

@@ -26,3 +26,5 @@ pub mod Shortened
 pub mod BlocksRead
 pub mod Adopted
 pub mod Valued
+pub mod LentLoops
+pub mod LentBlocks

@@ -13,14 +13,15 @@ use Rattle.bw_record.specs.declared.block.Block.TheVariants.{Delta, Base, Split}
 use Rattle.bw_record.specs.declared.block.Frame.{Frame}
 use Rattle.bw_leaf.specs.Changed.{Bytes, empty_leaf}
 use Rattle.bw_leaf.specs.Forwards.{after, content, blocks_of}
-use Rattle.bw_leaf.specs.Words.{told_by, blocks_word, value_on, HasOrder}
+use Rattle.bw_leaf.specs.Words.{told_by, block_word, blocks_word, value_on, HasOrder}
 use Rattle.bw_leaf.specs.declared.words.Word.{Word}
-use Rattle.bw_leaf.specs.declared.words.Word.TheVariants.{Silent}
+use Rattle.bw_leaf.specs.declared.words.Word.TheVariants.{Silent, Gone, Holds}
 use Rattle.bw_leaf.proofs.Sorted.{Rises}
 use Rattle.bw_leaf.proofs.Wording.{RisesIf, rises_all, blocks_tell, words_append, silent_unset, said_over}
 use Rattle.bw_log.specs.Places.{all_placed}
 use Rattle.bw_log.specs.Contents.{Contents, counted, IsSound}
 use Rattle.bw_log.specs.Walking.{first_back, bodies, PlacedAt, IsWalk}
+use Rattle.bw_log.specs.Lent.{Heard, heard_of, says}
 use Rattle.bw_log.specs.Reads.{IsKept, ReadStops}
 use Rattle.bw_log.specs.declared.fault.LogFault.{LogFault}
 use Rattle.bw_log.proofs.Entries.{all_append, each_counted}
@@ -28,7 +29,7 @@ use Rattle.bw_log.proofs.Fetched.{kept_after, kept_same, sound_after}
 use Rattle.bw_log.proofs.Placing.{bodies_all, bodies_more}
 use Rattle.bw_log.proofs.Walk.{none_after, forgets_fold}
 use Rattle.bw_log.proofs.Walks.{content_one, reads_one, newest_last}
-use Rattle.bw_log.proofs.Walked.{Reads, Step, read_is, step_is, some_link}
+use Rattle.bw_log.proofs.Walked.{Step, step_from, some_from}
 
 -- ---- the pairs of counted frames ascend
 
@@ -127,39 +128,67 @@ looks_on {p} {at} b k all next x ordered walk silent = record {
 
 -- ---- one step, on a log that is as it was when the walk began
 
-abbrev pub Found : Contents → Contents → ℕ → Bytes → Place → Block → Type 0
-Found old now p k at block =
-    (now ≡ old) × IsSound old × Looks p k (all_placed (counted old)) at × ((b : Block) → PlacedAt (all_placed (counted now)) at b → block ≡ b)
+-- what was heard of the block at the place where the walk is
+abbrev pub HeardAt : Contents → Contents → ℕ → Bytes → Place → Word → Option Place → Type 0
+HeardAt old now p k at word link =
+    (now ≡ old) × IsSound old × Looks p k (all_placed (counted old)) at
+    × ((b : Block) → PlacedAt (all_placed (counted now)) at b → heard_of word link ≡ says p k b)
 
-abbrev reads_of : {old now : Contents} {p : ℕ} {k : Bytes} {at : Place} {block : Block} (r : Found old now p k at block) → Reads old now p at r.2.newer block
-reads_of r = (r.0, r.1, r.2.walk, r.3)
+one_word : (p : ℕ) (k : Bytes) (b : Block) → blocks_word p k (b ∷ []) ≡ block_word p k b
+one_word p k b = silent_first (block_word p k b)
+  where
+    silent_first : (w : Word) → Rattle.bw_leaf.specs.Words.newer Silent w ≡ w
+    silent_first Silent = refl
+    silent_first Gone = refl
+    silent_first (Holds value) = refl
 
-pub read_ordered : {old now : Contents} {p : ℕ} {k : Bytes} {at : Place} {block : Block} → Found old now p k at block → HasOrder block
-read_ordered {old} {now} {p} {k} {at} {block} r = subst HasOrder (sym (read_is (reads_of r))) (in_order old r.1 r.2.walk.stands).1
+both_are : (word : Word) (link : Option Place) (p : ℕ) (k : Bytes) (b : Block) → heard_of word link ≡ says p k b
+    → (word ≡ blocks_word p k (b ∷ [])) × (link ≡ first_back p (b ∷ []))
+both_are word link p k b e = (ap (λ (h : Heard). h.0) e ∙ sym (one_word p k b), ap (λ (h : Heard). h.1) e)
+
+-- what a block that was read says
+pub read_heard : (word : Word) (link : Option Place) (p : ℕ) (k : Bytes) (own block : Block) → own ≡ block → word ≡ blocks_word p k (own ∷ [])
+    → link ≡ first_back p (own ∷ []) → heard_of word link ≡ says p k block
+read_heard word link p k own block same said back =
+    ap (λ (w : Word). heard_of w link) (said ∙ one_word p k own ∙ ap (block_word p k) same)
+    ∙ ap (heard_of (block_word p k block)) (back ∙ ap (λ (b : Block). first_back p (b ∷ [])) same)
+
+-- both, of the walk's block
+heard_is : {old now : Contents} {p : ℕ} {k : Bytes} {at : Place} {word : Word} {link : Option Place} (r : HeardAt old now p k at word link)
+    → (word ≡ blocks_word p k (r.2.walk.block ∷ [])) × (link ≡ first_back p (r.2.walk.block ∷ []))
+heard_is {old} {now} {p} {k} {at} {word} {link} r =
+    both_are word link p k r.2.walk.block
+    (subst (λ (c : Contents). (b : Block) → PlacedAt (all_placed (counted c)) at b → heard_of word link ≡ says p k b) r.0 r.3
+    r.2.walk.block r.2.walk.stands)
 
 -- the block decides
-pub found_value : {old now : Contents} {p : ℕ} {k : Bytes} {at : Place} {block : Block} (word : Word) → Found old now p k at block
-    → word ≡ blocks_word p k (block ∷ []) → (word ≡ Silent → ⊥) → told_by word None ≡ value_on k (content p (blocks_of (counted old)))
-found_value {old} {now} {p} {k} {at} {block} word r said some =
-    let same : word ≡ blocks_word p k (r.2.walk.block ∷ []) = said ∙ ap (λ (b : Block). blocks_word p k (b ∷ [])) (read_is (reads_of r)) in
+pub heard_value : {old now : Contents} {p : ℕ} {k : Bytes} {at : Place} {word : Word} {link : Option Place} (said : Word) → HeardAt old now p k at word link
+    → word ≡ said → (said ≡ Silent → ⊥) → told_by said None ≡ value_on k (content p (blocks_of (counted old)))
+heard_value {old} {now} {p} {k} {at} {word} {link} said r is some =
+    let same = sym is ∙ (heard_is r).0 in
     ap (λ (w : Word). told_by w None) same ∙ sym (own_value k old r.1 r.2 (λ e. some (same ∙ e)))
 
-unset_by : (p : ℕ) (k : Bytes) (block : Block) → Silent ≡ blocks_word p k (block ∷ []) → false ≡ sets p block
-unset_by p k block silent = sym (or_parts (sets p block) false (silent_unset p k (block ∷ []) (sym silent))).0
+unset_by : (p : ℕ) (k : Bytes) (block : Block) → Silent ≡ blocks_word p k (block ∷ []) → sets p block ≡ false
+unset_by p k block silent = (or_parts (sets p block) false (silent_unset p k (block ∷ []) (sym silent))).0
 
 -- the block is silent: its link leads on
-pub found_on : {old now : Contents} {p : ℕ} {k : Bytes} {at : Place} {block : Block} (place : Place) (r : Found old now p k at block)
-    → Silent ≡ blocks_word p k (block ∷ []) → Some place ≡ first_back p (block ∷ []) → Step old p at r.2.newer block place
-found_on {old} {now} {p} {k} {at} {block} place r silent link = step_is place (reads_of r) (unset_by p k block silent) link
+pub heard_on : {old now : Contents} {p : ℕ} {k : Bytes} {at : Place} {word : Word} {link : Option Place} (place : Place) (r : HeardAt old now p k at word link)
+    → word ≡ Silent → link ≡ Some place → Step old p at r.2.newer r.2.walk.block place
+heard_on {old} {now} {p} {k} {at} {word} {link} place r silent on =
+    let is = heard_is r in
+    step_from place r.1 r.2.walk (unset_by p k r.2.walk.block (sym silent ∙ is.0)) (sym on ∙ is.1)
 
-pub found_further : {old now : Contents} {p : ℕ} {k : Bytes} {at : Place} {block : Block} (place : Place) (r : Found old now p k at block)
-    → Silent ≡ blocks_word p k (block ∷ []) → Some place ≡ first_back p (block ∷ []) → Looks p k (all_placed (counted old)) place
-found_further {old} {now} {p} {k} {at} {block} place r silent link =
-    looks_on block k (all_placed (counted old)) place r.2 (read_ordered r) (found_on place r silent link).walk (sym silent)
+pub heard_further : {old now : Contents} {p : ℕ} {k : Bytes} {at : Place} {word : Word} {link : Option Place} (place : Place)
+    → (r : HeardAt old now p k at word link) → word ≡ Silent → link ≡ Some place → Looks p k (all_placed (counted old)) place
+heard_further {old} {now} {p} {k} {at} {word} {link} place r silent on =
+    looks_on r.2.walk.block k (all_placed (counted old)) place r.2 (in_order old r.1 r.2.walk.stands).1 (heard_on place r silent on).walk
+    (sym (heard_is r).0 ∙ silent)
 
-pub never_ends : {old now : Contents} {p : ℕ} {k : Bytes} {at : Place} {block : Block} → Found old now p k at block
-    → Silent ≡ blocks_word p k (block ∷ []) → None ≡ first_back p (block ∷ []) → ⊥
-never_ends {old} {now} {p} {k} {at} {block} r silent none = some_link (reads_of r) (unset_by p k block silent) none
+pub never_ends : {old now : Contents} {p : ℕ} {k : Bytes} {at : Place} {word : Word} {link : Option Place} → HeardAt old now p k at word link
+    → word ≡ Silent → link ≡ None → ⊥
+never_ends {old} {now} {p} {k} {at} {word} {link} r silent none =
+    let is = heard_is r in
+    some_from r.1 r.2.walk (unset_by p k r.2.walk.block (sym silent ∙ is.0)) (sym none ∙ is.1)
 
 -- ---- what the log is after the walk
 

@@ -187,6 +187,18 @@ pub some_link : {old now : Contents} {p : ℕ} {at : Place} {newer : List Block}
     → None ≡ first_back p (block ∷ []) → ⊥
 some_link r unset none = let on = walks_on r unset in (let e : None ≡ Some on.back = none ∙ on.is in cc)
 
+-- the step from a block of the walk that says where to go on
+pub step_from : {old : Contents} {p : ℕ} {at : Place} {newer : List Block} (place : Place) → IsSound old → (w : IsWalk p (all_placed (counted old)) at newer)
+    → sets p w.block ≡ false → Some place ≡ first_back p (w.block ∷ []) → Step old p at newer w.block place
+step_from {old} {p} {at} {newer} place sound w unset link =
+    on_by place (first_back p (w.block ∷ [])) (walk_on (counted old) w sound.holds.numbered sound.holds.linked unset) link
+
+pub some_from : {old : Contents} {p : ℕ} {at : Place} {newer : List Block} → IsSound old → (w : IsWalk p (all_placed (counted old)) at newer)
+    → sets p w.block ≡ false → None ≡ first_back p (w.block ∷ []) → ⊥
+some_from {old} {p} {at} {newer} sound w unset none =
+    let on = walk_on (counted old) w sound.holds.numbered sound.holds.linked unset in
+    (let e : None ≡ Some on.back = none ∙ on.is in cc)
+
 pub end_is : {old now : Contents} {p : ℕ} {at : Place} {newer : List Block} {block : Block} (pushed : List Block) → Reads old now p at newer block
     → true ≡ sets p block → pushed ≡ newer ++ block ∷ [] → content p (blocks_of (counted old)) ≡ fold (after p) None (reverse pushed)
 end_is {old} {now} {p} {at} {newer} {block} pushed r set push =

@@ -15,5 +15,6 @@ pub mod Laws
 pub mod Starting
 pub mod Walking
 pub mod BlockBytes
+pub mod Lent
 pub mod PageTable
 pub mod Appending

@@ -62,7 +62,8 @@ pub(crate) struct Spot {
 impl Log {
     ghost use Rattle.bw_log.specs.Views.{seen_by, IsSound};
 
-    fn spot(&self, i: usize) -> Spot
+    /// Where the counted frame of an index stands.
+    pub(crate) fn spot(&self, i: usize) -> Spot
         requires sound { IsSound holding self.now }
         requires inside { i < length self.now.frames.items }
         ensures { IsSpot (seen_by holding self.now) i result }

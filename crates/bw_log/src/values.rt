@@ -1,8 +1,9 @@
 //! The value of one key on a page, from the page's newest block back.
 //!
-//! The newest block that says something of the key decides, so the walk ends there: it holds one
-//! block at a time, and a key that changed lately costs one frame, however old its page is. Read
-//! forwards, the whole page would have to be made for it.
+//! The newest block that says something of the key decides, so the walk ends there: a key that
+//! changed lately costs one frame, however old its page is. Read forwards, the whole page would
+//! have to be made for it. A block whose segment lends its bytes is looked at where it lies; of
+//! those that are read the walk holds one at a time.
 
 ghost use Rattle.std.specs.Prelude.{◌≡◌, ◌≢◌, ◌↔◌, [], Err, IfOk};
 ghost use Rattle.bw_leaf.specs.Forwards.{content, blocks_of};
@@ -14,9 +15,8 @@ ghost use Rattle.bw_log.specs.Walking.{IsWalk};
 
 use crate::fault::LogFault;
 use crate::log::Log;
-use crate::pages::back_of;
 use bw_codec::{Key, Place, Value};
-use bw_page::{Word, word_in_blocks};
+use bw_page::Word;
 
 impl Log {
     ghost use Rattle.bw_log.specs.Views.{seen_by, IsSound};
@@ -32,10 +32,10 @@ impl Log {
         ensures paged { result ≢ Err LogFault.NoPage }
     {
         let mut place = start;
+        let mut word = Word::Silent;
         'back: loop {
-            let block = self.block_at(place)?;
-            let link = back_of(page, &block);
-            match word_in_blocks(page, key, &[block]) {
+            let link = self.hear(page, key, place, &mut word)?;
+            match word {
                 Word::Silent => {}
                 Word::Gone => return Ok(None),
                 Word::Holds(value) => return Ok(Some(value)),
@@ -47,11 +47,13 @@ impl Log {
         }
     }
 
-    /// The value of a key on a page, as the counted frames leave it. It reads the blocks of the
+    /// The value of a key on a page, as the counted frames leave it. It looks at the blocks of the
     /// page from the newest back to the first with a record of the key, one that sets the page, or
-    /// one that splits the key off, and holds one of them in memory. So a key that changed lately
-    /// costs few blocks, however many touch the page. Whether the key belongs to the page is not
-    /// asked. Refused as `read_page` is.
+    /// one that splits the key off. So a key that changed lately costs few blocks, however many
+    /// touch the page. Whether the key belongs to the page is not asked. A block whose segment
+    /// lends its bytes is looked at where it lies, and only the value is copied; of blocks that are
+    /// read one is in memory at a time. Refused as `read_page` is, but by no segment that lends its
+    /// bytes.
     pub fn read_value(&mut self, page: u32, key: &Key) -> Result<Option<Value>, LogFault>
         requires { IsSound holding self.old }
         ensures value { IfOk result (λ value. value ≡ value_on key.now
