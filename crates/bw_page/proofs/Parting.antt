@@ -1,7 +1,7 @@
 -- A leaf to which a record adds a pair, and its two parts.
 
-use Rattle.std.proofs.Common.{◌≡◌, ℕ, zero, suc, ◌+◌, ◌<◌, ◌≤◌, List, [], ◌∷◌, ◌++◌, length, take, drop, Option, None, Result, Ok, Err, refl, ap, sym, subst, ◌∙◌, arith}
-use Rattle.std.proofs.Common.{Less, Equal, Greater, length-append}
+use Rattle.std.proofs.Common.{◌≡◌, ℕ, zero, suc, ◌+◌, ◌<◌, ◌≤◌, List, [], ◌∷◌, ◌++◌, length, take, drop, get_or, Option, None, Result, Ok, Err, refl, ap, sym, subst, ◌∙◌, arith}
+use Rattle.std.proofs.Common.{Less, Equal, Greater, length-append, length-take, length-drop}
 use Rattle.std.specs.FinMap.Entries.{find, by_order}
 use Rattle.std.proofs.lemmas.List.{take-append-drop}
 use Rattle.std.specs.Prelude.{insert, remove}
@@ -9,13 +9,15 @@ use Rattle.bw_record.specs.Record.{key_of}
 use Rattle.bw_record.specs.declared.leaf.Leaf.{Leaf}
 use Rattle.bw_record.specs.declared.record.Record.{Record}
 use Rattle.bw_record.specs.declared.record.Record.TheVariants.{Put, Del}
-use Rattle.bw_leaf.specs.Changed.{Bytes, Pairs, order, changed, changed_pairs}
-use Rattle.bw_page.specs.Displaced.{joined}
+use Rattle.bw_leaf.specs.Changed.{Bytes, Pairs, order, without, changed, changed_pairs}
+use Rattle.bw_page.specs.Displaced.{joined, with_pair_at}
+use Rattle.bw_page.specs.Keeping.{IsLost}
+use Rattle.bw_page.specs.declared.journal.Kept.TheVariants.{Lost}
 use Rattle.bw_leaf.specs.Seek.{seek_of, passed, IsWithin, AddsOne}
-use Rattle.bw_leaf.proofs.Seeking.{put_there, counted}
+use Rattle.bw_leaf.proofs.Seeking.{put_there, sought_at, counted}
 use Rattle.bw_leaf.proofs.Sorted.{Rises, length-changed}
 use Rattle.bw_page.proofs.TakenBack.{pairs_back}
-use Rattle.bw_leaf.proofs.Valued.{Reads, reads}
+use Rattle.bw_leaf.proofs.Valued.{Reads, reads, sought_key}
 
 -- what was put between two pairs is taken out again
 pub remove_inserted : {X : Type 0} (xs : List X) (at : ℕ) (x : X) → at ≤ length xs → remove (insert xs at x) at ≡ xs
@@ -30,6 +32,43 @@ pub with_pair : (leaf : Leaf) (r : Record) (found : Result ℕ ℕ) (at : ℕ) (
 with_pair leaf r found at own ps sought is puts e =
     let there = put_there leaf r own.0 own.1 (Err at) puts (sym is ∙ sought ∙ ap (λ (x : Record). seek_of (key_of x) leaf.pairs) puts) in
     there.0 ps (e ∙ there.1.0 own.1)
+
+-- what was taken out is put between the others again
+insert_removed : {X : Type 0} (xs : List X) (at : ℕ) (d : X) → at < length xs → insert (remove xs at) at (get_or xs at d) ≡ xs
+insert_removed [] at d h = absurd (omega arith)
+insert_removed (y ∷ ys) zero d h = refl
+insert_removed (y ∷ ys) (suc n) d h = ap (λ zs. y ∷ zs) (insert_removed ys n d (omega arith))
+
+-- a pair that a delete removed, at the place where it was found
+pub put_again : (key : Bytes) (ps : Pairs) (at : ℕ) (d : Bytes × Bytes) → Ok at ≡ seek_of key ps → at < length ps
+    → (at ≤ length (without key ps)) × (insert (without key ps) at (get_or ps at d) ≡ ps)
+put_again key ps at d sought within =
+    let less = (counted key ps (Ok at) sought within).1 in
+    (omega arith, ap (λ xs. insert xs at (get_or ps at d)) (sym (sought_at key ps (Ok at) sought).1) ∙ insert_removed ps at d within)
+
+-- the key of the pair that is found is found there
+pub seeks_itself : (key : Bytes) (ps : Pairs) (at : ℕ) (d : Bytes × Bytes) → Ok at ≡ seek_of key ps → Ok at ≡ seek_of (get_or ps at d).0 ps
+seeks_itself key ps at d e = e ∙ ap (λ k. seek_of k ps) (sym (sought_key key ps at e d))
+
+-- there is one pair fewer without it
+one_fewer : (rest ps : Pairs) (at : ℕ) (p : Bytes × Bytes) → at ≤ length rest → insert rest at p ≡ ps → length rest + 1 ≡ length ps
+one_fewer rest ps at p h e =
+    let all = length-append (take at rest) (p ∷ drop at rest) in
+    let front = length-take at rest in
+    let back = length-drop at rest in
+    let same = ap length e in
+    omega arith
+
+-- a leaf without a pair is the leaf with it, once the pair is in its place again
+pub again : (rest was : Leaf) (at : ℕ) (pair : Bytes × Bytes) → rest ≡ changed (Del pair.0) was → IsLost (Lost at pair) was
+    → (at ≤ length rest.pairs) × (length rest.pairs + 1 ≡ length was.pairs) × (with_pair_at rest at pair ≡ was)
+again rest was at pair e h =
+    let same = ap (λ (l : Leaf). length l.pairs) e in
+    let fewer = one_fewer (without pair.0 was.pairs) was.pairs at pair h.0 h.1 in (
+      omega arith,
+      omega arith,
+      ap (λ l. with_pair_at l at pair) e ∙ ap (λ (ps : Pairs). let l : Leaf = record was { pairs = ps } in l) h.1,
+    )
 
 -- what makes too many pairs adds one
 pub adds_one : (m : ℕ) (r : Record) (pairs : Pairs) (found : Result ℕ ℕ) → found ≡ seek_of (key_of r) pairs → IsWithin (length pairs) found

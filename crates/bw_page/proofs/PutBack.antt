@@ -4,8 +4,8 @@ use Rattle.std.proofs.Common.{◌≡◌, ℕ, List, [], ◌∷◌, ◌++◌, ◌
 use Rattle.std.proofs.Common.{take, drop, get_or, sym, ap, ◌∙◌, subst, arith, length-take}
 use Rattle.std.proofs.Common.{length-append}
 use Rattle.std.specs.Prelude.{slice_set, not}
-use Rattle.std.proofs.lemmas.Bool.{leb-false}
-use Rattle.std.proofs.lemmas.List.{length-map, get_or-set_same}
+use Rattle.std.proofs.lemmas.Bool.{leb-true, leb-false}
+use Rattle.std.proofs.lemmas.List.{length-map, get_or-set_same, take_all}
 use Rattle.std.specs.Ordering.{eq_by_cmp}
 use Rattle.std.specs.FinMap.Entries.{find}
 use Rattle.bw_record.specs.Keys.{IsKey}
@@ -16,7 +16,7 @@ use Rattle.bw_record.specs.declared.record.Record.TheVariants.{Del}
 use Rattle.bw_record.specs.declared.leaf.Leaf.{Leaf}
 use Rattle.bw_page.specs.declared.leaves.Leaves.TheInside.{Inside}
 use Rattle.bw_page.specs.declared.journal.Undo.TheVariants.{Back, Page}
-use Rattle.bw_page.specs.Displaced.{Displaced, joined, AreParts}
+use Rattle.bw_page.specs.Displaced.{Displaced, joined, HasSeat, IsLess, AreParts}
 use Rattle.bw_leaf.specs.Changed.{Bytes, order, empty_leaf, changed}
 use Rattle.bw_page.specs.Leaves.{home, result_of, with_leaf, applied, AreLeaves}
 use Rattle.bw_leaf.specs.SplitRule.{lower_of, upper_of}
@@ -36,14 +36,19 @@ use Rattle.bw_leaf.proofs.Sorted.{ascends_rises}
 use Rattle.bw_page.proofs.Applying.{Replaces, same_lows, put_in-page, home-put}
 use Rattle.bw_page.proofs.Law.{directed, home_base, lower_in, applied-whole, applied-split}
 use Rattle.bw_page.proofs.Closed.{leaf_is, lows-put}
-use Rattle.bw_page.proofs.TakenBack.{into, back_adds, back-key}
-use Rattle.bw_page.proofs.Runs.{back_one, page_of, back_is}
+use Rattle.bw_page.proofs.TakenBack.{into, back_adds, back-key, none_deletes}
+use Rattle.bw_page.proofs.Runs.{back_one, page_of, back_is, none_back}
 
 -- more pairs than a page may have
 over_of : (n m : ℕ) → IsTrue (not (nat_le n m)) → m < n
 over_of n m h =
     elim (nat_le n m) as (λ b. nat_le n m ≡ b → IsTrue (not b) → m < n)
     [ true ↦ λ e no. absurd (cc) | false ↦ λ e yes. leb-false n m e ] refl h
+
+fits_of : (n m : ℕ) → not (nat_le n m) ≡ false → n ≤ m
+fits_of n m h =
+    elim (nat_le n m) as (λ b. nat_le n m ≡ b → not b ≡ false → n ≤ m)
+    [ true ↦ λ e yes. leb-true n m e | false ↦ λ e no. absurd (cc) ] refl h
 
 module _ (a : Inside) (h : IsIndexed a) (now : Shown) (v : view_of a ≡ now) (u : Displaced) (n : IsNewest now (Page u)) where
   pages_are : u.pages ≡ length n.before.leaves
@@ -89,10 +94,39 @@ module _ (a : Inside) (h : IsIndexed a) (now : Shown) (v : view_of a ≡ now) (u
   pub put_page : 1 ≤ u.leaf.page
   put_page = let p = page_is in let w = home_within n.before.m (key_of n.change) n.before.leaves n.lawful in omega arith
 
+  pub put_seat : (seats : Seating) → seats.items ≡ take u.pages a.leaves.items → seats.evicted ≡ a.leaves.evicted → HasSeat u seats
+  put_seat seats items evicted =
+      let within = put_within in
+      let long : length seats.items ≡ length (take u.pages a.leaves.items) = ap length items in
+      record { page = (put_page, omega arith); here = ap (is_among u.leaf.page) evicted ∙ put_here }
+
+  -- if the record did not split the page, it stands there without a pair
+  pub put_less : (seats : Seating) → seats.items ≡ take u.pages a.leaves.items → u.is_split ≡ false → IsLess u seats
+  put_less seats items whole d =
+      let m = n.before.m in
+      let leaves = n.before.leaves in
+      let k = key_of n.change in
+      let x : Leaf = result_of leaves n.change in
+      let was = page_of n.before n.change u n.displaced in
+      let fits : length x.pairs ≤ m = fits_of (length x.pairs) m (sym (ap (λ (d : Displaced). d.is_split) was) ∙ whole) in
+      let deletes : n.change ≡ Del k = none_deletes n.change (find order k (home k leaves).pairs) (none_back n.before n.change u n.displaced fits) in
+      let form : a.leaves.items ≡ map (put_in x) leaves = leaves_are ∙ applied-whole m leaves n.change n.some n.lawful n.op fits in
+      let p = pages_are in
+      let page = page_is in
+      let w = home_within m k leaves n.lawful in
+      let some : 1 ≤ x.page = omega arith in
+      let long = length-map leaves (put_in x) in
+      let front_is : seats.items ≡ map (put_in x) leaves =
+      items ∙ (λ i. take (p i) (form i)) ∙ take_all (length leaves) (map (put_in x) leaves) (omega arith) in
+      let at : get_or seats.items (u.leaf.page - 1) d ≡ x =
+      (λ i. get_or ((front_is ∙ sym (set_is_put x leaves n.lawful.pages some)) i) (page i - 1) d)
+      ∙ get_or-set_same leaves (x.page - 1) x d (omega arith) in
+      at ∙ ap (λ r. changed r (home k leaves)) deletes ∙ sym (ap (λ (d : Displaced). changed (Del d.key) d.leaf) was)
+
   -- if the record split the page, its parts are there
-  pub put_parts : (seats : Seating) (upper : Option Leaf) → seats.items ≡ take u.pages a.leaves.items → seats.evicted ≡ a.leaves.evicted
+  pub put_parts : (seats : Seating) (upper : Option Leaf) → seats.items ≡ take u.pages a.leaves.items
       → ((d : Leaf) → u.pages < length a.leaves.items → upper ≡ Some (get_or a.leaves.items u.pages d)) → IsTrue u.is_split → AreParts u seats upper
-  put_parts seats upper items evicted last split =
+  put_parts seats upper items last split =
       let m = n.before.m in
       let leaves = n.before.leaves in
       let k = key_of n.change in
@@ -120,8 +154,6 @@ module _ (a : Inside) (h : IsIndexed a) (now : Shown) (v : view_of a ≡ now) (u
       (λ i. get_or ((front_is ∙ sym (set_is_put lower leaves n.lawful.pages some)) i) (page i - 1) d)
       ∙ get_or-set_same leaves (lower.page - 1) lower d (omega arith) in
       record {
-        page = (put_page, omega arith);
-        here = ap (is_among u.leaf.page) evicted ∙ put_here;
         other = upper_is;
         is = last lower (omega arith) ∙ ap Some ((λ i. get_or (form i) (p i) lower) ∙ last_is m leaves k n.lawful lower upper_is lower);
         few = λ d. subst (λ (l : Leaf). length l.pairs + length upper_is.pairs ≤ length u.leaf.pairs + 1) (sym (at d))

@@ -178,6 +178,19 @@ back_is f r back e =
       | false ↦ λ t h. absurd (cc)
     ] refl e
 
+-- if it is the displaced leaf, which was not split, no record takes it back
+pub none_back : (f : Shown) (r : Record) (d : Displaced) → Page d ≡ undo_of f r → length (result_of f.leaves r).pairs ≤ f.m
+    → back_of r (find order (key_of r) (home (key_of r) f.leaves).pairs) ≡ None
+none_back f r d e fits =
+    let old = find order (key_of r) (home (key_of r) f.leaves).pairs in
+    let few = le-leb (length (result_of f.leaves r).pairs) f.m fits in
+    elim (nat_le (length (result_of f.leaves r).pairs) f.m) as (λ b. nat_le (length (result_of f.leaves r).pairs) f.m ≡ b
+    → Page d ≡ (if b then undo_by (back_of r old) (displaced_by f r) else Page (displaced_by f r)) → back_of r old ≡ None) [
+      | true ↦ λ t. elim (back_of r old) as (λ o. Page d ≡ undo_by o (displaced_by f r) → o ≡ None)
+          [ Some b ↦ λ h. absurd (cc) | None ↦ λ h. refl ]
+      | false ↦ λ t h. absurd (cc)
+    ] refl e
+
 -- the newest record of a journal
 pub record Last (f : Shown) (rs : List Record) (us : List Undo) (u : Undo) : Type 0 where
   front : List Record

@@ -55,6 +55,12 @@ back-value (Put key value) back None h = let same : Del key ≡ back = cc in sym
 back-value (Del key) back (Some old) h = absurd (cc)
 back-value (Del key) back None h = let same : Del key ≡ back = cc in sym (ap value_of same)
 
+-- a record that none takes back is a delete
+pub none_deletes : (r : Record) (old : Option Bytes) → back_of r old ≡ None → r ≡ Del (key_of r)
+none_deletes (Put key value) (Some old) h = absurd (cc)
+none_deletes (Put key value) None h = absurd (cc)
+none_deletes (Del key) old h = refl
+
 put_adds : (key old value : Bytes) (ps : Pairs) (found : Option Bytes) (s : Result ℕ ℕ) → found ≡ Some value → Reads found ps s → AddsNone (Put key old) s
 put_adds key old value ps found (Ok at) e h = tt
 put_adds key old value ps found (Err at) e h = absurd (cc)

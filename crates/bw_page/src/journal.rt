@@ -1,12 +1,13 @@
 //! What takes a record back, which is never refused.
 
-ghost use Rattle.std.specs.Prelude.{◌≡◌, ◌≤◌, ◌+◌, ◌-◌, ◌++◌, [], true, false, length, slice_set, IfOk, IsTrue, vec_len};
+ghost use Rattle.std.specs.Prelude.{◌≡◌, ◌≤◌, ◌<◌, ◌+◌, ◌-◌, ◌++◌, [], true, false, length, slice_set, slice_index_or, Ok, IfOk, IsTrue, vec_len};
 ghost use Rattle.std.specs.Vec.{vec_capacity};
 ghost use Rattle.bw_record.specs.Record.{key_of};
 ghost use Rattle.bw_record.specs.declared.leaf.Leaf.{Leaf as LeafValue};
 ghost use Rattle.bw_record.specs.declared.record.Record.TheVariants.{Del};
-ghost use Rattle.bw_leaf.specs.Changed.{changed};
-ghost use Rattle.bw_page.specs.Displaced.{joined, AreParts};
+ghost use Rattle.bw_leaf.specs.Changed.{Bytes, changed};
+ghost use Rattle.bw_leaf.specs.Seek.{seek_of};
+ghost use Rattle.bw_page.specs.Displaced.{joined, with_pair_at, HasSeat, IsLess, AreParts};
 
 use crate::seats::Seats;
 use bw_codec::{Leaf, Packed, Pair, Pairs};
@@ -20,28 +21,30 @@ use std::snapshot::Snapshot;
 pub(crate) enum Undo {
     /// This record does, which adds no pair.
     Back(Packed),
-    /// The page was split, or lost a pair: it is put back as it was.
+    /// The page lost a pair, or was split: it is put back as it was.
     Page(Displaced),
 }
 
-/// A leaf that a record changed, as it was before.
+/// A leaf that a record changed, as it was before: what takes it back, beside the pairs that still
+/// stand in pages.
 #[derive(Drop)]
 pub(crate) struct Displaced {
     kept: Kept,
     was: Snapshot<Leaf>,
+    page: u32,
+    /// Room for its pairs and one more.
+    room: Vec<Pair>,
     /// How many pages there were before.
     pages: u32,
-    /// The record.
-    by: Packed,
 }
 
-/// How a displaced leaf is kept.
+/// What the record did to a displaced leaf.
 #[derive(Drop)]
 enum Kept {
-    /// It lost a pair: whole.
-    Whole(Leaf),
-    /// It was split: its pairs are in its two parts. Its page, and room for the pairs of both.
-    Parted(u32, Vec<Pair>),
+    /// It removed the pair at this place.
+    Lost(usize, Pair),
+    /// It added a pair, and the leaf was split: the record.
+    Parted(Packed),
 }
 
 impl Model for Displaced {
@@ -57,18 +60,27 @@ impl Model for Displaced {
 }
 
 impl Displaced {
-    /// A leaf of which a pair is removed. No memory is taken.
-    pub(crate) fn whole(leaf: Leaf, pages: u32, by: Packed) -> Displaced
-        ensures { result
-            ≡ record { leaf = leaf; pages = pages; key = key_of by; is_split = false } }
+    /// A leaf of which the pair at a place is about to be removed. It takes memory, whose refusal
+    /// is an error, as is a full count of those that share the pair.
+    pub(crate) fn lost(leaf: &Leaf, at: usize, pages: u32) -> Result<Displaced, AllocError>
+        requires within { at < length leaf.now.pairs }
+        requires sought { (p : Bytes × Bytes)
+            → Ok at ≡ seek_of (slice_index_or leaf.now.pairs at p).0 leaf.now.pairs }
+        ensures { (p : Bytes × Bytes) → IfOk result (λ d. d ≡ record {
+          leaf = leaf.now;
+          pages = pages;
+          key = (slice_index_or leaf.now.pairs at p).0;
+          is_split = false;
+        }) }
     {
-        let was = Snapshot::of(&leaf);
-        Displaced {
-            kept: Kept::Whole(leaf),
-            was,
+        let pair = leaf.pairs.as_slice()[at].copy()?;
+        Ok(Displaced {
+            kept: Kept::Lost(at, pair),
+            was: Snapshot::of(leaf),
+            page: leaf.page,
+            room: room_for(&leaf.pairs)?,
             pages,
-            by,
-        }
+        })
     }
 
     /// A leaf that is about to be split. It takes memory, whose refusal is the only error.
@@ -77,12 +89,12 @@ impl Displaced {
             ≡ record { leaf = leaf.now; pages = pages; key = key_of by.now; is_split = true }) }
     {
         let by = by.copy()?;
-        let room = Vec::with_capacity(leaf.pairs.allocator(), leaf.pairs.as_slice().len() + 1)?;
         Ok(Displaced {
-            kept: Kept::Parted(leaf.page, room),
+            kept: Kept::Parted(by),
             was: Snapshot::of(leaf),
+            page: leaf.page,
+            room: room_for(&leaf.pairs)?,
             pages,
-            by,
         })
     }
 
@@ -93,10 +105,12 @@ impl Displaced {
         self.pages
     }
 
-    /// The leaf again; if it was split, from its parts, of which the lower one is taken from its
-    /// seat. It is never refused; a row of heads takes memory.
+    /// The leaf again. What stands in its seat is taken: the leaf without the pair that it lost, or
+    /// the lower one of its parts. It is never refused; a row of heads takes memory.
     pub(crate) fn into_leaf(self, leaves: &mut Seats, upper: Option<Leaf>) -> Leaf
-        requires { IsTrue self.is_split → AreParts self leaves.old upper }
+        requires seat { HasSeat self leaves.old }
+        requires less { self.is_split ≡ false → IsLess self leaves.old }
+        requires parts { IsTrue self.is_split → AreParts self leaves.old upper }
         ensures leaf { result ≡ self.leaf }
         ensures others { (x : LeafValue) → slice_set leaves.new.items (self.leaf.page - 1) x
             ≡ slice_set leaves.old.items (self.leaf.page - 1) x }
@@ -105,20 +119,51 @@ impl Displaced {
         let Displaced {
             kept,
             was: _,
+            page,
+            room,
             pages: _,
-            by,
         } = self;
+        let none = empty_page(leaves.allocator());
+        let rest = leaves.exchange(page as usize - 1, none);
         match kept {
-            Kept::Whole(leaf) => leaf,
-            Kept::Parted(page, room) => {
+            Kept::Lost(at, pair) => put_at(rest, at, pair, room),
+            Kept::Parted(by) => {
                 let Some(upper) = upper else {
                     unreachable!();
                 };
-                let none = empty_page(leaves.allocator());
-                let lower = leaves.exchange(page as usize - 1, none);
-                without(join(lower, upper, room), by)
+                without(join(rest, upper, room), by)
             }
         }
+    }
+}
+
+// Room for pairs and one more.
+fn room_for(pairs: &Pairs) -> Result<Vec<Pair>, AllocError>
+    ensures empty { IfOk result (λ room. (room.items ≡ []) × (vec_len room ≡ 0)) }
+    ensures room { IfOk result (λ room. length pairs.now + 1 ≤ vec_capacity room) }
+{
+    Vec::with_capacity(pairs.allocator(), pairs.as_slice().len() + 1)
+}
+
+// A leaf with one more pair, at this place, in room that there is for all of them.
+fn put_at(leaf: Leaf, at: usize, pair: Pair, room: Vec<Pair>) -> Leaf
+    requires within { at ≤ length leaf.pairs }
+    requires empty { (room.items ≡ []) × (vec_len room ≡ 0) }
+    requires room { length leaf.pairs + 1 ≤ vec_capacity room }
+    ensures { result ≡ with_pair_at leaf at pair }
+{
+    let page = leaf.page;
+    let (low, pairs) = leaf.into_parts();
+    let mut all = room;
+    move_all(&mut all, pairs);
+    match all.insert(at, pair) {
+        Ok(()) => {}
+        Err(_) => unreachable!(),
+    }
+    Leaf {
+        page,
+        low,
+        pairs: Pairs::of(all),
     }
 }
 

@@ -141,6 +141,38 @@ impl Leaves {
         self.leaves.base_length(page as usize - 1)
     }
 
+    /// How many bytes the pages in memory have, as Bases. No clause says it: tests do.
+    pub fn bytes_here(&self) -> u64 {
+        self.leaves.bytes_here()
+    }
+
+    /// Notes that somebody asked for a page: the hand passes it once more before it may leave. Any
+    /// number may be given: for no page, and for one that is evicted, nothing is noted.
+    pub fn ask(&mut self, page: u32)
+        ensures { self.new ≡ self.old }
+    {
+        if page > 0 {
+            self.leaves.ask(page as usize - 1);
+        }
+    }
+
+    /// The next page that may leave memory: one that is there, and that nobody asked for since the
+    /// hand passed it last. It stays, until `evict_page`. None if two rounds of the hand find none.
+    ///
+    /// It takes no memory. It costs a look at each page that the hand passes: one for each that
+    /// somebody asked for, or that left, since the hand passed it last.
+    pub fn next_to_leave(&mut self) -> Option<u32>
+        ensures same { self.new ≡ self.old }
+        ensures within { IfSome result (λ page. (1 ≤ page) × (page ≤ length self.old.leaves)) }
+        ensures here { IfSome result (λ page. is_evicted_page page self.old ≡ false) }
+        ensures leaf { IfSome result (λ page. is_some (leaf_here page self.old) ≡ true) }
+    {
+        match self.leaves.next_to_leave() {
+            Some(at) => Some(at as u32 + 1),
+            None => None,
+        }
+    }
+
     /// Takes back a page's leaf, which it has to be.
     pub fn bring_back(&mut self, page: u32, leaf: Leaf)
         requires { leaf_at page self.old.leaves ≡ Some leaf }
@@ -460,8 +492,8 @@ impl Leaves {
     }
 
     /// Lawful pages that were found in the log, of which page n stands at index n - 1, with at most
-    /// `m` pairs a page, 4 to 32. All of them are evicted. A refused growth is the only error. It costs
-    /// all pages.
+    /// `m` pairs a page, 4 to 32. All of them are evicted. A refused growth is the only error. It
+    /// costs all pages.
     pub fn found(pages: Vec<HollowPage>, m: u16) -> Result<Leaves, AllocError>
         requires limit { (4 ≤ m) × (m ≤ 32) }
         requires lawful { AreLeaves m pages.items }

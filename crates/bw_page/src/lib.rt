@@ -16,9 +16,11 @@
 //! applied, and taking back is never refused.
 //!
 //! A page may be evicted from memory. What it holds is then known only to the proof, by a snapshot,
-//! which has no bytes; whoever brings it back has to have read exactly that.
+//! which has no bytes; whoever brings it back has to have read exactly that. Which page may leave
+//! next is said by a clock (`clock.rt`), of which no clause speaks.
 #![tactic(auto)]
 
+mod clock;
 mod fault;
 mod index;
 mod journal;

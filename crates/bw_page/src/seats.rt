@@ -20,6 +20,9 @@ ghost use Rattle.bw_page.specs.Seats.{is_among, numbers_from};
 ghost use Rattle.bw_leaf.specs.Seek.{seek_of, back_of, IsWithin, AddsNone, AddsOne};
 ghost use Rattle.bw_record.specs.Record.{key_of};
 
+mod asked;
+
+use crate::clock::{Clock, base_bytes, found_bytes, pairs_bytes, put_bytes};
 use crate::splits::split_leaf;
 use bw_codec::{Leaf, Packed, base_length};
 use bw_leaf::{HollowPage, change_found, take_back};
@@ -34,8 +37,12 @@ use std::mem;
 pub(crate) struct Seat {
     leaf: Option<Leaf>,
     was: Told<Leaf>,
-    /// How many bytes its Base has, if it is evicted.
+    /// How many bytes its Base has; of one in memory, as it was counted last.
     len: u32,
+    /// Whether somebody asked for it since the hand of the clock passed it last.
+    asked: bool,
+    /// Whether the ring of the clock has an entry for it.
+    in_ring: bool,
 }
 
 impl Model for Seat {
@@ -56,10 +63,13 @@ impl Seat {
         ensures { result ≡ record { leaf = leaf; is_evicted = false } }
     {
         let was = Told::of(&leaf);
+        let len = base_bytes(&leaf);
         Seat {
             leaf: Some(leaf),
             was,
-            len: 0,
+            len,
+            asked: false,
+            in_ring: false,
         }
     }
 
@@ -73,6 +83,8 @@ impl Seat {
             leaf: None,
             was: page.into_told(),
             len,
+            asked: false,
+            in_ring: false,
         }
     }
 
@@ -96,11 +108,25 @@ impl Seat {
         }
     }
 
+    /// Puts a leaf in its place, which is then in memory, and gives the one that was in memory.
+    fn put(&mut self, clock: &mut Clock, at: usize, leaf: Leaf) -> Option<Leaf>
+        ensures now { self.new ≡ record { leaf = leaf; is_evicted = false } }
+        ensures was { result ≡ (if self.old.is_evicted then None else Some self.old.leaf) }
+    {
+        let was = self.counted();
+        let len = base_bytes(&leaf);
+        self.was = Told::of(&leaf);
+        let old = mem::replace(&mut self.leaf, Some(leaf));
+        self.settle(clock, at, was, len);
+        old
+    }
+
     /// Drops the leaf.
-    fn evict_page(&mut self)
+    fn evict_page(&mut self, clock: &mut Clock)
         requires { IsBase 32 self.old.leaf }
         ensures { self.new ≡ record self.old { is_evicted = true } }
     {
+        clock.recount(self.counted(), 0);
         self.len = self.base_length() as u32;
         self.leaf = None;
     }
@@ -109,6 +135,8 @@ impl Seat {
     /// `change_found` gives. A refusal changes nothing.
     fn change(
         &mut self,
+        clock: &mut Clock,
+        at: usize,
         found: Result<usize, usize>,
         item: &Packed,
     ) -> Result<Option<Packed>, AllocError>
@@ -124,8 +152,10 @@ impl Seat {
     {
         match &mut self.leaf {
             Some(leaf) => {
+                let less = found_bytes(leaf, found);
                 let back = change_found(leaf, found, item)?;
                 self.was = Told::of(leaf);
+                self.resize(clock, at, less, put_bytes(item));
                 Ok(back)
             }
             None => unreachable!(),
@@ -137,8 +167,10 @@ impl Seat {
     /// changes nothing.
     fn split(
         &mut self,
+        clock: &mut Clock,
         index: &mut LowIndex,
         m: u16,
+        at: usize,
         found: Result<usize, usize>,
         item: &Packed,
         page: u32,
@@ -164,6 +196,7 @@ impl Seat {
             Some(leaf) => {
                 let upper = split_leaf(index, m, leaf, found, item, page)?;
                 self.was = Told::of(leaf);
+                self.resize(clock, at, pairs_bytes(&upper), put_bytes(item));
                 Ok(upper)
             }
             None => unreachable!(),
@@ -172,7 +205,7 @@ impl Seat {
 
     /// Changes the leaf by a record that adds no pair and has its memory, if the search for its key
     /// ended so.
-    fn take_back(&mut self, found: Result<usize, usize>, back: Packed)
+    fn take_back(&mut self, clock: &mut Clock, at: usize, found: Result<usize, usize>, back: Packed)
         requires here { self.old.is_evicted ≡ false }
         requires found { found ≡ seek_of (key_of back) self.old.leaf.pairs }
         requires within { IsWithin (length self.old.leaf.pairs) found }
@@ -182,8 +215,11 @@ impl Seat {
     {
         match &mut self.leaf {
             Some(leaf) => {
+                let less = found_bytes(leaf, found);
+                let more = put_bytes(&back);
                 take_back(leaf, found, back);
                 self.was = Told::of(leaf);
+                self.resize(clock, at, less, more);
             }
             None => unreachable!(),
         }
@@ -198,6 +234,8 @@ impl Seat {
             leaf,
             was: _,
             len: _,
+            asked: _,
+            in_ring: _,
         } = self;
         match leaf {
             Some(leaf) => leaf,
@@ -210,6 +248,7 @@ impl Seat {
 #[derive(Drop)]
 pub(crate) struct Seats {
     seats: Vec<Seat>,
+    clock: Clock,
 }
 
 impl Model for Seats {
@@ -230,6 +269,7 @@ impl Seats {
     {
         Seats {
             seats: Vec::new(alloc),
+            clock: Clock::new(alloc),
         }
     }
 
@@ -325,7 +365,11 @@ impl Seats {
         ensures succeeds { 1 ≤ self.old.room → IsOk result }
         ensures unchanged { OnErr result (self.new.items ≡ self.old.items) }
     {
-        self.seats.push(Seat::of(leaf))?;
+        self.seats.reserve(1)?;
+        let mut seat = Seat::of(leaf);
+        let len = seat.len;
+        seat.settle(&mut self.clock, self.seats.len(), 0, len);
+        self.seats.push_reserved(seat);
         Ok(())
     }
 
@@ -339,7 +383,10 @@ impl Seats {
         ensures evicted { self.new.evicted ≡ self.old.evicted }
     {
         match self.seats.pop() {
-            Some(seat) => seat.into_leaf(),
+            Some(seat) => {
+                seat.leave(&mut self.clock, self.seats.len());
+                seat.into_leaf()
+            }
             None => unreachable!(),
         }
     }
@@ -354,7 +401,7 @@ impl Seats {
         ensures room { self.new.room ≡ self.old.room }
     {
         let _ = self.seats.as_slice().len(); // For the proof.
-        self.seats[at] = Seat::of(leaf);
+        let _ = self.seats[at].put(&mut self.clock, at, leaf);
     }
 
     /// Sets the leaf at an index, which is in memory, and gives it as it was.
@@ -367,7 +414,10 @@ impl Seats {
         ensures room { self.new.room ≡ self.old.room }
     {
         let _ = self.seats.as_slice().len(); // For the proof.
-        mem::replace(&mut self.seats[at], Seat::of(leaf)).into_leaf()
+        match self.seats[at].put(&mut self.clock, at, leaf) {
+            Some(leaf) => leaf,
+            None => unreachable!(),
+        }
     }
 
     /// Changes a leaf, which is in memory, and in which the search for the record's key ended so.
@@ -393,7 +443,7 @@ impl Seats {
         ensures unchanged { OnErr result (self.new.items ≡ self.old.items) }
     {
         let _ = self.seats.as_slice().len(); // For the proof.
-        self.seats[at].change(found, item)
+        self.seats[at].change(&mut self.clock, at, found, item)
     }
 
     /// Changes a leaf, which is in memory, by a record that adds one pair too many, if the search
@@ -430,7 +480,7 @@ impl Seats {
         ensures index_stays { OnErr result (index.new ≡ index.old) }
     {
         let _ = self.seats.as_slice().len(); // For the proof.
-        self.seats[at].split(index, m, found, item, page)
+        self.seats[at].split(&mut self.clock, index, m, at, found, item, page)
     }
 
     /// Changes a leaf, which is in memory, by a record that adds no pair and has its memory, if the
@@ -448,7 +498,7 @@ impl Seats {
         ensures evicted { self.new.evicted ≡ self.old.evicted }
     {
         let _ = self.seats.as_slice().len(); // For the proof.
-        self.seats[at].take_back(found, back);
+        self.seats[at].take_back(&mut self.clock, at, found, back);
     }
 
     /// How many bytes the Base of the leaf at an index has.
@@ -472,6 +522,6 @@ impl Seats {
             ≡ (if p == at + 1 then true else is_among p self.old.evicted) }
     {
         let _ = self.seats.as_slice().len(); // For the proof.
-        self.seats[at].evict_page();
+        self.seats[at].evict_page(&mut self.clock);
     }
 }

@@ -1,9 +1,9 @@
 //! Records applied as one: what takes each of them back is kept until the last is applied.
 //!
 //! A record that adds no pair takes back most of them: a put of the key's old value, or a delete of
-//! a key that had none. To put back a pair that was removed might take memory; there the leaf is
-//! kept as it was before. A page that was split is joined again in room that was made before the
-//! split.
+//! a key that had none. To put back a pair that was removed might take memory; there the pair is
+//! kept, and room for all pairs of its page. A page that was split is joined again in room that was
+//! made before the split.
 
 ghost use Rattle.std.specs.Prelude.{◌≡◌, ◌≤◌, ◌<◌, ◌+◌, [], length, map, vec_len, is_none, is_some, IfOk, IfSome, IsOk, IsErr, OnOk, OnErr, ◌⊎◌};
 ghost use Rattle.std.specs.Vec.{vec_capacity};
@@ -68,8 +68,8 @@ const NO_PAGE: u32 = 0;
 impl Leaves {
     /// Applies records one after the other, all or none: a refusal changes nothing.
     ///
-    /// Beside what `apply` costs, it costs for each record that removes a pair a copy of its page,
-    /// which shares the pairs, held until the end.
+    /// Beside what `apply` costs, it costs for each record that removes a pair room for the pairs
+    /// of its page, held until the end.
     pub fn apply_all(&mut self, records: &[Packed]) -> Result<(), ApplyError>
         requires { self.old.evicted ≡ [] }
         ensures ok { OnOk result (self.new ≡ run self.old records.now) }
@@ -295,12 +295,14 @@ impl Leaves {
         ensures kept { IfOk result (λ kept. is_none kept ≡ is_some (back_of change.now
             (find order (key_of change.now) (home (key_of change.now) self.now.leaves).pairs))) }
     {
-        if removes(found, change) {
-            let by = change.copy()?;
-            let leaf = self.leaves.get(at).copy()?;
-            return Ok(Some(Displaced::whole(leaf, self.count(), by)));
+        let leaf = self.leaves.get(at);
+        if !removes(found, change) {
+            return Ok(None);
         }
-        Ok(None)
+        match found {
+            Ok(place) => Ok(Some(Displaced::lost(leaf, place, self.count())?)),
+            Err(_) => Ok(None),
+        }
     }
 
     /// Takes records back, the newest first. It is never refused.
@@ -334,7 +336,8 @@ impl Leaves {
         self.leaves.take_back(at, found, back);
     }
 
-    /// Takes the newest record back by the leaf that it displaced: whole, or joined of its parts.
+    /// Takes the newest record back by the leaf that it displaced: with the pair that it lost, or
+    /// joined of its parts.
     fn put_page_back(&mut self, displaced: Displaced)
         requires { IsNewest self.old (Undo.Page displaced) }
         ensures { self.new ≡ undone self.old (Undo.Page displaced) }

@@ -4,6 +4,7 @@
 //! Tables of steps, each walked to the first that goes otherwise than expected.
 
 mod chains;
+mod clock;
 mod evicted;
 mod leaf;
 mod pages;

@@ -72,6 +72,15 @@ fn a_page_goes_and_comes(alloc: Global) -> Option<bool> {
     asked(alloc, is_evicted_page && leaves.is_here(1))
 }
 
+/// The hand gives the page that somebody asked for once it has passed it.
+fn the_hand_goes_on(alloc: Global) -> Option<bool> {
+    let mut leaves = one_page(alloc)?;
+    begin_without(alloc);
+    leaves.ask(1);
+    let given = leaves.next_to_leave();
+    asked(alloc, given == Some(1) && leaves.bytes_here() == 13)
+}
+
 /// Whether a key has this value in a leaf; no text if it has none.
 fn tells(leaf: &Leaf, key: &Key, text: &[u8]) -> bool
     requires { IsTrue (ascends leaf.now.pairs) }
@@ -199,10 +208,11 @@ fn bases(alloc: Global) -> Option<bool> {
 }
 
 /// What each of these says.
-pub(super) fn said(alloc: Global) -> [Option<bool>; 8] {
+pub(super) fn said(alloc: Global) -> [Option<bool>; 9] {
     [
         leaves(alloc),
         a_page_goes_and_comes(alloc),
+        the_hand_goes_on(alloc),
         one_leaf(alloc),
         pairs_are_dropped(alloc),
         chains(alloc),

@@ -663,7 +663,8 @@ impl Row for Call {
         }
     }
 
-    // The row of heads beside the pairs of a leaf.
+    // The row of heads beside the pairs of a leaf, and the entry of its page in the ring of those
+    // in memory.
     fn spares(&self) -> bool {
         match self {
             Call::Chain(Link::Reserve | Link::Prepend | Link::Mark) => false,

@@ -2,6 +2,7 @@
 
 ghost use Rattle.std.specs.Prelude.{◌≡◌, []};
 
+use super::clock::{gives, is_counted};
 use super::evicted::two_pages;
 use super::leads;
 use bw_codec::{Key, Packed, Record};
@@ -40,9 +41,13 @@ pub(super) enum Step {
     GuessedBatch(&'static [u32]),
     /// Goes on with a copy.
     Copy,
+    /// The hand gives this page to leave memory, which stays.
+    Given(u32),
 }
 
-use Step::{Batch, Copy, Count, Del, Fill, Find, Foretold, Get, GuessedBatch, Hinted, Page, Put};
+use Step::{
+    Batch, Copy, Count, Del, Fill, Find, Foretold, Get, Given, GuessedBatch, Hinted, Page, Put,
+};
 
 fn applied(leaves: &mut Leaves, change: Option<Packed>, page: u32, made: u32) -> bool
     requires { leaves.old.evicted ≡ [] }
@@ -225,16 +230,18 @@ fn goes(alloc: Global, leaves: &mut Leaves, step: &Step) -> bool
         Step::Batch => batch(alloc, leaves),
         Step::GuessedBatch(pages) => guessed_batch(alloc, leaves, pages),
         Step::Copy => copied(leaves),
+        Step::Given(page) => gives(leaves, *page),
     }
 }
 
-/// The first step that did not go as expected.
+/// The first step that did not go as expected, or after which another number of bytes is counted
+/// than the pages have.
 fn walked(alloc: Global, from: Leaves, steps: &[Step]) -> Option<usize>
     requires { from.evicted ≡ [] }
 {
     let mut leaves = from;
     for (i, step) in steps.iter().enumerate() {
-        if !goes(alloc, &mut leaves, step) {
+        if !goes(alloc, &mut leaves, step) || !is_counted(&leaves) {
             return Some(i);
         }
     }
@@ -384,6 +391,26 @@ const FILLED_MOST: &[Step] = &[
     Step::Pairs(2, 17),
 ];
 
+// Pages that are made and taken back are in the ring no more.
+const GIVEN: &[Step] = &[
+    Foretold(&[1, 1, 1, 1, 1, 2, 2, 1, 1, 1]),
+    Given(1),
+    Given(1),
+    Foretold(&[1, 1, 1, 1, 1, 2, 2, 1, 1, 1]),
+    Batch,
+    Given(2),
+    Given(3),
+    Given(4),
+    Given(1),
+    Given(2),
+    Copy,
+    Given(1),
+    Given(2),
+    Given(3),
+    Given(4),
+    Given(1),
+];
+
 const TAKEN: &[Step] = &[
     Find("b", 1),
     Find("bz", 1),
@@ -440,6 +467,7 @@ const TABLES: &[Walk] = &[
     Walk::OfLimit(4, FILLED_FOUR),
     Walk::OfLimit(5, FILLED_FIVE),
     Walk::OfLimit(32, FILLED_MOST),
+    Walk::OfLimit(4, GIVEN),
     Walk::Taken(TAKEN),
 ];
 

@@ -10,16 +10,26 @@ use Rattle.bw_lows.specs.LowHeads.{page_of_low}
 use Rattle.bw_page.specs.Seats.{is_among}
 use Rattle.bw_page.specs.Shown.{Shown}
 use Rattle.bw_page.proofs.Closed.{same_gets}
-use Rattle.bw_page.proofs.PutBack.{put_here, put_page, put_within, put_parts, put_back_filed}
+use Rattle.bw_page.proofs.PutBack.{put_here, put_page, put_within, put_seat, put_less, put_parts, put_back_filed}
 use Rattle.bw_page.proofs.leaves.Leaves.put_page_back.Goals as goal
 use Rattle.bw_page.proofs.leaves.Leaves.put_page_back.Goals.{After-set}
 
-pub into_leaf-leaf-requires : goal.into_leaf-leaf-requires
-into_leaf-leaf-requires c =
+pub into_leaf-leaf-requires-clause-seat : goal.into_leaf-leaf-requires-clause-seat
+into_leaf-leaf-requires-clause-seat c =
+    put_seat c.self.inside c.self.invariant c.args.self.now c.self.view_is c.args.displaced c.requires c.take_above-upper.new.leaves
+    (c.take_above-upper.ensures.leaves ∙ ap (λ p. take p c.self.inside.leaves.items) c.pages.ensures)
+    c.take_above-upper.ensures.evicted
+
+pub into_leaf-leaf-requires-clause-less : goal.into_leaf-leaf-requires-clause-less
+into_leaf-leaf-requires-clause-less c =
+    put_less c.self.inside c.self.invariant c.args.self.now c.self.view_is c.args.displaced c.requires c.take_above-upper.new.leaves
+    (c.take_above-upper.ensures.leaves ∙ ap (λ p. take p c.self.inside.leaves.items) c.pages.ensures)
+
+pub into_leaf-leaf-requires-clause-parts : goal.into_leaf-leaf-requires-clause-parts
+into_leaf-leaf-requires-clause-parts c =
     let pages = c.pages.ensures in
     put_parts c.self.inside c.self.invariant c.args.self.now c.self.view_is c.args.displaced c.requires c.take_above-upper.new.leaves c.take_above-upper.result
     (c.take_above-upper.ensures.leaves ∙ ap (λ p. take p c.self.inside.leaves.items) pages)
-    c.take_above-upper.ensures.evicted
     (λ d more. c.take_above-upper.ensures.upper d (omega arith) ∙ ap (λ p. Some (get_or c.self.inside.leaves.items p d)) pages)
 
 pub set-requires : goal.set-requires
