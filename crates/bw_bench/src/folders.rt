@@ -162,6 +162,7 @@ fn in_folder<R: System, L: SharedLegs<R, Answer = Option<()>>>(
         frame_bytes: MIN_FRAME,
         segments: count_of(bench.options),
         capacity: CAPACITY,
+        page_bytes: u64::MAX,
     };
     let mut what = what;
     match with_readers(

@@ -175,6 +175,7 @@ pub fn steady<R: System>(rt: &R, bench: &Bench, dir: &str, name: &'static str) -
         queue_groups: usize::from(bench.options.batch),
         segments: SEGMENTS,
         capacity: CAPACITY,
+        page_bytes: u64::MAX,
         ..Options::default()
     };
     let mut legs = Updating {

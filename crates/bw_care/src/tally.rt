@@ -22,7 +22,7 @@ pub struct Counters {
     pub cleaner_bytes: u64,
     /// Pages made by splitting another in two.
     pub splits: u64,
-    /// Pages dropped from memory by `evict`.
+    /// Pages that left memory, by `evict` or by themselves.
     pub evictions: u64,
     /// Pages read from the log because they were evicted.
     pub reads: u64,
@@ -48,17 +48,24 @@ pub struct Tally {
 #[derive(Debug, Clone, Copy, PartialEq, Eq)]
 pub struct Looks {
     pub reads: u64,
+    /// Pages that left memory by themselves.
+    pub left: u64,
 }
 
 impl Looks {
     /// Nothing yet.
     pub fn new() -> Looks {
-        Looks { reads: 0 }
+        Looks { reads: 0, left: 0 }
     }
 
     /// A page was read from the log.
     pub fn read_one(&mut self) {
         self.reads = self.reads.saturating_add(1);
+    }
+
+    /// A page left memory by itself.
+    pub fn left_one(&mut self) {
+        self.left = self.left.saturating_add(1);
     }
 }
 

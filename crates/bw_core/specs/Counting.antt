@@ -58,7 +58,7 @@ counters_of s t looks = record {
   cleaner_frames = t.cleaner_frames;
   cleaner_bytes = t.cleaner_bytes;
   splits = length s.filed.leaves - length s.start;
-  evictions = t.evictions;
+  evictions = up t.evictions looks.left;
   reads = looks.reads;
   cleanings = t.cleanings;
 }

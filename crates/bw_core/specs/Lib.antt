@@ -20,6 +20,7 @@ pub mod Relived
 pub mod Following
 pub mod Going
 pub mod Looking
+pub mod Keeping
 pub mod Cleaning
 pub mod Settling
 pub mod Goal

@@ -12,7 +12,8 @@ impl Core {
     /// How much the store did since it was opened or opened again. No memory is taken; it costs a
     /// look at each live segment's length.
     ///
-    /// `reads` is counted where it happens, and no clause says by how much a call raises it.
+    /// `reads` is counted where it happens, and no clause says by how much a call raises it; nor
+    /// does one say how many of the evictions are those of `keep_pages`.
     pub fn counters(&self) -> Counters
         requires { IsSound self.now holding }
         ensures { result ≡ counters_of (kept_by self.now holding)
@@ -30,7 +31,7 @@ impl Core {
             cleaner_frames: tally.cleaner_frames,
             cleaner_bytes: tally.cleaner_bytes,
             splits: u64::from(self.pages.leaves.count().saturating_sub(tally.pages)),
-            evictions: tally.evictions,
+            evictions: tally.evictions.saturating_add(self.counts.looks.left),
             reads: self.counts.looks.reads,
             cleanings: tally.cleanings,
         }

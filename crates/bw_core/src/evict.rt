@@ -82,8 +82,8 @@ impl Core {
         Ok(true)
     }
 
-    // Whether the frame in the making makes a page or cuts it.
-    fn is_made(&self, page: u32) -> bool
+    /// Whether the frame in the making makes a page or cuts it.
+    pub(crate) fn is_made(&self, page: u32) -> bool
         requires sound { IsSound self.now holding }
         requires inside { (1 ≤ page) × (page ≤ length self.now.pages.leaves.leaves) }
         ensures { result ≡ is_made page self.now.pages.making.blocks }

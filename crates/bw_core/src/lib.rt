@@ -20,6 +20,7 @@ mod flush;
 mod forget;
 mod groups;
 mod laws;
+mod memory;
 mod needed;
 mod open;
 mod origin;

@@ -75,6 +75,7 @@ impl Core {
     {
         let page = self.pages.leaves.find(key);
         if self.pages.leaves.is_here(page) {
+            self.note_asked(page);
             return Ok(self.pages.leaves.get(key));
         }
         self.value_of_evicted(page, key)

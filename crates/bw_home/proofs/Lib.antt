@@ -1,4 +1,5 @@
 pub mod Readings
 pub mod Maps
 pub mod Cuts
+pub mod Keeping
 mod Reasons

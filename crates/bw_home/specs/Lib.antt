@@ -4,5 +4,6 @@ pub mod Renewing
 pub mod Sharing
 pub mod Cuts
 pub mod Maps
+pub mod Keeping
 pub mod Reasons
 pub mod Laws

@@ -42,6 +42,10 @@ pub struct Home {
     pub store: Core,
     pub feeds: Vec<Feed>,
     pub(crate) stock: Stock,
+    /// How many bytes the pages in memory may take once they were looked through.
+    pub(crate) page_bytes: u64,
+    /// The number of the next frame when the pages were looked through last.
+    pub(crate) looked: Option<u64>,
 }
 
 // Whether the feed of this writer took the group; else it comes back.
@@ -74,17 +78,26 @@ impl Home {
     ghost use Rattle.bw_home.specs.Maps.{StaysMap};
     ghost use Rattle.bw_home.specs.Ready.{kept_in, IsReady, IsReadyBeside};
 
-    // A store and its feeds, over a site of which new segments have this capacity.
-    fn of(store: Core, feeds: Vec<Feed>, site: Site, capacity: u64, found: Option<Found>) -> Home
+    // A store and its feeds, over a site. Of the options it has the capacity of new segments, and
+    // how many bytes of pages may stay in memory.
+    fn of(
+        store: Core,
+        feeds: Vec<Feed>,
+        site: Site,
+        options: &Options,
+        found: Option<Found>,
+    ) -> Home
         requires sound { IsSound store holding }
         requires feeds { map ring_of_feed feeds.items ≡ (kept_by store holding).rings }
         ensures { IsReady result holding }
     {
-        let stock = Stock::of(*feeds.allocator(), site, capacity, found);
+        let stock = Stock::of(*feeds.allocator(), site, options.capacity, found);
         Home {
             store,
             feeds,
             stock,
+            page_bytes: options.page_bytes,
+            looked: None,
         }
     }
 
@@ -101,7 +114,7 @@ impl Home {
         ensures { IfOk result (λ home. IsReadyBeside home holding) }
     {
         match Core::open(rt.alloc(), &options.config(), segments) {
-            Ok((store, feeds)) => Ok(Home::of(store, feeds, site, options.capacity, found)),
+            Ok((store, feeds)) => Ok(Home::of(store, feeds, site, options, found)),
             Err(fault) => Err(HomeFault::from(fault.cause)),
         }
     }
@@ -123,7 +136,7 @@ impl Home {
         } = *options;
         let found = Some(Found::of(&recovered));
         match Core::reopen(rt.alloc(), recovered, writers, queue_groups) {
-            Ok((store, feeds)) => Ok(Home::of(store, feeds, site, options.capacity, found)),
+            Ok((store, feeds)) => Ok(Home::of(store, feeds, site, options, found)),
             Err(fault) => Err(HomeFault::from(fault.cause)),
         }
     }

@@ -20,6 +20,7 @@ mod fault;
 mod home;
 mod laws;
 mod map;
+mod memory;
 mod opened;
 mod options;
 mod segments;

@@ -24,10 +24,14 @@ pub struct Options {
     /// How many bytes a new segment has room for, up to 1 GiB. All of it is reserved in memory. In
     /// a folder with a longer segment it is as many bytes as that one has, in whole MiB.
     pub capacity: u64,
+    /// How many bytes the pages in memory take at most once `keep_pages` was called, counted as
+    /// they would be written. In memory a page takes some 80 bytes more for each pair.
+    pub page_bytes: u64,
 }
 
 impl Default for Options {
-    /// One writer, the largest pages, frames of 64 KiB, and four segments of 16 MiB.
+    /// One writer, the largest pages, frames of 64 KiB, four segments of 16 MiB, and no page has to
+    /// leave memory.
     fn default() -> Options {
         Options {
             writers: 1,
@@ -36,6 +40,7 @@ impl Default for Options {
             frame_bytes: MIN_FRAME,
             segments: 4,
             capacity: 16_777_216,
+            page_bytes: u64::MAX,
         }
     }
 }

@@ -25,6 +25,8 @@ pub struct SharedHome {
     pub store: Store,
     pub feeds: Vec<Feed>,
     stock: Stock,
+    /// How many bytes the pages in memory may take once they were looked through.
+    page_bytes: u64,
 }
 
 /// What is done with a store that has readers, in legs. Otherwise as `Legs`.
@@ -48,23 +50,25 @@ impl SharedHome {
     ghost use Rattle.bw_store.specs.Views.{kept_by, noted_of, IsSound};
     ghost use Rattle.bw_home.specs.Sharing.{shared_in};
 
-    // A store and its feeds, over a site of which new segments have this capacity.
+    // A store and its feeds, over a site. Of the options it has the capacity of new segments, and
+    // how many bytes of pages may stay in memory.
     fn of(
         store: Store,
         feeds: Vec<Feed>,
         site: Site,
-        capacity: u64,
+        options: &Options,
         found: Option<Found>,
     ) -> SharedHome
         requires sound { IsSound store holding }
         requires feeds { map ring_of_feed feeds.items ≡ (kept_by store holding).rings }
         ensures { IsShared result holding }
     {
-        let stock = Stock::of(*feeds.allocator(), site, capacity, found);
+        let stock = Stock::of(*feeds.allocator(), site, options.capacity, found);
         SharedHome {
             store,
             feeds,
             stock,
+            page_bytes: options.page_bytes,
         }
     }
 
@@ -87,7 +91,7 @@ impl SharedHome {
             f: options.frame_bytes,
         };
         match Store::open(rt, rt.alloc(), &config, segments) {
-            Ok((store, feeds)) => Ok(SharedHome::of(store, feeds, site, options.capacity, found)),
+            Ok((store, feeds)) => Ok(SharedHome::of(store, feeds, site, options, found)),
             Err(fault) => Err(HomeFault::from(fault.cause)),
         }
     }
@@ -109,7 +113,7 @@ impl SharedHome {
         } = *options;
         let found = Some(Found::of(&recovered));
         match Store::reopen(rt, rt.alloc(), recovered, writers, queue_groups, readers) {
-            Ok((store, feeds)) => Ok(SharedHome::of(store, feeds, site, options.capacity, found)),
+            Ok((store, feeds)) => Ok(SharedHome::of(store, feeds, site, options, found)),
             Err(fault) => Err(HomeFault::from(fault.cause)),
         }
     }
@@ -150,6 +154,20 @@ impl SharedHome {
         ensures refused { IfErr result IsOfSite }
     {
         self.stock.make_spare(rt)
+    }
+
+    /// Lets pages leave memory until those that stay take at most `Options::page_bytes`, and
+    /// answers how many bytes they take. As `Home::keep_pages`, but no page is written again first.
+    /// What readers are shown stays in memory.
+    pub fn keep_pages(&mut self) -> u64
+        requires { IsShared self.old holding }
+        ensures ready { IsShared self.new holding }
+        ensures feeds { self.new.feeds ≡ self.old.feeds }
+        ensures same { shared_in self.new holding ≡ shared_in self.old holding }
+        ensures noted { noted_of self.new.store ≡ noted_of self.old.store }
+    {
+        let mut none = Vec::new(*self.feeds.allocator());
+        self.store.keep_pages(self.page_bytes, &mut none)
     }
 
     // The leases of the live segments, the oldest first.
@@ -210,6 +228,7 @@ impl SharedHome {
             store,
             feeds: _feeds,
             stock: _stock,
+            page_bytes: _,
         } = self;
         let _ = store.shut(rt);
     }

@@ -1,7 +1,7 @@
 -- What the calls leave that look at pages, and read those that are away: the core's words, of a store
 -- with readers.
 
-use Rattle.std.specs.Prelude.{ℕ, ◌≡◌, false, Result, IfErr}
+use Rattle.std.specs.Prelude.{ℕ, ◌≡◌, true, false, Result, IfErr}
 use Rattle.bw_device.specs.Holding.{Holding}
 use Rattle.bw_terms.specs.declared.fault.StoreFault.{StoreFault}
 use Rattle.bw_terms.specs.declared.fault.StoreFault.TheVariants.{NoMemory}
@@ -25,3 +25,10 @@ module _ {I : Type 0} {H : I → Type 0} where
   pub record Walks {A : Type 0} (old : Store I H) (result : Result A StoreFault) (new : Store I H) (v : (i : I) × H i → Holding) : Type 0 where
     pub leaves : WalkLeaves (kept_by old v) result (kept_by new v)
     pub memory : ((p : ℕ) → is_evicted p old ≡ false) → IfErr result (λ fault. fault ≡ NoMemory)
+
+  -- pages may leave memory, none comes, and nothing else is changed
+  pub record KeepsPages (old new : Store I H) (v : (i : I) × H i → Holding) : Type 0 where
+    pub sound : IsSound new v
+    pub same : kept_by new v ≡ kept_by old v
+    pub noted : noted_of new ≡ noted_of old
+    pub none_comes : (p : ℕ) → is_evicted p old ≡ true → is_evicted p new ≡ true

@@ -16,7 +16,7 @@ use bw_codec::{Key, Leaf, Pair, Value};
 use bw_core::StoreFault;
 
 impl Store {
-    ghost use Rattle.bw_store.specs.Looking.{OnlyReads, Walks};
+    ghost use Rattle.bw_store.specs.Looking.{KeepsPages, OnlyReads, Walks};
     ghost use Rattle.bw_store.specs.Views.{kept_by, is_evicted, noted_of, IsSound};
 
     /// A copy of a page as all records of the history leave it, flushed or not, in memory or
@@ -185,5 +185,14 @@ impl Store {
             (λ _. noted_of self.new ≡ noted_of self.old) }
     {
         self.core.evict(page)
+    }
+
+    /// Lets pages leave memory until those that stay take at most so many bytes, and answers how
+    /// many they take then. What readers are shown stays in memory. As `Core::keep_pages`.
+    pub fn keep_pages(&mut self, bytes: u64, long: &mut Vec<u32>) -> u64
+        requires { IsSound self.old holding }
+        ensures { KeepsPages self.old self.new holding }
+    {
+        self.core.keep_pages(bytes, long)
     }
 }

@@ -18,6 +18,7 @@ pub(super) const SMALL: Options = Options {
     frame_bytes: MIN_FRAME,
     segments: 4,
     capacity: 65_560,
+    page_bytes: u64::MAX,
 };
 
 /// How many records are put, each flushed by itself: more than a megabyte.

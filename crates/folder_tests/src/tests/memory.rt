@@ -20,6 +20,7 @@ const SMALL: Options = Options {
     frame_bytes: MIN_FRAME,
     segments: 2,
     capacity: 65_560,
+    page_bytes: u64::MAX,
 };
 
 /// Puts a record and settles.

@@ -110,6 +110,7 @@ const NO_WRITER: Options = Options {
     frame_bytes: MIN_FRAME,
     segments: 2,
     capacity: 65_560,
+    page_bytes: u64::MAX,
 };
 
 // Why the course did not run; `None` if it did.

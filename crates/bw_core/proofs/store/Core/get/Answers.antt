@@ -1,10 +1,12 @@
 use Rattle.bw_core.specs.Views.{kept_by}
 use Rattle.bw_core.proofs.EvictedPages.{answer_is}
-use Rattle.bw_core.proofs.LookingMore.{reads_none, reads_once}
+use Rattle.bw_core.proofs.LookingMore.{reads_no_more, reads_once}
 use Rattle.bw_core.proofs.store.Core.get.Goals as goal
 
 pub returns-then-is_here-clause-reads : goal.returns-then-is_here-clause-reads
-returns-then-is_here-clause-reads g c = reads_none _ _ c.requires
+returns-then-is_here-clause-reads g c =
+    let its = c.note_asked.ensures in
+    reads_no_more _ _ _ (record { sound = its.sound; same = its.same; pages = its.pages; noted = its.noted })
 
 pub returns-clause-value : goal.returns-clause-value
 returns-clause-value g c =
