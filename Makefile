@@ -25,7 +25,7 @@ BENCH = --keys 1000000
 # One check a processor, each at one job: two jobs for one check cost a tenth more time of the processors.
 JOBS = $(shell n=$$(nproc); echo $$((n < 4 ? n : 4)))
 # The scripts that ask the built program, the longest first. They run side by side; growth.py and fuzz.py ask for times, and run by themselves.
-SCRIPTS = clients rescue sums failing tables_crash follow steady drawn cases tables people full beside pages moments events terminal waits
+SCRIPTS = clients rescue sums failing tables_crash follow steady drawn cases tables people memory full beside pages moments events terminal waits
 people_words = crates/bwlog/out/bwlog 100000
 tables_crash_words = 100 5
 SUBJECTS = pages cleaning core alone beside late one one-beside many many-beside

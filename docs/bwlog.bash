@@ -44,11 +44,11 @@ _bwlog() {
         del) COMPREPLY=($(compgen -W "--dir --table --from --to --prefix --help" -- "$word")) ;;
         list) COMPREPLY=($(compgen -W "--dir --table --from --to --prefix --limit --last --reverse --keys --values --format --raw --hex --help" -- "$word")) ;;
         count) COMPREPLY=($(compgen -W "--dir --table --from --to --prefix --help" -- "$word")) ;;
-        import) COMPREPLY=($(compgen -W "--dir --table --named --format --raw --skip --delete --keep-old --dry-run --capacity --help" -- "$word")) ;;
+        import) COMPREPLY=($(compgen -W "--dir --table --named --format --raw --skip --delete --keep-old --dry-run --capacity --memory --help" -- "$word")) ;;
         export) COMPREPLY=($(compgen -W "--dir --table --named --from --to --prefix --format --mapsize --help" -- "$word")) ;;
         tables) COMPREPLY=($(compgen -W "--dir --create --drop --help" -- "$word")) ;;
-        replay) COMPREPLY=($(compgen -W "--writers --places --m --frame --segments --capacity --dir --take --raw --reuse --most-segments --help" -- "$word")) ;;
-        serve) COMPREPLY=($(compgen -W "--places --m --frame --segments --capacity --dir --tables --raw --most-segments --log --every --help" -- "$word")) ;;
+        replay) COMPREPLY=($(compgen -W "--writers --places --m --frame --segments --capacity --memory --dir --take --raw --reuse --most-segments --help" -- "$word")) ;;
+        serve) COMPREPLY=($(compgen -W "--places --m --frame --segments --capacity --memory --dir --tables --raw --most-segments --log --every --help" -- "$word")) ;;
         shell) COMPREPLY=($(compgen -W "--dir --help" -- "$word")) ;;
         threads) COMPREPLY=($(compgen -W "--writers --places --m --frame --segments --capacity --dir --limit --flush-every --clean-at --tries --readers --forget --reuse --most-segments --help" -- "$word")) ;;
         scan) COMPREPLY=($(compgen -W "--dir --help" -- "$word")) ;;

@@ -109,6 +109,8 @@ CASES = [
     Case("writers", ["threads", "--limit=2", "--flush-every=1"], "".join("put %d %s%d %d\n" % (w, "ab"[w], it, it) for it in range(4) for w in range(2))),
     Case("readers", ["threads", "--readers=2"], "put 0 a 1\nput 1 b 2\ngroup 0 put a 3 put c 4\ndel 1 b\n"),
     Case("requests", ["serve", "--places=2"], "put k v\nput l w\nput m x\nget k\nnext l\nflush\nevict 1\nnext l\npage 1\nstats\nclean\nzap\n"),
+    Case("pages that leave", ["serve", "--memory=0", "--m=4"],
+         "".join("put k%d v\n" % it for it in range(9)) + "flush\nget k1\nput k1 w\nget k1\nget k7\nnext k4\nflush\nget k1\nscan k0 9\nprev k3\ndel k7\ncount\nflush\nget k7\n"),
     Case("requests on tables", ["serve", "--tables", "--places=2"],
          "create t\ncreate u\nput t k v\nput t l 0x" + "07" * 1100 + "\nget t l\nbatch 3\nput t a 1\ndel t k\nput u b 0x" + "08" * 700 + "\n"
          "scan t 0x00 8\nabove t a 1\nnext t b\ncount u\ntables\ndrop t\nflush\nget u b\nbatch 1\nget\n"),

@@ -20,8 +20,9 @@ import os
 import random
 import subprocess
 import sys
+import tempfile
 
-from checks import ask
+from checks import FAST, ask
 from hostile.scans import many_pairs
 
 HERE = os.path.dirname(os.path.abspath(__file__))
@@ -172,6 +173,23 @@ class Walk:
         self.served.end()
 
 
+class Imported:
+    """n rows go into a table of a new folder, and no page may stay in memory."""
+
+    def begin(self, program, count):
+        self.program, self.folder = program, tempfile.TemporaryDirectory(dir=FAST)
+        self.text = "".join("%s\t%s\n" % (key_of(number), "x" * 100) for number in range(count)).encode()
+        self.runs = 0
+
+    def time(self):
+        self.runs += 1
+        place = os.path.join(self.folder.name, str(self.runs))
+        return run_time(self.program, ["import", "--dir", place, "--table", "t", "--memory", "0"], self.text)
+
+    def end(self):
+        self.folder.cleanup()
+
+
 class Queue:
     """n entries are put at one end of a queue, and then each is asked for from the first key on, and deleted."""
 
@@ -232,6 +250,14 @@ class Shared(InStore):
         super().begin(program, count)
 
 
+class Away(InStore):
+    """The same over pages that are all in the log."""
+
+    def begin(self, program, count):
+        self.words = ["--memory", "0"]
+        super().begin(program, count)
+
+
 class BesideBlocks:
     """Evicted pages are asked for a key each, beside so many blocks of other pages in the frame in the making."""
 
@@ -268,12 +294,15 @@ WAYS = [
     ("threads_reuse", lambda: Runs(["threads", "--reuse", "--m", "32", "--capacity", "1048576"], written), (5000, 20000), SQUARE),
     ("blocks_of_a_frame", Blocks, (1500, 6000), SQUARE),
     ("walk", Walk, (10000, 40000), SQUARE),
+    ("import_away", Imported, (10000, 40000), SQUARE),
     ("queue", Queue, (4000, 16000), EMPTIED),
     ("get", lambda: InStore("get %s", "value "), (10000, 100000), STORE),
     ("get_shared", lambda: Shared("get %s", "value "), (10000, 100000), STORE),
+    ("get_away", lambda: Away("get %s", "value "), (10000, 100000), STORE),
     ("get_beside_blocks", BesideBlocks, (1000, 4000), BESIDE),
     ("next", lambda: InStore("next %s", "pair "), (10000, 100000), STORE),
     ("flush", lambda: InStore("put %s y", ("ok", "frame "), "flush"), (10000, 100000), STORE),
+    ("flush_away", lambda: Away("put %s y", ("ok", "frame "), "flush"), (10000, 100000), STORE),
     ("flush_at_limit", lambda: AtLimit("put %s y", ("ok", "frame "), "flush"), (65536, 262144), LIMIT),
 ]
 

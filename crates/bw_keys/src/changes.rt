@@ -47,6 +47,8 @@ pub struct Import {
     pub skips: bool,
     /// How many bytes new segments have room for, if that is said.
     pub capacity: Option<u32>,
+    /// How many bytes the pages in memory may take, if that is said.
+    pub memory: Option<u64>,
     pub effect: Effect,
     /// Whether it is only said what would be done.
     pub is_dry: bool,
@@ -83,14 +85,16 @@ pub enum Changed {
 }
 
 /// A store that one writer puts into, with a queue that is long enough for batches. Its new
-/// segments have room for so many bytes, if that is said.
-pub fn options(capacity: Option<u32>) -> Options {
+/// segments have room for so many bytes, and its pages stay in memory up to so many, if that is
+/// said.
+pub fn options(capacity: Option<u32>, memory: Option<u64>) -> Options {
     let other = Options::default();
     let capacity = capacity.map_or(other.capacity, u64::from);
     Options {
         queue_groups: 1_024,
         frame_bytes: frame_in_folder(capacity),
         capacity,
+        page_bytes: memory.unwrap_or(other.page_bytes),
         ..other
     }
 }
@@ -146,7 +150,7 @@ pub fn put<R: System, W: Watch>(
     let mut records = Single {
         record: Some(record),
     };
-    let options = options(None);
+    let options = options(None, None);
     let _ = load(
         rt,
         dir,
@@ -179,7 +183,7 @@ pub fn del<R: System, W: Watch>(
 ) -> Result<Changed, KeysFault> {
     check_store(rt, dir)?;
     let mut records = Named { keys };
-    let options = options(None);
+    let options = options(None, None);
     let stored = load(
         rt,
         dir,
@@ -203,7 +207,7 @@ pub fn del_all<R: System, W: Watch>(
 ) -> Result<Changed, KeysFault> {
     check_store(rt, dir)?;
     let mut records = Sweep::new(rt.alloc(), span);
-    let options = options(None);
+    let options = options(None, None);
     let stored = load(
         rt,
         dir,
@@ -254,7 +258,7 @@ fn load_pairs<R: System, I: Read, W: Watch>(
         check_store(rt, dir)?;
     }
     let all = input_bytes(rt, watch);
-    let options = options(wanted.capacity);
+    let options = options(wanted.capacity, wanted.memory);
     let pairs = pairs_of(rt, input, wanted)?;
     let mut records = Filling::new(rt.alloc(), pairs, options.pairs_a_page);
     let which = wanted_by(effect);

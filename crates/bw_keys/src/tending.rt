@@ -92,12 +92,13 @@ fn bytes_of(item: &Record) -> u64 {
     }
 }
 
-/// Lets go of the history as far as it is durable.
+/// Lets go of the history as far as it is durable, and of pages that need not stay in memory.
 pub fn forget(home: &mut Home)
     requires { IsReady home.old holding }
     ensures { IsReady home.new holding }
 {
     let _ = home.store.forget();
+    let _ = home.keep_pages();
 }
 
 /// Gives up the oldest segment, and makes what stands in its place.

@@ -7,7 +7,7 @@ use crate::listing::List;
 use crate::reading::{Count, Get, Names};
 use crate::run::{Calls, Run};
 use crate::words::{keys_by, name_by, put_key_by, span_of, value_by};
-use bw_home::{System, with_store_at};
+use bw_home::{Options, System, with_store_at};
 use bw_keys::{
     Changed, Effect, KeysFault, Loaded, Range, Style, TablesTask, Tending, Told, check_store,
     leases_of, options,
@@ -30,7 +30,7 @@ struct Place<'a, R> {
 /// wrote is durable, and why they ended early. The input has so many bytes.
 fn run<R: System, C: Calls, W: Watch>(
     place: &Place<'_, R>,
-    capacity: Option<u32>,
+    options: &Options,
     calls: &mut C,
     all: u64,
     watch: &mut W,
@@ -39,11 +39,10 @@ fn run<R: System, C: Calls, W: Watch>(
     let held = folder_bytes(rt, dir, place.leases, watch);
     watch.see(Work::Opening, 0, held);
     let leases = place.leases.min(leases_of(rt, dir));
-    let options = options(capacity);
     let frame = u64::from(options.frame_bytes);
     let tending = Tending::new(options.capacity, frame, leases);
     let mut run = Run::new(calls, all, watch, tending);
-    let end = match with_store_at(rt, Some(dir), leases, &options, &mut run) {
+    let end = match with_store_at(rt, Some(dir), leases, options, &mut run) {
         Ok(answer) => answer,
         Err(fault) => Err(KeysFault::from(fault)),
     };
@@ -57,7 +56,7 @@ fn run_there<R: System, C: Calls, W: Watch>(
     watch: &mut W,
 ) -> (bool, Result<(), KeysFault>) {
     match check_store(place.rt, place.dir) {
-        Ok(()) => run(place, None, calls, 0, watch),
+        Ok(()) => run(place, &options(None, None), calls, 0, watch),
         Err(fault) => (false, Err(fault)),
     }
 }
@@ -241,7 +240,13 @@ fn import<R: System, I: Read, W: Watch>(
     }
     let all = input_bytes(place.rt, watch);
     let mut calls = rows_of(place.rt.alloc(), name, input, wanted)?;
-    let (is_kept, end) = run(place, wanted.capacity, &mut calls, all, watch);
+    let (is_kept, end) = run(
+        place,
+        &options(wanted.capacity, wanted.memory),
+        &mut calls,
+        all,
+        watch,
+    );
     if let Err(fault) = end {
         return Ok(halted(fault, wanted.effect, is_kept, calls.count));
     }
@@ -324,7 +329,7 @@ fn create<R: System, W: Watch>(
         name,
         is_over: false,
     };
-    run(place, None, &mut calls, 0, watch).1?;
+    run(place, &options(None, None), &mut calls, 0, watch).1?;
     Ok(Told::Done)
 }
 

@@ -64,7 +64,19 @@ fn flush(home: &mut Home) -> Result<Answer, Miss>
     ensures { IsReady home.new holding }
 {
     let _ = home.turn(u32::MAX)?;
-    Ok(Answer::Frame(home.flush()?))
+    let frame = home.flush()?;
+    let _ = home.keep_pages();
+    Ok(Answer::Frame(frame))
+}
+
+/// How many records were taken, once all of them are durable.
+fn settle(home: &mut Home) -> Result<Answer, Miss>
+    requires { IsReady home.old holding }
+    ensures { IsReady home.new holding }
+{
+    let taken = home.settle()?;
+    let _ = home.keep_pages();
+    Ok(Answer::Settled(taken))
 }
 
 /// A page, as the history leaves it.
@@ -210,7 +222,7 @@ pub fn call<R: System>(rt: &R, home: &mut Home, command: Command) -> Result<Answ
         Command::Put(writer, group) => Ok(Answer::Put(home.offer(writer, group).is_ok())),
         Command::Turn(limit) => turn(home, limit),
         Command::Flush => flush(home),
-        Command::Settle => Ok(Answer::Settled(home.settle()?)),
+        Command::Settle => settle(home),
         Command::Page(number) => page(home, number),
         Command::Get(key) => Ok(Answer::Value(home.get(&key)?)),
         Command::Evict(page) => evict(home, page),

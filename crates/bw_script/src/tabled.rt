@@ -57,13 +57,14 @@ impl Tending {
         self.owes = true;
     }
 
-    /// Counts what was taken, and lets what is durable of it leave memory.
+    /// Counts what was taken, and lets what is durable of it leave memory, and pages.
     fn count_taken(&mut self, home: &mut Home)
         requires { IsReady home.old holding }
         ensures { IsReady home.new holding }
     {
         self.tally.accepted = taken(home);
         let _ = home.store.forget();
+        let _ = home.keep_pages();
     }
 
     /// Finishes what is left half done.

@@ -236,6 +236,7 @@ fn store_of(found: &ArgMatches<'_>, size: Size) -> bw_home::Options {
         frame_bytes: number_in(found, "frame", frame_of(found, capacity)),
         segments: number_in(found, "segments", 0),
         capacity: u64::from(capacity),
+        page_bytes: found.get_one("memory").unwrap_or(u64::MAX),
     }
 }
 

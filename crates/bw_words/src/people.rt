@@ -2,7 +2,7 @@
 
 use crate::mode::Mode;
 use crate::options::{text_in, texts_in};
-use crate::table::{CAPACITY, Form, Kind, Row};
+use crate::table::{CAPACITY, Form, Kind, MEMORY, Row};
 use bw_keys::{Effect, Import, Listed, Parts, Range, Style, TablesTask, Task};
 use bw_pairs::{Letters, Source, Spelling};
 use clap::ArgMatches;
@@ -285,7 +285,7 @@ pub const FORMS: [Form; 8] = [
         about: "Puts all pairs of standard input, and answers once they are durable",
         options: &[
             NEW_DIR, NEW_TABLE, NAMED_IN, IN_FORMAT, RAW_LINES, SKIP, DELETE, KEEP_OLD, DRY_RUN,
-            ROOM,
+            ROOM, MEMORY,
         ],
         example: "Example: mdb_dump other | bwlog import --dir store --format dump",
     },
@@ -407,6 +407,7 @@ fn import_in(found: &ArgMatches<'_>) -> Import {
         source: source_in(found),
         skips: found.get_flag("skip"),
         capacity: found.get_one("capacity"),
+        memory: found.get_one("memory"),
         effect: effect_in(found),
         is_dry: found.get_flag("dry-run"),
     }

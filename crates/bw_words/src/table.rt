@@ -117,6 +117,14 @@ const ROOM: Row = Row {
     ..MOST_SEGMENTS
 };
 
+/// How much memory pages may take.
+pub const MEMORY: Row = Row {
+    name: "memory",
+    kind: Kind::Large("BYTES"),
+    help: "how many bytes of pages stay in memory once something is durable, counted as they are \
+        written; those that nobody asks for leave, and are read from the log [default: all stay]",
+};
+
 const STORE_DIR: Row = Row {
     name: "dir",
     kind: Kind::Folder,
@@ -310,12 +318,12 @@ const FORGET: Row = Row {
 };
 
 /// The store of a script.
-const REPLAY: [Row; 11] = [
-    WRITERS, PLACES, M, FRAME, SEGMENTS, CAPACITY, STORE_DIR, TAKE, RAW, REUSE, ROOM,
+const REPLAY: [Row; 12] = [
+    WRITERS, PLACES, M, FRAME, SEGMENTS, CAPACITY, MEMORY, STORE_DIR, TAKE, RAW, REUSE, ROOM,
 ];
 
 /// The store of a program, which is one writer.
-const SERVE: [Row; 11] = [
+const SERVE: [Row; 12] = [
     Row {
         kind: Kind::Number(1, 4096, "1024"),
         ..PLACES
@@ -332,6 +340,7 @@ const SERVE: [Row; 11] = [
             segment of the folder has]",
         ..CAPACITY
     },
+    MEMORY,
     STORE_DIR,
     TABLES,
     RAW,
