@@ -44,7 +44,8 @@ pub struct Tally {
     pub evictions: u64,
 }
 
-/// What is counted of reads. No clause speaks of it.
+/// What is counted of reads, and of pages that left by themselves. No clause says by how much a
+/// call raises it.
 #[derive(Debug, Clone, Copy, PartialEq, Eq)]
 pub struct Looks {
     pub reads: u64,

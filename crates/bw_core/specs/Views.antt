@@ -54,7 +54,7 @@ module _ {I : Type 0} {H : I → Type 0} where
   abbrev pub noted_of : Core I H → Noted
   noted_of s = record { gone = s.intake.history.gone; tally = s.counts.tally }
 
-  -- what it read so far
+  -- what it read so far, and how many pages left by themselves
   abbrev pub looks_of : Core I H → Looks
   looks_of s = s.counts.looks
 

@@ -4,8 +4,8 @@
 //! that was read or changed since it came by is passed once. So what is asked for often stays, and
 //! nothing is kept in the order of its last use, which each read would have to change.
 //!
-//! A page that many flushes changed would be read from as many frames. So it does not leave before
-//! it was written again, whole.
+//! A page that many flushes changed would be read from as many frames. So whoever asks may have
+//! such pages named in place of leaving, and write them again, whole, before.
 
 ghost use Rattle.std.specs.Prelude.{◌≡◌, ◌≤◌, false, length};
 ghost use Rattle.bw_making.specs.Overlay.{is_made};
@@ -23,9 +23,10 @@ impl Core {
     ghost use Rattle.bw_core.specs.Views.{kept_by, noted_of, IsSound};
 
     /// Lets pages leave memory until those that stay take at most so many bytes, and answers how
-    /// many they take then. A page is counted as its Base; in memory it takes some 80 bytes more
-    /// for each pair. The pages stay: they are then read from the log. A page that a record changes
-    /// comes back, and a read brings none back.
+    /// many they take then. A page is counted as its Base; in memory it takes some 60 to 80 bytes
+    /// more for each pair. The pages are not lost: they are then read from the log. A page that a
+    /// record changes comes back, and a read brings none back. No clause says how many leave, or
+    /// which.
     ///
     /// If `long` has a capacity, a page that would be read from more than four frames stays, and
     /// its number goes into `long`, if there is room. Whoever hands these to `rewrite` and then to

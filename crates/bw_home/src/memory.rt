@@ -1,4 +1,5 @@
-//! The pages in memory take no more than a home is opened with; the others are read from the log.
+//! Pages leave memory down to what a home is opened with, once it is asked for; they are then read
+//! from the log.
 
 ghost use Rattle.std.specs.Prelude.{◌≡◌, ◌↔◌, false, length, IsErrOf};
 ghost use Rattle.bw_core.specs.Machine.{RunsAs};
@@ -7,8 +8,7 @@ ghost use Rattle.bw_core.specs.Rewriting.{are_pages, RewriteLeaves};
 use crate::home::Home;
 use bw_core::StoreFault;
 
-/// How many pages are written again at once. With pairs of the greatest length these
-/// are 330 KB.
+/// How many pages are written again at once. With pairs of the greatest length these are 330 KB.
 const BATCH: usize = 16;
 
 /// How many batches are written at most.
@@ -26,9 +26,10 @@ impl Home {
     /// answers how many bytes they take. Pages that were asked for lately stay the longest. One
     /// that left is read from the log, and comes back once a record changes it.
     ///
-    /// Pages that would be read from more than four frames are first written again, 16 at a time:
-    /// so what waits is flushed then. If that is refused, as `rewrite` is, or might take the last
-    /// spare, which a cleaning needs, the pages leave all the same.
+    /// Pages that would be read from more than four frames are first written again, 16 at a time
+    /// and 1,024 at most: so what waits is flushed then. Further ones stay until the next call. If
+    /// writing might take the last spare, which a cleaning needs, pages leave as they are. If it is
+    /// refused, as `rewrite` is, these 16 leave all the same, and the call says why.
     ///
     /// It is best called after `keep`, or `flush`: if no frame was appended since the last call,
     /// nothing is done. It costs work for each page that leaves, and nothing while the pages take

@@ -24,8 +24,8 @@ pub struct Options {
     /// How many bytes a new segment has room for, up to 1 GiB. All of it is reserved in memory. In
     /// a folder with a longer segment it is as many bytes as that one has, in whole MiB.
     pub capacity: u64,
-    /// How many bytes the pages in memory take at most once `keep_pages` was called, counted as
-    /// they would be written. In memory a page takes some 80 bytes more for each pair.
+    /// Down to how many bytes `keep_pages` lets pages leave memory, counted as they would be
+    /// written. In memory a page takes some 60 to 80 bytes more for each pair.
     pub page_bytes: u64,
 }
 
