@@ -29,7 +29,7 @@ use Rattle.bw_log.proofs.Reread.{clean_is_new, live_version, new_version}
 use Rattle.bw_log.proofs.Walk.{none_fold}
 use Rattle.bw_care.specs.Cleaning.{is_old, old_from, pages_upto, page_of}
 use Rattle.bw_care.specs.Moving.{IsNextBehind, MovedBehind, StoppedBehind, Refused}
-use Rattle.bw_care.specs.Upgrading.{old_segments, last_among, last_of_old, pages_of_old, GivenUp, IsUpgraded, RefusesUpgrade}
+use Rattle.bw_care.specs.Upgrading.{old_segments, last_among, last_of_old, pages_of_old, GivenInTurn, GivenUp, IsUpgraded, RefusesUpgrade}
 use Rattle.bw_care.specs.declared.upgrader.Upgraded.{Upgraded}
 use Rattle.bw_care.specs.declared.fault.CleanFault.TheVariants.{Log}
 use Rattle.bw_care.proofs.BoxesGrown.{same_roster}
@@ -178,7 +178,7 @@ shut_by c true sound works is all =
     let same = ap old_in (same_versions c.live) in
     absurd (omega (arith, newer, same, all, length-map c.live (λ (h : Holding). h.bytes)))
 
-all_old_is_shut : (c : Contents) → IsSound c → c.is_failed ≡ false → length c.live ≤ old_segments c → c.is_open ≡ false
+pub all_old_is_shut : (c : Contents) → IsSound c → c.is_failed ≡ false → length c.live ≤ old_segments c → c.is_open ≡ false
 all_old_is_shut c sound works all = (let off = shut_by c c.is_open sound works refl all in off)
 
 pub few_old : (c : Contents) → old_segments c ≤ length c.live
@@ -422,14 +422,15 @@ none_left old new upgraded a b x =
 
 pub all_upgraded : (old now new : Contents) (segments pages : ℕ) (frames : ℕ) → IsSound old → IsSound now → 1 ≤ old_segments old → old.is_failed ≡ false
     → segments ≡ old_segments old → MovedBehind (last_of_old old) old now (pages_of_old old) [] frames → GivenUp segments now new
-    → pages ≡ length (pages_of_old old) → IsUpgraded old (record { segments = segments; pages = pages; frames = frames }) new
-all_upgraded old now new segments pages frames a b some works same x given many = record {
+    → GivenInTurn segments now → pages ≡ length (pages_of_old old) → IsUpgraded old (record { segments = segments; pages = pages; frames = frames }) new
+all_upgraded old now new segments pages frames a b some works same x given turn many = record {
   some = some;
   worked = works;
   then_log = now;
   moved = x;
   sound = b;
   given_up = subst (λ (k : ℕ). GivenUp k now new) same given;
+  in_turn = subst (λ (k : ℕ). GivenInTurn k now) same turn;
   kept = kept_row old now (pages_of_old old) [] (last_of_old old) frames a works x;
   segments = same;
   pages = many;

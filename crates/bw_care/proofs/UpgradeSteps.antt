@@ -4,19 +4,20 @@ use Rattle.std.proofs.Common.{◌≡◌, ℕ, zero, suc, ◌+◌, ◌-◌, ◌<�
 use Rattle.std.proofs.Common.{List, [], ◌∷◌, length, map, take, drop, slice_get, refl, sym, ap, subst, ◌∙◌, length-append, arith}
 use Rattle.std.specs.List.{fold, filter}
 use Rattle.std.proofs.lemmas.List.{drop-drop}
-use Rattle.std.proofs.lemmas.Bool.{eq-eqb, eqb-true}
+use Rattle.std.specs.Prelude.{nat_le}
+use Rattle.std.proofs.lemmas.Bool.{eq-eqb, eqb-true, leb-true, leb-false}
 use Rattle.bw_codec.specs.Reading.{version_in}
 use Rattle.bw_record.specs.declared.leaf.Leaf.{Leaf}
 use Rattle.bw_device.specs.Holding.{Holding}
 use Rattle.bw_page.specs.Standing.{Stand}
 use Rattle.bw_log.specs.Adopting.{old_in}
-use Rattle.bw_log.specs.Contents.{Contents, counted, place_in, IsSound}
+use Rattle.bw_log.specs.Contents.{Contents, KeepsLeaves, counted, place_in, IsSound}
 use Rattle.bw_log.specs.Oldest.{IsAfter, NoBaseBefore, IsBaseAfter, last_number, oldest_count}
 use Rattle.bw_log.specs.Places.{base_of}
 use Rattle.bw_log.specs.Reads.{IsPage}
 use Rattle.bw_log.specs.Segments.{segment_frames, frames_of, is_before_next}
 use Rattle.bw_log.specs.declared.places.PageAt.{PageAt}
-use Rattle.bw_care.specs.Upgrading.{last_among, count_in, GivenUp}
+use Rattle.bw_care.specs.Upgrading.{last_among, count_in, GivenInTurn, GivenUp}
 
 -- ---- how many have version 1
 
@@ -145,6 +146,22 @@ going_on k old now new inside going given counts stands =
 
 pub up_at : (k count : ℕ) (old now : Contents) → k ≡ count → IsGoing k old now → GivenUp count old now
 up_at k count old now same going = subst (λ (n : ℕ). GivenUp n old now) same going.up
+
+pub in_turn_none : (c : Contents) → IsSound c → GivenInTurn 0 c
+in_turn_none c sound j low =
+    let none : 0 ≡ j = omega arith in
+    subst (λ (i : ℕ). (new : Contents) × GivenUp i c new × IsSound new × KeepsLeaves c new) none
+    (c, (going_none c).up, sound, (going_none c).stands)
+
+pub in_turn_on : (k : ℕ) (old new : Contents) → GivenInTurn k old → IsGoing (k + 1) old new → IsSound new → GivenInTurn (k + 1) old
+in_turn_on k old new turn going sound j low =
+    elim (nat_le j k) as (λ b. nat_le j k ≡ b → (mid : Contents) × GivenUp j old mid × IsSound mid × KeepsLeaves old mid) [
+      | true ↦ λ e. turn j (leb-true _ _ e)
+      | false ↦ λ e. (
+          let above = leb-false _ _ e in
+          let last : k + 1 ≡ j = omega arith in
+          subst (λ (i : ℕ). (mid : Contents) × GivenUp i old mid × IsSound mid × KeepsLeaves old mid) last (new, going.up, sound, going.stands))
+    ] refl
 
 -- what a round asks for
 

@@ -5,7 +5,7 @@ use Rattle.std.specs.List.{fold}
 use Rattle.bw_codec.specs.Reading.{version_in}
 use Rattle.bw_device.specs.Holding.{Holding}
 use Rattle.bw_log.specs.Adopting.{old_in}
-use Rattle.bw_log.specs.Contents.{Contents, counted, roster, IsSound}
+use Rattle.bw_log.specs.Contents.{Contents, KeepsLeaves, counted, roster, IsSound}
 use Rattle.bw_log.specs.Oldest.{last_number}
 use Rattle.bw_log.specs.Segments.{frames_of}
 use Rattle.bw_log.specs.declared.fault.LogFault.{LogFault}
@@ -41,6 +41,11 @@ pub record GivenUp (k : ℕ) (old new : Contents) : Type 0 where
   pub given_up : new ≡ record old { live = drop k old.live; number = old.number + k; frames = new.frames }
   pub counts : counted new ≡ drop (count_in k old.live) (counted old)
 
+-- one after the other: once any number of them is gone, the log is sound, and its counted frames
+-- stand for the leaves for which they stood
+abbrev pub GivenInTurn : ℕ → Contents → Type 0
+GivenInTurn k old = (j : ℕ) → j ≤ k → (new : Contents) × GivenUp j old new × IsSound new × KeepsLeaves old new
+
 -- all of those pages were written again, and the segments of version 1 were given up
 pub record IsUpgraded (old : Contents) (upgraded : Upgraded) (new : Contents) : Type 0 where
   pub some : 1 ≤ old_segments old
@@ -49,6 +54,7 @@ pub record IsUpgraded (old : Contents) (upgraded : Upgraded) (new : Contents) : 
   pub moved : MovedBehind (last_of_old old) old then_log (pages_of_old old) [] upgraded.frames
   pub sound : IsSound then_log
   pub given_up : GivenUp (old_segments old) then_log new
+  pub in_turn : GivenInTurn (old_segments old) then_log
   pub kept : take (old_segments old) then_log.live ≡ take (old_segments old) old.live
   pub segments : upgraded.segments ≡ old_segments old
   pub pages : upgraded.pages ≡ length (pages_of_old old)

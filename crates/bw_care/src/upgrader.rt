@@ -11,7 +11,7 @@ ghost use Rattle.bw_log.specs.Contents.{counted, KeepsLeaves};
 ghost use Rattle.bw_log.specs.Oldest.{IsAfter, last_number};
 ghost use Rattle.bw_log.specs.Places.{base_of};
 ghost use Rattle.bw_log.specs.Reads.{IsPage};
-ghost use Rattle.bw_care.specs.Upgrading.{old_segments, last_among, GivenUp, IsUpgraded, RefusesUpgrade};
+ghost use Rattle.bw_care.specs.Upgrading.{old_segments, last_among, GivenInTurn, GivenUp, IsUpgraded, RefusesUpgrade};
 ghost use Rattle.bw_care.specs.Views.{seen, IsSound};
 
 use crate::copies::nothing;
@@ -79,6 +79,7 @@ fn give_up(log: &mut Log, count: u32)
         (base_of page (counted (seen log.old holding)))) }
     ensures sound { IsSound log.new holding }
     ensures given_up { GivenUp count (seen log.old holding) (seen log.new holding) }
+    ensures in_turn { GivenInTurn count (seen log.old holding) }
     ensures stands { KeepsLeaves (seen log.old holding) (seen log.new holding) }
 {
     let mut given = 0;

@@ -464,7 +464,7 @@ has_stopped holds s t frames is empty held =
 
 -- ---- a flush before it
 
-long_as : (change : Holding → Holding) (hs : List Holding)
+pub long_as : (change : Holding → Holding) (hs : List Holding)
     → length (with_last change hs) ≡ length hs
 long_as change [] = refl
 long_as change (h ∷ []) = refl

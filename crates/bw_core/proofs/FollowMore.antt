@@ -281,7 +281,7 @@ all_works : (s : Kept) (lane : ℕ) (ms : List Marked) → (taken_all s lane ms)
 all_works s lane [] = refl
 all_works s lane (m ∷ ms) = all_works (taken s lane m (back_for s m.item)) lane ms
 
-may_entries : (group : List Record) (old new : Kept) → MakesRoom group old new → new.entries ≡ old.entries
+pub may_entries : (group : List Record) (old new : Kept) → MakesRoom group old new → new.entries ≡ old.entries
 may_entries group old new (inl e) = ap (λ (s : Kept). s.entries) e
 may_entries group old new (inr f) = ap (λ (s : Kept). s.entries) f.2.1.is
 

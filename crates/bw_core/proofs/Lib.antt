@@ -43,3 +43,5 @@ pub mod NeededMore
 pub mod CountsMore
 pub mod Machines
 pub mod GoesMore
+pub mod GivenMore
+pub mod RoundsMore

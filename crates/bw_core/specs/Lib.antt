@@ -18,6 +18,7 @@ pub mod Opened
 pub mod Reopened
 pub mod Relived
 pub mod Following
+pub mod Rounds
 pub mod Going
 pub mod Looking
 pub mod Keeping

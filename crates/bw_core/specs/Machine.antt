@@ -1,6 +1,6 @@
 -- A store as the machine that it is, and what recovery finds of it.
 
-use Rattle.std.specs.Prelude.{◌≡◌, ◌⊎◌, MatchResult, Result, List, length}
+use Rattle.std.specs.Prelude.{ℕ, ◌≡◌, ◌⊎◌, MatchResult, Result, List, ◌++◌, drop, length}
 use Rattle.bw_device.specs.Holding.{Holding}
 use Rattle.bw_page.specs.Leaves.{pages, union}
 use Rattle.bw_log.specs.Contents.{boxes}
@@ -36,6 +36,11 @@ FindsLeft s held =
 -- that failed
 abbrev pub MayBeStopped : Kept → Type 0
 MayBeStopped s = FindsLeft s (boxes s.log)
+
+-- .. and what is found if these boxes were given up before, and still have what they had: the first
+-- so many of them are empty again, and the others stand before those of the store
+abbrev pub MayBeStoppedBefore : List Holding → Kept → Type 0
+MayBeStoppedBefore given s = (k : ℕ) → FindsLeft s (drop k given ++ boxes s.log)
 
 -- a call that writes pages again, as the machine: each cut stands after it, and what a stop leaves
 -- is found

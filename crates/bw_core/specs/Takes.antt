@@ -1,6 +1,6 @@
 -- What is asked of a lane before a group of it is taken, and what every such take leaves.
 
-use Rattle.std.specs.Prelude.{ℕ, ◌≡◌, ◌≤◌, ◌<◌, false, Option, Some, Result, List, length, map, IfNone, IfOk, IfSome, OnErr, OnOk}
+use Rattle.std.specs.Prelude.{ℕ, ◌≡◌, ◌≤◌, ◌<◌, false, Option, Some, Result, List, length, map, IfNone, IfOk, IfSome, MatchOption, OnErr, OnOk}
 use Rattle.std.specs.List.{AllByRecursion}
 use Rattle.bw_record.specs.Lawful.{IsOp}
 use Rattle.bw_record.specs.declared.record.Record.{Record}
@@ -14,7 +14,7 @@ use Rattle.bw_ring.specs.Marks.{marked}
 use Rattle.bw_history.specs.declared.entry.Entry.{Entry}
 use Rattle.bw_history.specs.Entries as history
 use Rattle.bw_history.specs.History.{entered}
-use Rattle.bw_history.specs.Lanes.{Dries, IsNext, IsWaiting, TookKnown}
+use Rattle.bw_history.specs.Lanes.{Dries, IsNext, IsWaiting, KnowAfter, KnowMore, TookKnown}
 use Rattle.bw_terms.specs.declared.fault.StoreFault.{StoreFault}
 use Rattle.bw_core.specs.declared.store.Core.{Core}
 use Rattle.bw_core.specs.Views.{kept_by, lanes_of, noted_of, IsSound}
@@ -60,6 +60,7 @@ module _ {I : Type 0} {H : I → Type 0} where
     pub sound : IsSound new v
     pub count : length (lanes_of new) ≡ length (lanes_of old)
     pub dry : IfOk result (λ took. IfNone took (Dries lane (lanes_of old) (lanes_of new)))
+    pub knows : IfOk result (λ took. MatchOption took (KnowMore (lanes_of old) (lanes_of new)) (λ _. KnowAfter lane (lanes_of old) (lanes_of new)))
     pub few : IfOk result (λ took. IfSome took (λ n. n ≤ 4))
     pub noted : noted_of new ≡ noted_of old
 

@@ -9,13 +9,13 @@
 //! them as its own: each has a cut where the history ends, so that the count of cuts and that of
 //! frames never part.
 
-ghost use Rattle.std.specs.Prelude.{◌≡◌, ◌≤◌, ◌<◌, ◌+◌, ◌↔◌, [], true, false, length, vec_len, is_ok, IfErr, IsErrOf, OnOk};
+ghost use Rattle.std.specs.Prelude.{◌≡◌, ◌≤◌, ◌<◌, ◌+◌, ◌↔◌, [], true, false, length, take, vec_len, is_ok, IfErr, IfOk, IsErrOf, OnOk};
 ghost use Rattle.std.specs.Vec.{vec_capacity};
 ghost use Rattle.bw_core.specs.Cleaning.{MoveLeaves, CleanLeaves, HasBoxesBut, HasFloorBut};
 ghost use Rattle.bw_core.specs.Counting.{counted_gone, CountsClean};
 ghost use Rattle.bw_core.specs.Emptied.{Emptied, IsUnready};
 ghost use Rattle.bw_core.specs.Following.{Continues};
-ghost use Rattle.bw_core.specs.Machine.{RunsAs};
+ghost use Rattle.bw_core.specs.Machine.{MayBeStoppedBefore, RunsAs};
 ghost use Rattle.bw_core.specs.Settled.{IsSettled};
 
 use crate::flush::Spares;
@@ -60,6 +60,11 @@ impl Core {
 
         // As the machine: all that was taken is kept, and what a stop leaves is found.
         ensures runs { RunsAs (kept_by self.old holding) result (kept_by self.new holding) }
+
+        // So it is as long as the segment that was given up has what it had, and stands before the
+        // others: its file is emptied after this call.
+        ensures before { IfOk result (λ _. MayBeStoppedBefore
+            (take 1 (kept_by self.old holding).log.live) (kept_by self.new holding)) }
     {
         if self.log.live() < 2 {
             return Err(StoreFault::NothingOld);

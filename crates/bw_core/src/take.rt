@@ -20,7 +20,7 @@ ghost use Rattle.bw_record.specs.Record.{key_of};
 ghost use Rattle.bw_page.specs.Aim.{IsFound};
 ghost use Rattle.bw_page.specs.Leaves.{result_of, HasPages};
 ghost use Rattle.bw_core.specs.Fitting.{Fits};
-ghost use Rattle.bw_history.specs.Lanes.{IsWaiting, Dries};
+ghost use Rattle.bw_history.specs.Lanes.{IsWaiting, Dries, KnowMore};
 ghost use Rattle.bw_making.specs.Planning.{listed};
 ghost use Rattle.bw_core.specs.Taking.{TakeLeaves, WaitingLeaves, GroupLeaves, IsPlan, IsStopped, IsUnplanned};
 
@@ -244,6 +244,7 @@ impl Core {
         ensures waits { IsTrue result → IsWaiting self.new.intake.lanes.items lane }
         ensures none { result ≡ false → Dries lane self.old.intake.lanes.items
             self.new.intake.lanes.items }
+        ensures knows { KnowMore self.old.intake.lanes.items self.new.intake.lanes.items }
         ensures noted { noted_of self.new ≡ noted_of self.old }
     {
         self.intake.finds(lane)

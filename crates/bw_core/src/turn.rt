@@ -7,6 +7,7 @@
 ghost use Rattle.std.specs.Prelude.{◌≡◌, ◌≤◌, ◌<◌, ◌+◌, ◌*◌, length, IfOk, IfErr, MatchResult};
 ghost use Rattle.bw_core.specs.Following.{Turned, TookInTurn, RefusedAfter, TurnsOn, groups_since};
 ghost use Rattle.bw_core.specs.Machine.{machine_of, MayBeStopped};
+ghost use Rattle.bw_core.specs.Rounds.{GoesOver, GoesRound, IsFair};
 ghost use Rattle.bw_history.specs.Lanes.{Dries, AreDry};
 ghost use Rattle.bw_history.specs.Machine.{TakesAndStops, TakesMany};
 
@@ -60,6 +61,10 @@ impl Core {
         ensures tried { IfErr result (λ fault.
             groups_since (kept_by self.old holding) (kept_by self.new holding) < limit) }
 
+        // No lane is passed over that knows of a group.
+        ensures fair { IsFair (lanes_of self.old) (kept_by self.old holding)
+            (kept_by self.new holding) }
+
         // As the machine: so many groups are taken, and what a stop leaves is found.
         ensures steps { MatchResult result
             (λ _. TakesMany (groups_since (kept_by self.old holding) (kept_by self.new holding))
@@ -94,6 +99,8 @@ impl Core {
         ensures few { IfOk result (λ n. n.records ≤ 4 * n.groups) }
         ensures dry { IfOk result (λ n. n.groups ≡ taken.groups → taken.groups < limit
             → AreDry self.new.intake.lanes.items) }
+        ensures rounds { GoesRound limit self.old.intake.lanes.items (kept_by self.old holding)
+            result self.new.intake.lanes.items (kept_by self.new holding) }
     {
         let mut so_far = taken;
         let lanes = self.intake.writers();
@@ -121,6 +128,8 @@ impl Core {
         ensures few { IfOk result (λ n. n.records ≤ 4 * n.groups) }
         ensures dry { IfOk result (λ n. n.groups ≡ taken.groups
             → Dries lane self.old.intake.lanes.items self.new.intake.lanes.items) }
+        ensures rounds { GoesOver lane self.old.intake.lanes.items (kept_by self.old holding)
+            result self.new.intake.lanes.items (kept_by self.new holding) }
     {
         match self.take_from(lane) {
             Ok(Some(records)) => Ok(Count {

@@ -4,12 +4,12 @@
 //! flushed first, and what a refusal leaves is noted. The frames of format 1 are read by their
 //! version until the last of them is gone.
 
-ghost use Rattle.std.specs.Prelude.{◌≡◌, ◌≤◌, ◌↔◌, is_ok, IsErrOf, IfOk};
+ghost use Rattle.std.specs.Prelude.{◌≡◌, ◌≤◌, ◌↔◌, take, is_ok, IsErrOf, IfOk};
 ghost use Rattle.bw_care.specs.Upgrading.{old_segments};
 ghost use Rattle.bw_core.specs.Cleaning.{HasBoxesBut, HasFloorBut};
 ghost use Rattle.bw_core.specs.Counting.{counted_gone, CountsUpgraded};
 ghost use Rattle.bw_core.specs.Following.{Continues};
-ghost use Rattle.bw_core.specs.Machine.{RunsAs};
+ghost use Rattle.bw_core.specs.Machine.{MayBeStoppedBefore, RunsAs};
 ghost use Rattle.bw_core.specs.Upgrading.{UpgradeMoves, UpgradeLeaves};
 
 use crate::store::Core;
@@ -56,6 +56,12 @@ impl Core {
 
         // As the machine: all that was taken is kept, and what a stop leaves is found.
         ensures runs { RunsAs (kept_by self.old holding) result (kept_by self.new holding) }
+
+        // So it is as long as segments that were given up have what they had, and stand before the
+        // others: their files are emptied after this call, one after the other.
+        ensures before { IfOk result (λ _. MayBeStoppedBefore
+            (take (old_segments (kept_by self.old holding).log) (kept_by self.old holding).log.live)
+            (kept_by self.new holding)) }
     {
         if self.old_segments() == 0 {
             return Err(StoreFault::NothingOld);

@@ -6,7 +6,7 @@ use Rattle.std.proofs.Common.{sym, ap, ◌∙◌, subst, arith, append-nil, repl
 use Rattle.std.specs.Prelude.{◌==◌, ◌&&◌, nat_le}
 use Rattle.std.specs.List.{slice_get, AllByRecursion as All}
 use Rattle.std.specs.Option.{IsSomeAnd}
-use Rattle.std.proofs.lemmas.Bool.{eq-eqb, ne_eqb, leb-true, leb-false}
+use Rattle.std.proofs.lemmas.Bool.{eq-eqb, eqb-true, ne_eqb, leb-true, leb-false}
 use Rattle.std.proofs.lemmas.List.{length-map, length-replicate, length-take, take_more, take-append-drop}
 use Rattle.bw_record.specs.declared.record.Record.{Record}
 use Rattle.bw_history.specs.declared.entry.Entry.{Entry}
@@ -14,8 +14,8 @@ use Rattle.bw_ring.specs.declared.lane.Lane.{Lane}
 use Rattle.bw_ring.specs.declared.feed.Feed.{Feed}
 use Rattle.bw_ring.specs.Marks.{Marked, marked, joined}
 use Rattle.bw_ring.specs.Ends.{accepted, taken, known, given, ring_of_feed, ring_of_lane}
-use Rattle.bw_history.specs.Lanes.{known_at, IsWaiting, IsDry, Dries, AreDry, TookAt, TookKnown, StayDry}
-use Rattle.bw_history.specs.History.{of_writer, streams, counts_of, entered, is_grouped}
+use Rattle.bw_history.specs.Lanes.{known_at, only_at, IsWaiting, IsDry, Dries, AreDry, KnowAfter, KnowMore, TookAt, TookKnown, StayDry}
+use Rattle.bw_history.specs.History.{of_writer, streams, counts_of, entered, groups_of, is_grouped}
 use Rattle.bw_history.proofs.Grouped.{length_entered, length_marked}
 
 if_more : (b : Bool) (r : Marked) (xs ys : List Marked) (x : List Marked) → ys ≡ xs ++ x → (if b then r ∷ ys else ys) ≡ (if b then r ∷ xs else xs) ++ x
@@ -409,3 +409,59 @@ none_durable w n es end le h =
 pub none_waits : {A : Type 0} (ks : List A) (b : Bool) → (0 < length ks → b ≡ true) → b ≡ false → ks ≡ []
 none_waits [] b told e = refl
 none_waits (k ∷ ks) b told e = (let some : 0 < length (k ∷ ks) = omega arith in absurd (let both = sym (told some) ∙ e in cc))
+
+-- ---- how many groups lanes know of
+
+more_known : (ks ls : List (List Record)) → (0 < length ks → ls ≡ ks) → length ks ≤ length ls
+more_known [] ls kept = omega arith
+more_known (k ∷ ks) ls kept = (let same = ap length (kept (omega arith)) in omega arith)
+
+-- after a look at one ring
+pub know_more : (xs : List Lane) (i : ℕ) (x d : Lane) → i < length xs → d ≡ get_or xs i d → (0 < length (known d) → known x ≡ known d) → KnowMore xs (set xs i x)
+know_more [] i x d lt is kept j = omega arith
+know_more (y ∷ ys) zero x d lt is kept zero =
+    subst (λ (l : Lane). length (known l) ≤ length (known x)) is (more_known (known d) (known x) kept)
+know_more (y ∷ ys) zero x d lt is kept (suc j) = omega arith
+know_more (y ∷ ys) (suc i) x d lt is kept zero = omega arith
+know_more (y ∷ ys) (suc i) x d lt is kept (suc j) = know_more ys i x d (omega arith) is kept j
+
+fewer_by_one : (ks : List (List Record)) → length ks ≤ 1 + length (drop 1 ks)
+fewer_by_one [] = omega arith
+fewer_by_one (k ∷ ks) = omega arith
+
+suc_at : (at i : ℕ) → only_at (suc at) (suc i) ≡ only_at at i
+suc_at at i = elim (at == i) as (λ b. (at == i) ≡ b → only_at (suc at) (suc i) ≡ (if◌then◌else◌ {A = ℕ} b 1 0)) [
+  | true ↦ λ e. ap (λ (b : Bool). if◌then◌else◌ {A = ℕ} b 1 0) (eq-eqb (suc at) (suc i) (ap suc (eqb-true at i e)))
+  | false ↦ λ e. ap (λ (b : Bool). if◌then◌else◌ {A = ℕ} b 1 0)
+      (ne_eqb (suc at) (suc i) (λ same. (let is : at ≡ i = omega arith in let both = sym (eq-eqb at i is) ∙ e in cc)))
+] refl
+
+after_set : (ks : List (List (List Record))) (at i : ℕ)
+    → length (get_or ks i []) ≤ only_at at i + length (get_or (set ks at (drop 1 (get_or ks at []))) i [])
+after_set [] at i = omega arith
+after_set (k ∷ ks) zero zero = fewer_by_one k
+after_set (k ∷ ks) zero (suc i) = omega arith
+after_set (k ∷ ks) (suc at) zero = omega arith
+after_set (k ∷ ks) (suc at) (suc i) = (let rest = after_set ks at i in let same = suc_at at i in omega (arith, rest, same))
+
+-- after a group was taken
+pub know_after : (at : ℕ) (old new : List Lane) → TookKnown at old new → KnowAfter at old new
+know_after at old new took i =
+    subst (λ (ks : List (List (List Record))). length (known_at old i) ≤ only_at at i + length (get_or ks i [])) (sym took) (after_set (map known old) at i)
+
+-- ---- how many groups a writer gave
+
+pub groups_append : (w : ℕ) (xs ys : List Entry) → groups_of w (xs ++ ys) ≡ groups_of w xs + groups_of w ys
+groups_append w [] ys = omega arith
+groups_append w (e ∷ xs) ys = (let rest = groups_append w xs ys in omega arith)
+
+if_same : {A : Type 0} (b : Bool) (x : A) → (if b then x else x) ≡ x
+if_same true x = refl
+if_same false x = refl
+
+-- a group ends once, and only its writer's count grows
+pub groups_entered : (w lane : ℕ) (group : List Record) → 1 ≤ length group → groups_of w (entered lane (marked group)) ≡ only_at lane w
+groups_entered w lane [] some = absurd (omega arith)
+groups_entered w lane (r ∷ []) some = omega arith
+groups_entered w lane (r ∷ s ∷ rs) some =
+    (let rest = groups_entered w lane (s ∷ rs) (omega arith) in let none : (if◌then◌else◌ {A = ℕ} (lane == w) 0 0) ≡ 0 = if_same {A = ℕ} (lane == w) 0 in omega (arith, rest, none))

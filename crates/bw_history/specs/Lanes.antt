@@ -1,6 +1,6 @@
 -- One lane of several.
 
-use Rattle.std.specs.Prelude.{ℕ, ◌≡◌, ◌<◌, ◌++◌, ◌∷◌, [], List, length, map, drop, slice_get, slice_index_or, slice_set}
+use Rattle.std.specs.Prelude.{ℕ, ◌+◌, ◌==◌, ◌≡◌, ◌<◌, ◌≤◌, if◌then◌else◌, ◌++◌, ◌∷◌, [], List, length, map, drop, slice_get, slice_index_or, slice_set}
 use Rattle.std.specs.List.{AllByRecursion}
 use Rattle.std.specs.Option.{IsSomeAnd}
 use mathlib.Core.List.{IsPrefix}
@@ -45,3 +45,15 @@ TookKnown at old new = map known new ≡ slice_set (map known old) at (drop 1 (k
 -- lanes that knew of no group still know of none
 abbrev pub StayDry : List Lane → List Lane → Type 0
 StayDry old new = (i : ℕ) → known_at old i ≡ [] → known_at new i ≡ []
+
+-- each lane knows of as many groups as before, at least
+abbrev pub KnowMore : List Lane → List Lane → Type 0
+KnowMore old new = (i : ℕ) → length (known_at old i) ≤ length (known_at new i)
+
+-- 1 for this lane, and 0 for any other
+abbrev pub only_at : ℕ → ℕ → ℕ
+only_at at i = if at == i then 1 else 0
+
+-- so they do, but that this lane gave one of those of which it knew
+abbrev pub KnowAfter : ℕ → List Lane → List Lane → Type 0
+KnowAfter at old new = (i : ℕ) → length (known_at old i) ≤ only_at at i + length (known_at new i)

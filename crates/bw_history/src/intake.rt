@@ -8,7 +8,7 @@ ghost use Rattle.bw_ring.specs.Limits.{IsConfig};
 ghost use Rattle.bw_ring.specs.Marks.{marked};
 ghost use Rattle.bw_history.specs.Entries.{records};
 ghost use Rattle.bw_history.specs.History.{of_writer, streams, counts_of, entered, is_grouped};
-ghost use Rattle.bw_history.specs.Lanes.{IsNext, IsWaiting, Dries, TookAt, TookKnown};
+ghost use Rattle.bw_history.specs.Lanes.{IsNext, IsWaiting, Dries, KnowMore, TookAt, TookKnown};
 ghost use Rattle.bw_history.specs.Remembered.{HasRoom};
 
 use crate::beside::look_at_all;
@@ -136,6 +136,7 @@ impl Intake {
         ensures taken { map taken self.new.lanes.items ≡ map taken self.old.lanes.items }
         ensures waits { IsTrue result → IsWaiting self.new.lanes.items lane }
         ensures none { result ≡ false → Dries lane self.old.lanes.items self.new.lanes.items }
+        ensures knows { KnowMore self.old.lanes.items self.new.lanes.items }
     {
         finds_at(&mut self.lanes, lane)
     }
@@ -351,6 +352,7 @@ fn finds_at(lanes: &mut Vec<Lane>, at: usize) -> bool
     ensures taken { map taken lanes.new.items ≡ map taken lanes.old.items }
     ensures waits { IsTrue result → IsWaiting lanes.new.items at }
     ensures none { result ≡ false → Dries at lanes.old.items lanes.new.items }
+    ensures knows { KnowMore lanes.old.items lanes.new.items }
 {
     let _ = lanes.as_slice().len(); // For the proof.
     finds_one(&mut lanes[at])

@@ -126,9 +126,9 @@ pub publish_leaves : (s : Kept) (new : Versioned) (r : Result (Unit {0}) AllocEr
     → (new.start ≡ s.versions.start) × (new.book ≡ s.versions.book) × (new.places ≡ s.versions.places)
     → OnOk r (posted_of new.published ≡ Some (record { start = s.versions.start; entries = take end entries }))
     → OnOk r (IsPrefix s.versions.published new.published) → OnErr r (new.published ≡ s.versions.published) → OnOk r (IsUpTo new (take end entries))
-    → (IsUpTo s.versions (take end entries) → (new ≡ s.versions) × IsOk r)
+    → EntersWhole s.versions.entered new.entered (take end entries) → (IsUpTo s.versions (take end entries) → (new ≡ s.versions) × IsOk r)
     → MatchResult r (λ _. Shows s (reading s new)) (λ _. Hides s (reading s new))
-publish_leaves s new (Ok x) end entries h is all same posted grows err level idle = record {
+publish_leaves s new (Ok x) end entries h is all same posted grows err level whole idle = record {
   is = batches_are s new same;
   shown =
       posted ∙ ap (λ (es : List Entry). Some (record { start = s.versions.start; entries = es })) (upto_is s end entries is all)
@@ -136,10 +136,12 @@ publish_leaves s new (Ok x) end entries h is all same posted grows err level idl
   more = grows.0;
   grows = sym grows.1;
   level = subst (IsUpTo new) (upto_is s end entries is all) level;
+  whole = subst (EntersWhole s.versions.entered new.entered) (upto_is s end entries is all) whole;
   idle = λ was. ap (λ (v : Versioned). reading s v) (idle (subst (IsUpTo s.versions) (sym (upto_is s end entries is all)) was)).0;
 }
-publish_leaves s new (Err x) end entries h is all same posted grows err level idle = record {
+publish_leaves s new (Err x) end entries h is all same posted grows err level whole idle = record {
   is = batches_are s new same ∙ ap (λ (bs : List BatchData). with_batches s bs new.entered) err;
+  whole = subst (EntersWhole s.versions.entered new.entered) (upto_is s end entries is all) whole;
   fresh = λ was. no_ok x (idle (subst (IsUpTo s.versions) (sym (upto_is s end entries is all)) was)).1;
 }
 

@@ -1,6 +1,7 @@
 -- What follows from a publication.
 
 use Rattle.std.proofs.Common.{◌≡◌, ℕ, inr, Option, Some, None, Ok, Err, List, [], ◌++◌, length, take, take_all, refl, sym, ap, ◌∙◌, subst, arith, append-nil, append_assoc}
+use Rattle.bw_device.specs.Holding.{Holding}
 use Rattle.bw_log.specs.Contents.{roster}
 use Rattle.bw_versions.specs.Batches.{BatchData}
 use Rattle.bw_versions.specs.Versioned.{Versioned}
@@ -10,6 +11,7 @@ use Rattle.bw_terms.specs.declared.fault.StoreFault.TheVariants.{NoMemory}
 use Rattle.bw_core.specs.Faults.{FlushAnswers}
 use Rattle.bw_core.specs.Cleaning as cleaning
 use Rattle.bw_core.specs.Following as core
+use Rattle.bw_core.specs.Machine as machine
 use Rattle.bw_core.proofs.FollowMore as more
 use Rattle.bw_store.specs.Kept.{Kept, core_of, start_of, with_batches}
 use Rattle.bw_store.specs.Following.{Continues, Follows, HasBoxes}
@@ -145,6 +147,14 @@ shows_core middle new x = ap core_of x.is
 
 pub hides_core : (middle new : Kept) → Hides middle new → core_of new ≡ core_of middle
 hides_core middle new x = ap core_of x.is
+
+pub shows_before : (given : List Holding) (middle new : Kept) → machine.MayBeStoppedBefore given (core_of middle) → Shows middle new
+    → machine.MayBeStoppedBefore given (core_of new)
+shows_before given middle new found x = subst (machine.MayBeStoppedBefore given) (sym (shows_core middle new x)) found
+
+pub hides_before : (given : List Holding) (middle new : Kept) → machine.MayBeStoppedBefore given (core_of middle) → Hides middle new
+    → machine.MayBeStoppedBefore given (core_of new)
+hides_before given middle new found x = subst (machine.MayBeStoppedBefore given) (sym (hides_core middle new x)) found
 
 -- ---- the calls that end with a publication
 

@@ -5,6 +5,7 @@ use Rattle.bw_versions.specs.Batches.{BatchData}
 use Rattle.bw_ring.specs.declared.lane.Lane.{Lane}
 use Rattle.bw_terms.specs.declared.fault.StoreFault.{StoreFault}
 use Rattle.bw_core.specs.Following as core
+use Rattle.bw_core.specs.Rounds as rounds
 use Rattle.bw_store.specs.Kept.{Kept, core_of, Beside}
 
 -- what no call takes back: that of the core, what was published, and the readers' book
@@ -32,6 +33,10 @@ Turned n old new = Beside (core.Turned n) old new
 -- how many groups came since
 abbrev pub groups_since : Kept → Kept → ℕ
 groups_since old new = core.groups_since (core_of old) (core_of new)
+
+-- no lane is passed over that knows of a group
+abbrev pub IsFair : List Lane → Kept → Kept → Type 0
+IsFair lanes old new = rounds.IsFair lanes (core_of old) (core_of new)
 
 -- so many records were taken, group after group; if an append failed before, none was
 abbrev pub TookInTurn : ℕ → Kept → Kept → Type 0

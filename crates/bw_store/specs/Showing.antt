@@ -3,7 +3,7 @@
 use Rattle.std.specs.Prelude.{ℕ, Bool, false, ◌≡◌, ◌⊎◌, ◌++◌, List, [], Option, Some, Result, Ok, Err}
 use Rattle.bw_versions.specs.Batches.{BatchData}
 use Rattle.bw_versions.specs.Posted.{posted_of}
-use Rattle.bw_versions.specs.Versioned.{IsUpTo, Versioned}
+use Rattle.bw_versions.specs.Versioned.{EntersWhole, IsUpTo, Versioned}
 use Rattle.bw_page.specs.Shown.{Shown}
 use Rattle.bw_ring.specs.declared.lane.Lane.{Lane}
 use Rattle.bw_terms.specs.declared.fault.StoreFault.{StoreFault}
@@ -58,11 +58,14 @@ pub record Shows (old new : Kept) : Type 0 where
   pub more : List BatchData
   pub grows : new.versions.published ≡ old.versions.published ++ more
   pub level : IsLevel new
+  -- what was not entered before is one batch
+  pub whole : EntersWhole old.versions.entered new.versions.entered (upto old.cuts old.entries old.durable)
   pub idle : IsLevel old → new ≡ old
 
 -- a publication was refused, when there was something to publish: what is published stays
 pub record Hides (old new : Kept) : Type 0 where
   pub is : new ≡ with_batches old old.versions.published new.versions.entered
+  pub whole : EntersWhole old.versions.entered new.versions.entered (upto old.cuts old.entries old.durable)
   pub fresh : IsLevel old → ⊥
 
 -- a flush, and then a publication; if that finds no memory the frame is durable

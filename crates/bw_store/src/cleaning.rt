@@ -6,7 +6,7 @@ ghost use Rattle.bw_care.specs.Upgrading.{old_segments};
 ghost use Rattle.bw_core.specs.Rewriting.{are_pages};
 ghost use Rattle.bw_store.specs.Following.{Continues};
 ghost use Rattle.bw_store.specs.Machine.{RunsAs};
-ghost use Rattle.bw_store.specs.Renewing.{CleanShows, CountsCleaning, CountsUpgrade, HasBoxesAfter, HasFloorAfter, RewriteShows, UpgradeShows};
+ghost use Rattle.bw_store.specs.Renewing.{CleanShows, CountsCleaning, CountsUpgrade, HasBoxesAfter, HasFloorAfter, MayBeStoppedBefore, RewriteShows, UpgradeShows};
 
 use crate::store::Store;
 use bw_core::{Cleaned, StoreFault, Upgraded};
@@ -52,6 +52,11 @@ impl Store {
         // As the machine: all that was taken is kept and then shown, and what a stop leaves is
         // found.
         ensures runs { RunsAs (kept_by self.old holding) result (kept_by self.new holding) }
+
+        // So it is as long as the segment that was given up has what it had, and stands before the
+        // others: its file is emptied after this call.
+        ensures before { MayBeStoppedBefore 1 (kept_by self.old holding) result
+            (kept_by self.new holding) }
     {
         let cleaned = self.core.clean()?;
         self.publish(rt)?;
@@ -97,6 +102,11 @@ impl Store {
         // As the machine: all that was taken is kept and then shown, and what a stop leaves is
         // found.
         ensures runs { RunsAs (kept_by self.old holding) result (kept_by self.new holding) }
+
+        // So it is as long as segments that were given up have what they had, and stand before the
+        // others: their files are emptied after this call, one after the other.
+        ensures before { MayBeStoppedBefore (old_segments (kept_by self.old holding).log)
+            (kept_by self.old holding) result (kept_by self.new holding) }
     {
         let upgraded = self.core.upgrade()?;
         self.publish(rt)?;

@@ -3,7 +3,7 @@
 ghost use Rattle.std.specs.Prelude.{◌≤◌, ◌<◌, IfOk, IfErr, MatchResult};
 ghost use Rattle.bw_history.specs.Lanes.{AreDry};
 ghost use Rattle.bw_history.specs.Machine.{TakesAndStops, TakesMany};
-ghost use Rattle.bw_store.specs.Following.{Turned, TookInTurn, RefusedAfter, groups_since};
+ghost use Rattle.bw_store.specs.Following.{IsFair, Turned, TookInTurn, RefusedAfter, groups_since};
 ghost use Rattle.bw_store.specs.Machine.{machine_of, MayBeStopped};
 
 use crate::store::Store;
@@ -48,6 +48,10 @@ impl Store {
             (kept_by self.new holding)) }
         ensures tried { IfErr result (λ fault.
             groups_since (kept_by self.old holding) (kept_by self.new holding) < limit) }
+
+        // No lane is passed over that knows of a group.
+        ensures fair { IsFair (lanes_of self.old) (kept_by self.old holding)
+            (kept_by self.new holding) }
 
         // As the machine: so many groups are taken, and what a stop leaves is found.
         ensures steps { MatchResult result

@@ -86,7 +86,7 @@ returns-clause-upgraded g c =
     let many : c.len.result ≡ length (pages_of_old log) =
     omega (arith, c.len.ensures, c.in-Ok.pages.ok.0, ap (λ (l : List ℕ). length l) (sym c.as_slice.ensures.value ∙ pages)) in
     all_upgraded log now _ c.old_segments-segments.result c.len.result c.in-Ok-move_all.frames c.requires.sound c.in-Ok-move_all.ensures.sound some
-    (sym c.if-is_failed.ensures) c.old_segments-segments.ensures moved c.give_up.ensures.given_up many
+    (sym c.if-is_failed.ensures) c.old_segments-segments.ensures moved c.give_up.ensures.given_up c.give_up.ensures.in_turn many
 
 pub returns-clause-stands : goal.returns-clause-stands
 returns-clause-stands g c =

@@ -14,6 +14,7 @@ use Rattle.bw_core.proofs.CountsMore.{step_counts}
 use Rattle.bw_core.proofs.FollowMore.{continue_then, follows_as}
 use Rattle.bw_core.proofs.Machines.{clean_keeps}
 use Rattle.bw_core.proofs.Refusing.{never_unready}
+use Rattle.bw_core.proofs.GivenMore.{clean_before}
 use Rattle.bw_core.proofs.GoesMore.{runs_as}
 use Rattle.bw_core.proofs.store.Core.clean.Goals as goal
 
@@ -104,3 +105,10 @@ returns-in_err-make_ready-clause-runs g c = runs_as _ _ _ c.make_ready.ensures.g
 
 pub returns-clause-runs : goal.returns-clause-runs
 returns-clause-runs g c = runs_as _ _ _ c.move_pages.ensures.sound (clean_keeps _ _ _ c.requires.sound (returns-clause-leaves g c))
+
+pub returns-clause-before : goal.returns-clause-before
+returns-clause-before g c =
+    let live = c.live.ensures in
+    let many = c.if-live-lt2.false in
+    clean_before _ _ _ _ (omega arith) c.in_ok-make_ready.ensures.emptied c.make_ready.ensures.goes.sound c.in_ok-make_ready.ensures.settled
+    c.move_pages.ensures.sound c.move_pages.ensures.leaves (clean_keeps _ _ _ c.requires.sound (returns-clause-leaves g c))

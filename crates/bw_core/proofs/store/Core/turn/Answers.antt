@@ -1,11 +1,24 @@
 use Rattle.std.proofs.Common.{refl, ◌∙◌, arith}
 use Rattle.std.proofs.lemmas.Result.{err_from_is_err_and}
+use Rattle.bw_core.specs.Views.{kept_by}
 use Rattle.bw_core.proofs.FollowMore.{no_groups, refused_turned}
 use Rattle.bw_core.proofs.Machines.{may_leave, refused_stops, turn_takes}
+use Rattle.bw_core.proofs.RoundsMore.{fair_of, none_yet}
 use Rattle.bw_core.proofs.store.Core.turn.Goals as goal
 
 pub rounds-init : goal.rounds-init
-rounds-init g c = record { sound = c.requires.sound; turned = no_groups _ _ refl; within = omega arith; few = omega arith; noted = refl }
+rounds-init g c =
+    let lanes = c.args.self.now.intake.lanes.items in
+    let s = kept_by c.args.self.now (λ z. (goal.Segment-dyn g z).holding z.1) in
+    record {
+      sound = c.requires.sound;
+      turned = no_groups _ _ refl;
+      within = omega arith;
+      few = omega arith;
+      noted = refl;
+      fair = fair_of lanes s lanes s (none_yet lanes s);
+      rounds = λ less. (0, none_yet lanes s);
+    }
 
 pub rounds-preserved : goal.rounds-preserved
 rounds-preserved g c = record {
@@ -14,6 +27,8 @@ rounds-preserved g c = record {
   within = c.in_ok-more.ensures.within.1;
   few = c.in_ok-more.ensures.few;
   noted = c.in_ok-more.ensures.quiet.noted ∙ c.rounds.invariant.noted;
+  fair = (let at = c.rounds.invariant.rounds c.rounds-test.true in (c.in_ok-more.ensures.rounds _ _ at.0 at.1).0);
+  rounds = λ less. (let at = c.rounds.invariant.rounds c.rounds-test.true in (_, (c.in_ok-more.ensures.rounds _ _ at.0 at.1).1 less));
 }
 
 pub returns-then-more-taken-clause-turned : goal.returns-then-more-taken-clause-turned
@@ -78,3 +93,15 @@ returns-in_err-more-clause-steps g c =
 
 pub returns-in_err-more-clause-may_leave : goal.returns-in_err-more-clause-may_leave
 returns-in_err-more-clause-may_leave g c = may_leave _ c.round_more.ensures.quiet.sound
+
+pub returns-then-more-taken-clause-fair : goal.returns-then-more-taken-clause-fair
+returns-then-more-taken-clause-fair g c = (let at = c.rounds.invariant.rounds c.rounds-test.true in (c.in_ok-more.ensures.rounds _ _ at.0 at.1).0)
+
+pub returns-clause-fair : goal.returns-clause-fair
+returns-clause-fair g c = c.rounds.invariant.fair
+
+pub returns-in_err-more-clause-fair : goal.returns-in_err-more-clause-fair
+returns-in_err-more-clause-fair g c =
+    let p = err_from_is_err_and c.from_residual.result c.from_residual.ensures.1 in
+    let at = c.rounds.invariant.rounds c.rounds-test.true in
+    (c.in_err-more.ensures.rounds _ _ at.0 at.1).0

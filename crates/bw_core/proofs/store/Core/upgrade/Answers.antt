@@ -16,6 +16,7 @@ use Rattle.bw_core.proofs.CountsMore.{step_counts}
 use Rattle.bw_core.proofs.FollowMore.{continue_then, follows_as}
 use Rattle.bw_core.proofs.Machines.{upgrade_keeps}
 use Rattle.bw_core.proofs.Refusing.{never_unready}
+use Rattle.bw_core.proofs.GivenMore.{upgrade_before}
 use Rattle.bw_core.proofs.GoesMore.{runs_as}
 use Rattle.bw_core.proofs.store.Core.upgrade.Goals as goal
 
@@ -110,3 +111,8 @@ returns-in_err-make_ready-clause-runs g c = runs_as _ _ _ c.make_ready.ensures.g
 
 pub returns-clause-runs : goal.returns-clause-runs
 returns-clause-runs g c = runs_as _ _ _ c.upgrade_counted.ensures.sound (upgrade_keeps _ _ _ c.requires.sound (returns-clause-leaves g c))
+
+pub returns-clause-before : goal.returns-clause-before
+returns-clause-before g c =
+    upgrade_before _ _ _ _ c.requires.sound c.in_ok-make_ready.ensures.emptied c.make_ready.ensures.goes.sound c.in_ok-make_ready.ensures.settled
+    c.upgrade_counted.ensures.sound c.upgrade_counted.ensures.leaves (upgrade_keeps _ _ _ c.requires.sound (returns-clause-leaves g c))

@@ -50,6 +50,7 @@ returns-clause-leaves g c =
     ≡ Some (record { start = s.versions.start; entries = es }))) all c.publish_up_to-went.ensures.published)
     c.publish_up_to-went.ensures.grows c.publish_up_to-went.ensures.unchanged
     (subst (λ (es : List Entry). OnOk c.publish_up_to-went.result (IsUpTo c.publish_up_to-went.new.self es)) all c.publish_up_to-went.ensures.all)
+    (subst (EntersWhole s.versions.entered c.publish_up_to-went.new.self.entered) all c.publish_up_to-went.ensures.whole)
     (subst (λ (es : List Entry). IsUpTo s.versions es → (c.publish_up_to-went.new.self ≡ s.versions) × IsOk c.publish_up_to-went.result) all
     c.publish_up_to-went.ensures.idle)
 

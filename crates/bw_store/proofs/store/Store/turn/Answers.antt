@@ -35,3 +35,6 @@ returns-clause-steps g c =
 
 pub returns-clause-may_leave : goal.returns-clause-may_leave
 returns-clause-may_leave g c = c.turn.ensures.may_leave
+
+pub returns-clause-fair : goal.returns-clause-fair
+returns-clause-fair g c = c.turn.ensures.fair

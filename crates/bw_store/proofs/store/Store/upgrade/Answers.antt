@@ -6,7 +6,7 @@ use Rattle.bw_core.specs.Views as core
 use Rattle.bw_store.specs.Kept.{with_versions}
 use Rattle.bw_store.specs.Views.{kept_by}
 use Rattle.bw_store.proofs.Later.{beside_sound}
-use Rattle.bw_store.proofs.Showing.{beside_continues, hides_boxes, hides_continues, hides_floor, shows_continues, shows_floor, shows_roster}
+use Rattle.bw_store.proofs.Showing.{beside_continues, hides_before, hides_boxes, hides_continues, hides_floor, shows_before, shows_continues, shows_floor, shows_roster}
 use Rattle.bw_store.proofs.Beside.{runs_hidden, runs_refused, runs_shown}
 use Rattle.bw_store.proofs.store.Store.upgrade.Goals as goal
 
@@ -112,3 +112,19 @@ returns-clause-runs g c =
     let middle = with_versions (core.kept_by c.upgrade.new.self (λ z. (goal.Segment-dyn g z).holding z.1)) c.args.self.now.versions in
     runs_shown old middle _ _ (beside_sound old middle c.requires.sound c.upgrade.ensures.sound c.upgrade.ensures.follows refl) c.publish.ensures.quiet.sound
     c.in_ok-upgraded.ensures.runs.steps refl c.in_ok-publish.ensures.leaves
+
+pub returns-in_err-upgraded-clause-before : goal.returns-in_err-upgraded-clause-before
+returns-in_err-upgraded-clause-before g c =
+    let p = err_from_is_err_and c.from_residual.result c.from_residual.ensures.1 in
+    rw p.1 (inl c.in_err-upgraded.ensures.boxes)
+
+pub returns-in_err-publish-clause-before : goal.returns-in_err-publish-clause-before
+returns-in_err-publish-clause-before g c =
+    let p = err_from_is_err_and c.from_residual-in_err-publish.result c.from_residual-in_err-publish.ensures.1 in
+    rw p.1 (inr (hides_before _ (with_versions (core.kept_by c.upgrade.new.self (λ z. (goal.Segment-dyn g z).holding z.1)) c.args.self.now.versions) _
+    c.in_ok-upgraded.ensures.before c.in_err-publish.ensures.leaves))
+
+pub returns-clause-before : goal.returns-clause-before
+returns-clause-before g c =
+    shows_before _ (with_versions (core.kept_by c.upgrade.new.self (λ z. (goal.Segment-dyn g z).holding z.1)) c.args.self.now.versions) _
+    c.in_ok-upgraded.ensures.before c.in_ok-publish.ensures.leaves
