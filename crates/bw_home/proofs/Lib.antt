@@ -2,4 +2,5 @@ pub mod Readings
 pub mod Maps
 pub mod Cuts
 pub mod Keeping
+pub mod Beginning
 mod Reasons

@@ -1,16 +1,19 @@
 -- What holds of a home with one writer over its lives.
 
-use Rattle.std.specs.Prelude.{List, [], map, slice_index_or}
-use Rattle.bw_page.specs.Leaves.{plain}
+use Rattle.std.specs.Prelude.{◌≡◌, List, [], length, map, slice_index_or, MatchResult}
+use Rattle.bw_page.specs.Leaves.{plain, union}
 use Rattle.bw_ring.specs.Ends.{accepted}
 use Rattle.bw_ring.specs.declared.feed.Feed.{Feed}
 use Rattle.bw_log.specs.Contents.{boxes}
+use Rattle.bw_lines.specs.declared.cause.RecoverCause.TheVariants.{Empty}
+use Rattle.bw_care.specs.Recovery.{recovery}
 use Rattle.bw_history.specs.declared.entry.Entry.{Entry}
-use Rattle.bw_history.specs.Machine.{IsMachine, MayLeave}
+use Rattle.bw_history.specs.Machine.{IsMachine, MayLeave, begun}
 use Rattle.bw_core.specs.Kept.{IsSound, Kept}
 use Rattle.bw_core.specs.Machine.{machine_of}
 use Rattle.bw_core.specs.Reopened.{Begins}
 use Rattle.bw_leaf.specs.Changed.{Map}
+use Rattle.bw_home.specs.Beginning.{AreBegun}
 use Rattle.bw_home.specs.Cuts.{IsAmong, IsMap}
 use Rattle.bw_home.specs.Maps.{cuts_by, map_of}
 
@@ -27,3 +30,17 @@ AStopLeavesACut = (feeds : List Feed) (s : Kept) (left : List Entry) → IsMap f
 abbrev pub AMapGoesOn : Type 0
 AMapGoesOn = (feeds : List Feed) (old new : Kept) → IsMap feeds old → IsSound old → IsMachine (machine_of old) → Begins (boxes old.log) new
     → IsAmong (cuts_of feeds old) (plain new.start [])
+
+-- a home with one writer is a map if nothing was put and nothing was taken yet
+abbrev pub ABegunHomeIsAMap : Type 0
+ABegunHomeIsAMap = (feeds : List Feed) (s : Kept) → AreBegun feeds s.entries s.cuts → length feeds ≡ 1 → IsMap feeds s
+
+-- the store of a home that is begun is the machine that begins with its start
+abbrev pub ABegunHomeBegins : Type 0
+ABegunHomeBegins = (feeds : List Feed) (s : Kept) → AreBegun feeds s.entries s.cuts → machine_of s ≡ begun (union s.start)
+
+-- recovery finds in the boxes of a home that is begun the pages that it begins with, or no store in those of a new one
+abbrev pub ABegunHomeIsFound : Type 0
+ABegunHomeIsFound =
+    (feeds : List Feed) (s : Kept) → AreBegun feeds s.entries s.cuts → IsSound s
+    → MatchResult (recovery (boxes s.log)) (λ finding. finding.leaves ≡ s.start) (λ cause. (cause ≡ Empty) × (s.before ≡ 0))

@@ -4,6 +4,7 @@ pub mod Renewing
 pub mod Sharing
 pub mod Cuts
 pub mod Maps
+pub mod Beginning
 pub mod Keeping
 pub mod Reasons
 pub mod Laws

@@ -1,7 +1,6 @@
 -- A home with one writer as most callers want it: a map, and what of it is kept.
 
 use Rattle.std.specs.Prelude.{◌≡◌, List, [], ◌∷◌, map, slice_index_or, take}
-use Rattle.std.specs.FinMap as finite
 use Rattle.bw_device.specs.Holding.{Holding}
 use Rattle.bw_record.specs.declared.record.Record.{Record}
 use Rattle.bw_leaf.specs.Changed.{Map}

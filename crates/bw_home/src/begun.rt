@@ -1,7 +1,12 @@
 //! A store begins over boxes: a new one, or the one that they hold. A folder that has only the
 //! beginning of a first frame has no store: that beginning is cleared, and the store begins anew.
 
-ghost use Rattle.std.specs.Prelude.{IfOk};
+ghost use Rattle.std.specs.Prelude.{◌≡◌, false, true, map, IfOk};
+ghost use Rattle.bw_ring.specs.Ends.{ring_of_feed};
+ghost use Rattle.bw_core.specs.Opened.{opened, AreUnused};
+ghost use Rattle.bw_core.specs.Reopened.{Begins};
+ghost use Rattle.bw_core.specs.Views.{kept_beside};
+ghost use Rattle.bw_home.specs.Beginning.{IsBegunBeside};
 ghost use Rattle.bw_home.specs.Ready.{IsReadyBeside};
 
 use crate::home::Home;
@@ -21,7 +26,15 @@ pub(crate) fn begin<R: System>(
     found: Option<Found>,
 ) -> Result<Home, NotHeld>
     requires { Unit {0} }
-    ensures { IfOk result (λ home. IsReadyBeside home holding) }
+    ensures ready { IfOk result (λ home. IsReadyBeside home holding) }
+    ensures made { are_new ≡ true → IfOk result (λ home. kept_beside home.store holding
+        ≡ opened (map ring_of_feed home.feeds.items) options.now.pairs_a_page
+        options.now.frame_bytes (map holding boxes.items)) }
+    ensures begins { are_new ≡ false → IfOk result (λ home.
+        Begins (map holding boxes.items) (kept_beside home.store holding)) }
+    ensures feeds { IfOk result (λ home. AreUnused options.now.writers
+        options.now.queue_groups home.feeds.items) }
+    ensures begun { IfOk result (λ home. IsBegunBeside home holding) }
 {
     if are_new {
         site.settle(rt)?;

@@ -24,6 +24,7 @@ fn refusal_of(added: Result<(), (Box<dyn Segment>, StoreFault)>) -> Option<Store
 
 impl Home {
     ghost use Rattle.bw_core.specs.Views.{noted_of};
+    ghost use Rattle.bw_home.specs.Beginning.{IsBegun, IsBegunBeside};
     ghost use Rattle.bw_home.specs.Maps.{StaysMap};
     ghost use Rattle.bw_home.specs.Ready.{kept_in, IsReady, IsReadyBeside};
 
@@ -196,7 +197,8 @@ impl Home {
     /// A segment that was made, and is no spare yet.
     pub(crate) fn next_made(&mut self) -> Option<Made>
         requires { IsReady self.old holding }
-        ensures { IsReady self.new holding }
+        ensures ready { IsReady self.new holding }
+        ensures begun { IsBegun self.old holding → IsBegun self.new holding }
     {
         self.stock.next_made()
     }
@@ -204,7 +206,8 @@ impl Home {
     /// Adds a spare. If that is refused, there is one fewer until the folder is opened again.
     pub(crate) fn add(&mut self, spare: Box<dyn Segment>)
         requires { IsReadyBeside self.old holding }
-        ensures { IsReadyBeside self.new holding }
+        ensures ready { IsReadyBeside self.new holding }
+        ensures begun { IsBegunBeside self.old holding → IsBegunBeside self.new holding }
     {
         let lease = spare.lease();
         let refused = refusal_of(self.store.add_segment(spare));

@@ -7,7 +7,8 @@ use std::fmt::{self, Display, Formatter};
 use thiserror::Error;
 
 /// A record was not put, and here it is: the queue is full, and what waits there was not taken for
-/// this reason. There is none if the queue is full all the same, or there is no writer.
+/// this reason. There is none if a turn took what waited, and the queue is full all the same, or
+/// there is no writer.
 #[derive(Debug, Drop, Error)]
 #[error("the queue is full")]
 pub struct NotPut {
@@ -16,7 +17,8 @@ pub struct NotPut {
 }
 
 /// A group was not put, and here it is: the queue is full, and what waits there was not taken for
-/// this reason. There is none if the queue is full all the same, or there is no such writer.
+/// this reason. There is none if a turn took what waited, and the queue is full all the same, or
+/// there is no such writer.
 #[derive(Debug, Drop, Error)]
 #[error("the queue is full")]
 pub struct GroupNotPut {
@@ -29,8 +31,8 @@ pub struct GroupNotPut {
 pub enum MapFault {
     /// The home has not one writer.
     Writers,
-    /// The queue is full, and what waits there was not taken for this reason; there is none if the
-    /// queue is full all the same. Nothing was put.
+    /// The queue is full, and what waits there was not taken for this reason; there is none if all
+    /// that waited was taken, and the queue is full all the same. Nothing was put.
     NotPut(Option<StoreFault>),
     /// The change was put and not taken: it waits, and the next call takes it first.
     Waits(StoreFault),

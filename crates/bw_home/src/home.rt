@@ -1,12 +1,13 @@
 //! A store with the feeds of its writers, and where its segments stand.
 
-ghost use Rattle.std.specs.Prelude.{◌≡◌, ◌<◌, ◌≤◌, Some, Err, false, true, length, map, slice_get, IfSome, IfOk, IfErr, OnOk, OnErr, MatchResult};
+ghost use Rattle.std.specs.Prelude.{◌≡◌, ◌<◌, ◌≤◌, List, Some, Err, false, true, length, map, slice_get, IfOk, IfErr, OnOk, OnErr, MatchOption, MatchResult};
 ghost use Rattle.std.specs.FinMap as finite;
 ghost use Rattle.bw_page.specs.Ahead.{IsFirst, IsStretch};
 ghost use Rattle.bw_page.specs.Leaves.{home, plain};
 ghost use Rattle.bw_ring.specs.Ends.{accepted, ring_of_feed};
 ghost use Rattle.bw_log.specs.Reads.{HoldsPage};
-ghost use Rattle.bw_care.specs.Found.{IsRecovered};
+ghost use Rattle.bw_care.specs.Found.{IsFoundIn, IsRecovered};
+ghost use Rattle.bw_device.specs.Holding.{Holding};
 ghost use Rattle.bw_history.specs.Entries.{records};
 ghost use Rattle.bw_history.specs.Lanes.{AreDry};
 ghost use Rattle.bw_history.specs.Machine.{Stops, TakesAndKeeps, TakesAndStops, TakesMany, keeps};
@@ -17,11 +18,14 @@ ghost use Rattle.bw_core.specs.Goal.{Goal, SameFeeds, Sequel};
 ghost use Rattle.bw_core.specs.Heard.{IsOfFeeds};
 ghost use Rattle.bw_core.specs.Kept.{EachCutStands};
 ghost use Rattle.bw_core.specs.Machine.{machine_of, MayBeStopped};
+ghost use Rattle.bw_core.specs.Opened.{opened, AreUnused};
 ghost use Rattle.bw_core.specs.Reading.{HasRead, ReadLeaves, leaves_now};
+ghost use Rattle.bw_core.specs.Reopened.{Begins};
+ghost use Rattle.bw_core.specs.Rounds.{IsFair};
 ghost use Rattle.bw_core.specs.Settled.{IsSettled};
 ghost use Rattle.bw_core.specs.Settling.{SettleRefuses};
 ghost use Rattle.bw_home.specs.Putting.{Added, AddedGroup};
-ghost use Rattle.bw_home.specs.Reasons.{IsWaitRefused};
+ghost use Rattle.bw_home.specs.Reasons.{AreTaken, IsWaitRefused};
 
 use crate::fault::{GroupNotPut, NotPut};
 use crate::options::Options;
@@ -74,7 +78,8 @@ fn first_of(group: Group) -> Record
 
 impl Home {
     ghost use Rattle.bw_core.specs.Looking.{Walks};
-    ghost use Rattle.bw_core.specs.Views.{away_in, is_evicted, kept_by, lanes_of, noted_of, IsSound};
+    ghost use Rattle.bw_core.specs.Views.{away_in, is_evicted, kept_beside, kept_by, lanes_of, noted_of, IsSound};
+    ghost use Rattle.bw_home.specs.Beginning.{IsBegun, IsBegunBeside};
     ghost use Rattle.bw_home.specs.Maps.{StaysMap};
     ghost use Rattle.bw_home.specs.Ready.{kept_in, IsReady, IsReadyBeside};
 
@@ -89,7 +94,9 @@ impl Home {
     ) -> Home
         requires sound { IsSound store holding }
         requires feeds { map ring_of_feed feeds.items ≡ (kept_by store holding).rings }
-        ensures { IsReady result holding }
+        ensures ready { IsReady result holding }
+        ensures store { result.store ≡ store }
+        ensures feeds { result.feeds ≡ feeds }
     {
         let stock = Stock::of(*feeds.allocator(), site, options.capacity, found);
         Home {
@@ -111,7 +118,13 @@ impl Home {
         found: Option<Found>,
     ) -> Result<Home, HomeFault>
         requires { Unit {0} }
-        ensures { IfOk result (λ home. IsReadyBeside home holding) }
+        ensures ready { IfOk result (λ home. IsReadyBeside home holding) }
+        ensures made { IfOk result (λ home. kept_beside home.store holding
+            ≡ opened (map ring_of_feed home.feeds.items) options.now.pairs_a_page
+            options.now.frame_bytes (map holding segments.items)) }
+        ensures feeds { IfOk result (λ home. AreUnused options.now.writers
+            options.now.queue_groups home.feeds.items) }
+        ensures begun { IfOk result (λ home. IsBegunBeside home holding) }
     {
         match Core::open(rt.alloc(), &options.config(), segments) {
             Ok((store, feeds)) => Ok(Home::of(store, feeds, site, options, found)),
@@ -127,16 +140,22 @@ impl Home {
         site: Site,
     ) -> Result<Home, HomeFault>
         requires { IsRecovered (λ b. holding (b.vtable, b.value)) recovered }
-        ensures { IfOk result (λ home. IsReady home holding) }
+        ensures ready { IfOk result (λ home. IsReady home holding) }
+        ensures begins { IfOk result (λ home. (held : List Holding)
+            → IsFoundIn (λ b. holding (b.vtable, b.value)) held recovered
+            → Begins held (kept_in home holding)) }
+        ensures feeds { IfOk result (λ home. AreUnused options.now.writers
+            options.now.queue_groups home.feeds.items) }
+        ensures begun { IfOk result (λ home. IsBegun home holding) }
     {
         let Options {
             writers,
             queue_groups,
             ..
         } = *options;
-        let found = Some(Found::of(&recovered));
+        let found = Found::of(&recovered);
         match Core::reopen(rt.alloc(), recovered, writers, queue_groups) {
-            Ok((store, feeds)) => Ok(Home::of(store, feeds, site, options, found)),
+            Ok((store, feeds)) => Ok(Home::of(store, feeds, site, options, Some(found))),
             Err(fault) => Err(HomeFault::from(fault.cause)),
         }
     }
@@ -167,7 +186,8 @@ impl Home {
         ensures back { IfErr result (λ not_put. not_put.record ≡ item) }
         ensures unchanged { OnErr result
             (map accepted self.new.feeds.items ≡ map accepted self.old.feeds.items) }
-        ensures refused { IfErr result (λ not_put. IfSome not_put.cause
+        ensures refused { IfErr result (λ not_put. MatchOption not_put.cause
+            (AreTaken (kept_in self.old holding) (kept_in self.new holding))
             (IsWaitRefused (kept_in self.old holding) (lanes_of self.new.store)
             (away_in self.new.store) (kept_in self.new holding))) }
         ensures follows { Follows (kept_in self.old holding) (kept_in self.new holding) }
@@ -192,7 +212,8 @@ impl Home {
         ensures back { IfErr result (λ not_put. not_put.group ≡ group) }
         ensures unchanged { OnErr result
             (map accepted self.new.feeds.items ≡ map accepted self.old.feeds.items) }
-        ensures refused { IfErr result (λ not_put. IfSome not_put.cause
+        ensures refused { IfErr result (λ not_put. MatchOption not_put.cause
+            (AreTaken (kept_in self.old holding) (kept_in self.new holding))
             (IsWaitRefused (kept_in self.old holding) (lanes_of self.new.store)
             (away_in self.new.store) (kept_in self.new holding))) }
         ensures follows { Follows (kept_in self.old holding) (kept_in self.new holding) }
@@ -254,6 +275,8 @@ impl Home {
             (away_in self.new.store) fault.cause (kept_in self.new holding)) }
         ensures tried { IfErr result (λ fault.
             groups_since (kept_in self.old holding) (kept_in self.new holding) < limit) }
+        ensures fair { IsFair (lanes_of self.old.store) (kept_in self.old holding)
+            (kept_in self.new holding) }
         ensures steps { MatchResult result
             (λ _. TakesMany (groups_since (kept_in self.old holding) (kept_in self.new holding))
             (machine_of (kept_in self.old holding)) (machine_of (kept_in self.new holding)))

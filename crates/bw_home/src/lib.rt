@@ -6,10 +6,11 @@
 //! from the store there or begins a new one, and runs the course. `with_store_in_memory` and
 //! `with_segments` do the same over segments in memory. A `Course` is handed a `Home`: the store,
 //! its feeds, and where its segments stand. The store is sound and the rings are those of the feeds
-//! (`specs/Ready.antt`), and the course has to leave them so: each call of `Home` does. With one
-//! writer a home is a map: `set`, `delete`, `get`, `next_at`, `scan`, and `keep`, which makes it
-//! durable (`specs/Maps.antt`). A stop leaves one of its *cuts*: the map that is kept, or one that
-//! a later group made, and a store that begins over its segments has that map (`specs/Cuts.antt`,
+//! (`specs/Ready.antt`), and the course has to leave them so: each call of `Home` does. The home is
+//! *begun*: nothing was put, and nothing was taken yet (`specs/Beginning.antt`). With one writer a
+//! home is a map: `set`, `delete`, `get`, `next_at`, `scan`, and `keep`, which makes it durable
+//! (`specs/Maps.antt`). A stop leaves one of its *cuts*: the map that is kept, or one that a later
+//! group made, and a store that begins over its segments has that map (`specs/Cuts.antt`,
 //! `specs/Laws.antt`).
 #![tactic(auto)]
 
@@ -31,7 +32,10 @@ pub use bw_site::{Added, Found, HomeFault, System};
 pub use course::{Course, Legs};
 pub use fault::{GroupNotPut, MapFault, NotPut};
 pub use home::Home;
-pub use laws::{a_map_goes_on, a_stop_leaves_a_cut};
+pub use laws::{
+    a_begun_home_begins, a_begun_home_is_a_map, a_begun_home_is_found, a_begun_home_keeps_its_map,
+    a_map_goes_on, a_stop_leaves_a_cut,
+};
 pub use opened::{with_store, with_store_at, with_store_in_legs, with_store_in_memory};
 pub use options::Options;
 pub use segments::with_segments;

@@ -1,6 +1,6 @@
 //! A home with one writer as a map: what is set is seen at once, and kept by `keep`.
 
-ghost use Rattle.std.specs.Prelude.{◌≡◌, ◌↔◌, ◌<◌, length, map, IfErr, IfOk, IfSome, IsErrOf, MatchResult, OnErr, OnOk};
+ghost use Rattle.std.specs.Prelude.{◌≡◌, ◌↔◌, ◌<◌, length, map, IfErr, IfOk, IsErrOf, MatchOption, MatchResult, OnErr, OnOk};
 ghost use Rattle.std.specs.FinMap as finite;
 ghost use Rattle.std.specs.List.{fold, AllByRecursion};
 ghost use Rattle.bw_leaf.specs.Changed.{changed_map};
@@ -14,7 +14,7 @@ ghost use Rattle.bw_core.specs.Machine.{machine_of};
 ghost use Rattle.bw_home.specs.Cuts.{ChangedCuts};
 ghost use Rattle.bw_home.specs.Maps.{Has, Keeps, Refuses};
 ghost use Rattle.bw_home.specs.Putting.{AddedGroup};
-ghost use Rattle.bw_home.specs.Reasons.{IsReason, IsWaitRefused};
+ghost use Rattle.bw_home.specs.Reasons.{IsReason, IsStillFull, IsWaitRefused};
 
 use crate::fault::MapFault;
 use crate::home::Home;
@@ -77,8 +77,8 @@ impl Home {
             (maps_of self.new holding).cuts }
         ensures writers { IsErrOf result MapFault.Writers
             ↔ (length self.old.feeds.items ≡ 1 → ⊥) }
-        ensures reason { IfErr result (λ fault. IsReason fault (kept_in self.old holding)
-            (lanes_of self.new.store) (away_in self.new.store) (kept_in self.new holding)) }
+        ensures reason { IfErr result (λ fault. IsReason fault self.new.feeds.items
+            (kept_in self.old holding) (lanes_of self.new.store) (away_in self.new.store) (kept_in self.new holding)) }
         ensures follows { Follows (kept_in self.old holding) (kept_in self.new holding) }
     {
         self.change(Group::one(Record::Put(key, value)))
@@ -99,8 +99,8 @@ impl Home {
             (maps_of self.new holding).cuts }
         ensures writers { IsErrOf result MapFault.Writers
             ↔ (length self.old.feeds.items ≡ 1 → ⊥) }
-        ensures reason { IfErr result (λ fault. IsReason fault (kept_in self.old holding)
-            (lanes_of self.new.store) (away_in self.new.store) (kept_in self.new holding)) }
+        ensures reason { IfErr result (λ fault. IsReason fault self.new.feeds.items
+            (kept_in self.old holding) (lanes_of self.new.store) (away_in self.new.store) (kept_in self.new holding)) }
         ensures follows { Follows (kept_in self.old holding) (kept_in self.new holding) }
     {
         self.change(Group::one(Record::Del(key)))
@@ -123,8 +123,8 @@ impl Home {
             (maps_of self.new holding).cuts }
         ensures writers { IsErrOf result MapFault.Writers
             ↔ (length self.old.feeds.items ≡ 1 → ⊥) }
-        ensures reason { IfErr result (λ fault. IsReason fault (kept_in self.old holding)
-            (lanes_of self.new.store) (away_in self.new.store) (kept_in self.new holding)) }
+        ensures reason { IfErr result (λ fault. IsReason fault self.new.feeds.items
+            (kept_in self.old holding) (lanes_of self.new.store) (away_in self.new.store) (kept_in self.new holding)) }
         ensures follows { Follows (kept_in self.old holding) (kept_in self.new holding) }
     {
         let _ = group.as_slice(); // For the proof.
@@ -152,7 +152,9 @@ impl Home {
             (map accepted self.new.feeds.items ≡ map accepted self.old.feeds.items) }
         ensures heard { OnErr result
             (IsOfFeeds self.new.feeds.items (kept_in self.new holding).entries) }
-        ensures refused { IfErr result (λ cause. IfSome cause
+        ensures refused { IfErr result (λ cause. MatchOption cause
+            (IsStillFull self.new.feeds.items (kept_in self.old holding)
+            (kept_in self.new holding))
             (IsWaitRefused (kept_in self.old holding) (lanes_of self.new.store)
             (away_in self.new.store) (kept_in self.new holding))) }
         ensures follows { Follows (kept_in self.old holding) (kept_in self.new holding) }
@@ -184,8 +186,8 @@ impl Home {
         ensures stays { StaysMap self.old self.new holding }
         ensures writers { IsErrOf result MapFault.Writers
             ↔ (length self.old.feeds.items ≡ 1 → ⊥) }
-        ensures reason { IfErr result (λ fault. IsReason fault (kept_in self.old holding)
-            (lanes_of self.new.store) (away_in self.new.store) (kept_in self.new holding)) }
+        ensures reason { IfErr result (λ fault. IsReason fault self.new.feeds.items
+            (kept_in self.old holding) (lanes_of self.new.store) (away_in self.new.store) (kept_in self.new holding)) }
         ensures follows { Follows (kept_in self.old holding) (kept_in self.new holding) }
     {
         if self.feeds.len() != 1 {

@@ -1,5 +1,8 @@
 //! What a store is opened with.
 
+ghost use Rattle.std.specs.Prelude.{◌≡◌};
+ghost use Rattle.bw_home.specs.Beginning.{config_of};
+
 use bw_codec::limits::{MAX_PAIRS, MIN_FRAME};
 use bw_core::Config;
 use bw_device::MAX_CAPACITY;
@@ -57,7 +60,9 @@ impl Options {
     }
 
     /// What a new store is opened with.
-    pub(crate) fn config(&self) -> Config {
+    pub(crate) fn config(&self) -> Config
+        ensures { result ≡ config_of self.now }
+    {
         Config {
             writers: self.writers,
             places: self.queue_groups,

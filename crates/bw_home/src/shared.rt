@@ -1,11 +1,17 @@
 //! A store with readers: it is opened as one without, and shows what is durable to other threads.
 
-ghost use Rattle.std.specs.Prelude.{◌≡◌, map, IfErr, IfOk, IfSome, IsNone, MatchOption};
+ghost use Rattle.std.specs.Prelude.{◌≡◌, false, true, map, List, IfErr, IfOk, IfSome, IsNone, MatchOption};
+ghost use Rattle.bw_device.specs.Holding.{Holding};
 ghost use Rattle.bw_ring.specs.Ends.{ring_of_feed};
-ghost use Rattle.bw_care.specs.Found.{IsRecovered};
+ghost use Rattle.bw_care.specs.Found.{IsFoundIn, IsRecovered};
+ghost use Rattle.bw_core.specs.Opened.{AreUnused};
+ghost use Rattle.bw_core.specs.Reopened.{Begins};
 ghost use Rattle.bw_store.specs.Following.{Continues};
-ghost use Rattle.bw_store.specs.Kept.{EachCutStands};
+ghost use Rattle.bw_store.specs.Kept.{EachCutStands, core_of};
+ghost use Rattle.bw_store.specs.Opened.{opened};
+ghost use Rattle.bw_store.specs.Views.{kept_beside};
 ghost use Rattle.bw_site.specs.Faults.{IsOfSite};
+ghost use Rattle.bw_home.specs.Beginning.{IsSharedBegun, IsSharedBegunBeside};
 ghost use Rattle.bw_home.specs.Renewing.{SharedCleans};
 ghost use Rattle.bw_home.specs.Sharing.{IsShared, IsSharedBeside};
 
@@ -37,13 +43,18 @@ pub trait SharedLegs<R>: Drop {
     // What it says of its answer: nothing by default. A leg adds nothing to that.
     ghost says: { Self → Self.Answer → Type 0 } = { λ _ _. Unit {0} };
 
+    // Whether the next leg has to be the first one, as in `Legs`.
+    ghost begins: { Self → Type 0 } = { λ _. ⊥ };
+
     /// Goes on, up to the answer; `None` asks for another leg.
     fn leg(&mut self, rt: &R, home: &mut SharedHome) -> Option<Self::Answer>
-        requires { IsShared home.old holding }
+        requires ready { IsShared home.old holding }
+        requires begun { begins self.old → IsSharedBegun home.old holding }
         ensures ready { IsShared home.new holding }
         ensures answer { MatchOption result
             ((answer : Self.Answer) → says self.new answer → says self.old answer)
-            (λ answer. says self.old answer) };
+            (λ answer. says self.old answer) }
+        ensures begun { IsNone result → begins self.new → ⊥ };
 }
 
 impl SharedHome {
@@ -61,7 +72,9 @@ impl SharedHome {
     ) -> SharedHome
         requires sound { IsSound store holding }
         requires feeds { map ring_of_feed feeds.items ≡ (kept_by store holding).rings }
-        ensures { IsShared result holding }
+        ensures ready { IsShared result holding }
+        ensures store { result.store ≡ store }
+        ensures feeds { result.feeds ≡ feeds }
     {
         let stock = Stock::of(*feeds.allocator(), site, options.capacity, found);
         SharedHome {
@@ -81,7 +94,14 @@ impl SharedHome {
         found: Option<Found>,
     ) -> Result<SharedHome, HomeFault>
         requires { Unit {0} }
-        ensures { IfOk result (λ home. IsSharedBeside home holding) }
+        ensures ready { IfOk result (λ home. IsSharedBeside home holding) }
+        ensures made { IfOk result (λ home. kept_beside home.store holding
+            ≡ opened (map ring_of_feed home.feeds.items) options.now.pairs_a_page
+            options.now.frame_bytes (map holding segments.items)
+            (kept_beside home.store holding).versions) }
+        ensures feeds { IfOk result (λ home. AreUnused options.now.writers
+            options.now.queue_groups home.feeds.items) }
+        ensures begun { IfOk result (λ home. IsSharedBegunBeside home holding) }
     {
         let config = Config {
             writers: options.writers,
@@ -104,16 +124,22 @@ impl SharedHome {
         site: Site,
     ) -> Result<SharedHome, HomeFault>
         requires { IsRecovered (λ b. holding (b.vtable, b.value)) recovered }
-        ensures { IfOk result (λ home. IsShared home holding) }
+        ensures ready { IfOk result (λ home. IsShared home holding) }
+        ensures begins { IfOk result (λ home. (held : List Holding)
+            → IsFoundIn (λ b. holding (b.vtable, b.value)) held recovered
+            → Begins held (core_of (shared_in home holding))) }
+        ensures feeds { IfOk result (λ home. AreUnused options.now.writers
+            options.now.queue_groups home.feeds.items) }
+        ensures begun { IfOk result (λ home. IsSharedBegun home holding) }
     {
         let Options {
             writers,
             queue_groups,
             ..
         } = *options;
-        let found = Some(Found::of(&recovered));
+        let found = Found::of(&recovered);
         match Store::reopen(rt, rt.alloc(), recovered, writers, queue_groups, readers) {
-            Ok((store, feeds)) => Ok(SharedHome::of(store, feeds, site, options, found)),
+            Ok((store, feeds)) => Ok(SharedHome::of(store, feeds, site, options, Some(found))),
             Err(fault) => Err(HomeFault::from(fault.cause)),
         }
     }
@@ -208,14 +234,17 @@ impl SharedHome {
 
     fn next_made(&mut self) -> Option<Made>
         requires { IsShared self.old holding }
-        ensures { IsShared self.new holding }
+        ensures ready { IsShared self.new holding }
+        ensures begun { IsSharedBegun self.old holding → IsSharedBegun self.new holding }
     {
         self.stock.next_made()
     }
 
     fn add(&mut self, spare: Box<dyn Segment>)
         requires { IsSharedBeside self.old holding }
-        ensures { IsSharedBeside self.new holding }
+        ensures ready { IsSharedBeside self.new holding }
+        ensures begun { IsSharedBegunBeside self.old holding
+            → IsSharedBegunBeside self.new holding }
     {
         let _ = self.store.add_segment(spare);
     }
@@ -245,7 +274,16 @@ fn begin<R: System>(
     found: Option<Found>,
 ) -> Result<SharedHome, NotHeld>
     requires { Unit {0} }
-    ensures { IfOk result (λ home. IsSharedBeside home holding) }
+    ensures ready { IfOk result (λ home. IsSharedBeside home holding) }
+    ensures made { are_new ≡ true → IfOk result (λ home. kept_beside home.store holding
+        ≡ opened (map ring_of_feed home.feeds.items) options.now.pairs_a_page
+        options.now.frame_bytes (map holding boxes.items)
+        (kept_beside home.store holding).versions) }
+    ensures begins { are_new ≡ false → IfOk result (λ home.
+        Begins (map holding boxes.items) (core_of (kept_beside home.store holding))) }
+    ensures feeds { IfOk result (λ home. AreUnused options.now.writers
+        options.now.queue_groups home.feeds.items) }
+    ensures begun { IfOk result (λ home. IsSharedBegunBeside home holding) }
 {
     if are_new {
         site.settle(rt)?;

@@ -2,8 +2,8 @@
 //! beginning of a first frame only. Then no store was ever there, and nothing is lost if it is
 //! cleared.
 
-ghost use Rattle.std.specs.Prelude.{◌≡◌, true, IfOk, OnOk, OnErr};
-ghost use Rattle.bw_care.specs.Found.{IsRecovered};
+ghost use Rattle.std.specs.Prelude.{◌≡◌, true, map, IfOk, OnOk, OnErr};
+ghost use Rattle.bw_care.specs.Found.{IsFoundIn, IsRecovered};
 
 use crate::fault::HomeFault;
 use crate::found::Found;
@@ -72,6 +72,7 @@ pub fn held_in<R: System>(
 ) -> Result<Recovered, NotHeld>
     requires { Unit {0} }
     ensures recovered { IfOk result (λ found. IsRecovered holding found) }
+    ensures found { IfOk result (λ found. IsFoundIn holding (map holding boxes.items) found) }
     ensures settled { OnOk result (site.new.is_settled ≡ true) }
     ensures unsettled { OnErr result (site.new.is_settled ≡ site.old.is_settled) }
 {

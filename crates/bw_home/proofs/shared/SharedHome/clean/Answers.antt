@@ -20,7 +20,7 @@ returns-in_err-cleaned-clause-cleans g c =
     rw (p.1, p.2) (inr (inl (
       _,
       refl,
-      record { leaves = its.leaves; floor = its.floor; boxes = its.boxes; gone = its.gone; counts = its.counts },
+      record { leaves = its.leaves; floor = its.floor; boxes = its.boxes; gone = its.gone; counts = its.counts; before = its.before },
     )))
 
 pub returns-in_err-renew-2-clause-cleans : goal.returns-in_err-renew-2-clause-cleans
@@ -29,5 +29,5 @@ returns-in_err-renew-2-clause-cleans g c =
     let its = c.in_ok-cleaned.ensures in
     rw (p.1, p.2) (inr (inr (
       c.in_err-renew-2.ensures.refused,
-      (_, record { leaves = its.leaves; floor = its.floor; boxes = its.boxes; gone = its.gone; counts = its.counts }),
+      (_, record { leaves = its.leaves; floor = its.floor; boxes = its.boxes; gone = its.gone; counts = its.counts; before = its.before }),
     )))
