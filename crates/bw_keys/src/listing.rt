@@ -1,6 +1,9 @@
 //! Pairs that are written, in the order of their keys or against it.
 
+ghost use Rattle.std.specs.Prelude.{OnOk, [], ◌∷◌, ◌++◌};
+ghost use Rattle.std.specs.Io.KnownBytes.{Appends};
 ghost use Rattle.bw_care.specs.Found.{IsRecovered};
+ghost use Rattle.bw_keys.specs.Styles.{in_csv, in_json, styled};
 
 use crate::fault::KeysFault;
 use crate::reading::count_of;
@@ -41,7 +44,10 @@ pub enum Parts {
 
 impl Parts {
     /// Writes an object of JSON.
-    fn write_json<O: Write>(self, output: &mut O, key: &[u8], value: &[u8]) -> io::Result<()> {
+    fn write_json<O: Write>(self, output: &mut O, key: &[u8], value: &[u8]) -> io::Result<()>
+        ensures { OnOk result (Appends (O.contents output.old) (O.contents output.new)
+            (in_json self key.now value.now ++ 10 ∷ [])) }
+    {
         match self {
             Parts::Both => write_json(output, Some(key), Some(value)),
             Parts::Keys => write_json(output, Some(key), None),
@@ -50,7 +56,10 @@ impl Parts {
     }
 
     /// Writes a line of CSV.
-    fn write_csv<O: Write>(self, output: &mut O, key: &[u8], value: &[u8]) -> io::Result<()> {
+    fn write_csv<O: Write>(self, output: &mut O, key: &[u8], value: &[u8]) -> io::Result<()>
+        ensures { OnOk result (Appends (O.contents output.old) (O.contents output.new)
+            (in_csv self key.now value.now ++ 10 ∷ [])) }
+    {
         match self {
             Parts::Both => write_csv(output, key, value),
             Parts::Keys => write_csv_field(output, key),
@@ -61,7 +70,10 @@ impl Parts {
 
 impl Style {
     /// Writes a key and its value.
-    pub fn write<O: Write>(self, output: &mut O, key: &[u8], value: &[u8]) -> io::Result<()> {
+    pub fn write<O: Write>(self, output: &mut O, key: &[u8], value: &[u8]) -> io::Result<()>
+        ensures { OnOk result (Appends (O.contents output.old) (O.contents output.new)
+            (styled self key.now value.now)) }
+    {
         match self {
             Style::Tabs(spelling) => write_pair(output, spelling, key, value),
             Style::Keys(spelling) => write_line(output, spelling, key),

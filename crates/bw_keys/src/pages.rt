@@ -1,5 +1,8 @@
 //! The pages of a folder that is only looked at, as recovery finds them.
 
+ghost use Rattle.std.specs.Prelude.{◌≡◌};
+ghost use Rattle.bw_keys.specs.Asked.{count_in};
+
 use crate::fault::KeysFault;
 use crate::span::Span;
 use bw_beside::{Ask, Asked};
@@ -181,7 +184,9 @@ pub(crate) fn pages_over(
 }
 
 /// How many keys of a page are wanted.
-pub(crate) fn count_in(leaf: &Leaf, span: &Span) -> u64 {
+pub fn count_in(leaf: &Leaf, span: &Span) -> u64
+    ensures { result ≡ count_in span.now leaf.now }
+{
     let pairs = leaf.pairs.as_slice();
     pairs.iter().filter(|pair| span.has(pair.key())).count() as u64
 }

@@ -3,7 +3,9 @@
 //! Which pages have the keys that are meant is known without a look at any. Of these each is read
 //! when its turn comes, and none stays, so memory holds one page beside the bytes of the folder.
 
+ghost use Rattle.std.specs.Prelude.{◌≡◌, IfOk};
 ghost use Rattle.bw_care.specs.Found.{IsRecovered};
+ghost use Rattle.bw_keys.specs.Asked.{count_at, counted, values};
 
 use crate::fault::KeysFault;
 use crate::listing::Listing;
@@ -39,8 +41,9 @@ pub(crate) struct ValuesOf<'a> {
 }
 
 /// The values of these keys, in their order.
-fn values_of(pages: Recovered, keys: &VecDeque<Key>) -> Result<Vec<Option<Value>>, KeysFault>
+pub fn values_of(pages: Recovered, keys: &VecDeque<Key>) -> Result<Vec<Option<Value>>, KeysFault>
     requires { IsRecovered (λ b. holding (b.vtable, b.value)) pages }
+    ensures { IfOk result (λ found. found.items ≡ values pages.leaves.leaves keys.now.items) }
 {
     let mut pages = pages;
     let mut values = Vec::new(*keys.allocator());
@@ -65,23 +68,33 @@ pub(crate) struct CountOf<'a> {
     pub(crate) span: &'a Span,
 }
 
-/// How many keys of a stretch these pages have. No page is read if each key is wanted.
-pub(crate) fn count_of(
-    pages: &mut Recovered,
-    numbers: &[u32],
-    span: &Span,
-) -> Result<u64, RecoverCause>
+/// How many keys of a stretch the page of a number has, if it is there.
+fn count_at(pages: &mut Recovered, number: u32, span: &Span) -> Result<u64, RecoverCause>
     requires { IsRecovered (λ b. holding (b.vtable, b.value)) pages.old }
-    ensures { IsRecovered (λ b. holding (b.vtable, b.value)) pages.new }
+    ensures recovered { IsRecovered (λ b. holding (b.vtable, b.value)) pages.new }
+    ensures same { pages.new.leaves.leaves ≡ pages.old.leaves.leaves }
+    ensures count { IfOk result (λ count.
+        count ≡ count_at span.now pages.old.leaves.leaves number) }
+{
+    match pages.page(number)? {
+        Some(leaf) => Ok(count_in(&leaf, span)),
+        None => Ok(0),
+    }
+}
+
+/// How many keys of a stretch these pages have. No page is read if each key is wanted.
+pub fn count_of(pages: &mut Recovered, numbers: &[u32], span: &Span) -> Result<u64, RecoverCause>
+    requires { IsRecovered (λ b. holding (b.vtable, b.value)) pages.old }
+    ensures recovered { IsRecovered (λ b. holding (b.vtable, b.value)) pages.new }
+    ensures count { IfOk result (λ count.
+        count ≡ counted span.now pages.old.leaves.leaves numbers.now) }
 {
     if span.has_all() {
         return Ok(pages.pairs);
     }
     let mut count = 0u64;
     'pages: for number in numbers {
-        if let Some(leaf) = pages.page(*number)? {
-            count = count.saturating_add(count_in(&leaf, span));
-        }
+        count = count.saturating_add(count_at(pages, *number, span)?);
     }
     Ok(count)
 }

@@ -1,5 +1,9 @@
 //! Which keys are wanted.
 
+ghost use Rattle.std.specs.Prelude.{◌≡◌, ◌≤◌, ℕ, List, [], ◌∷◌, true, false, length};
+ghost use Rattle.bw_record.specs.Keys.{is_below};
+ghost use Rattle.bw_keys.specs.Spans.{is_wanted, has_begun, is_over, has_all};
+
 use arrayvec::ArrayVec;
 use bw_codec::limits::MAX_KEY;
 use bw_codec::{Key, is_before};
@@ -36,7 +40,9 @@ pub fn above(key: &[u8]) -> Option<Key> {
 }
 
 /// The least of all keys.
-fn least() -> Key {
+fn least() -> Key
+    ensures { result ≡ 0 ∷ [] }
+{
     match Key::new(&[0]) {
         Ok(key) => key,
         Err(_) => unreachable!(),
@@ -45,7 +51,11 @@ fn least() -> Key {
 
 impl Span {
     /// The least key that may be wanted.
-    pub fn start_key(&self) -> Key {
+    #[tactic(auto, using(crate::proofs::Wanted::from_kept, crate::proofs::Wanted::prefix_kept, crate::proofs::Wanted::least_kept,))]
+    pub fn start_key(&self) -> Key
+        ensures { (key : List ℕ) → 1 ≤ length key → is_wanted self.now key ≡ true
+            → is_below key result ≡ false }
+    {
         match (&self.from, &self.prefix) {
             (Some(from), Some(prefix)) if is_before(prefix.as_slice(), from.as_slice()) => {
                 from.copy()
@@ -57,7 +67,9 @@ impl Span {
     }
 
     /// Whether neither this key nor any above it is wanted.
-    pub fn is_over(&self, key: &[u8]) -> bool {
+    pub fn is_over(&self, key: &[u8]) -> bool
+        ensures { result ≡ is_over self.now key.now }
+    {
         let is_above = match &self.to {
             Some(to) => !is_before(key, to.as_slice()),
             None => false,
@@ -72,7 +84,9 @@ impl Span {
     }
 
     /// Whether a key that is not over is wanted.
-    pub fn has_begun(&self, key: &[u8]) -> bool {
+    pub fn has_begun(&self, key: &[u8]) -> bool
+        ensures { result ≡ has_begun self.now key.now }
+    {
         let is_from = match &self.from {
             Some(from) => !is_before(key, from.as_slice()),
             None => true,
@@ -85,12 +99,16 @@ impl Span {
     }
 
     /// Whether each key is wanted.
-    pub fn has_all(&self) -> bool {
+    pub fn has_all(&self) -> bool
+        ensures { result ≡ has_all self.now }
+    {
         self.from.is_none() && self.to.is_none() && self.prefix.is_none()
     }
 
     /// Whether a key is wanted.
-    pub fn has(&self, key: &[u8]) -> bool {
+    pub fn has(&self, key: &[u8]) -> bool
+        ensures { result ≡ is_wanted self.now key.now }
+    {
         self.has_begun(key) && !self.is_over(key)
     }
 }

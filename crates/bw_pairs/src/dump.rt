@@ -2,6 +2,12 @@
 //! `HEADER=END`, then a line for each key and one for its value, each after a space, up to
 //! `DATA=END`.
 
+ghost use Rattle.std.specs.Prelude.{◌≡◌, ◌≤◌, ◌<◌, ◌+◌, ◌*◌, ◌%◌, [], ◌∷◌, ◌++◌, List, ℕ, length, OnOk, OnErr, IfOk, IfSome, flat_map};
+ghost use Rattle.std.specs.Io.KnownBytes.{Appends, prepend_known};
+ghost use Rattle.std.specs.Result.{result_ok};
+ghost use Rattle.hex.specs.Hex.{decode_of, hex_digit_value};
+ghost use Rattle.bw_pairs.specs.Dumps.{escape, dump_line, unescaped, behind_space, dump_meant, dump_key, dump_value};
+
 use crate::buffer::Buffer;
 use crate::fault::LineFault;
 use crate::spelling::{decoded, key_from, value_from, write_hex};
@@ -62,22 +68,34 @@ pub fn write_end<O: Write>(output: &mut O) -> io::Result<()> {
     output.write_all(b"DATA=END\n")
 }
 
+/// Writes a byte, with its escape if it has one.
+fn write_letter<O: Write>(output: &mut O, byte: u8) -> io::Result<()>
+    ensures { OnOk result (Appends (O.contents output.old) (O.contents output.new) (escape byte)) }
+{
+    let one = [byte];
+    if matches!(byte, 0x20..=0x7e) && byte != b'\\' {
+        return output.write_all(&one);
+    }
+    output.write_all(b"\\")?;
+    write_hex(output, &one)
+}
+
 /// Writes bytes with escapes.
-fn write_escaped<O: Write>(output: &mut O, bytes: &[u8]) -> io::Result<()> {
+fn write_escaped<O: Write>(output: &mut O, bytes: &[u8]) -> io::Result<()>
+    ensures { OnOk result (Appends (O.contents output.old) (O.contents output.new)
+        (flat_map escape bytes.now)) }
+{
     for byte in bytes {
-        let one = [*byte];
-        if matches!(*byte, 0x20..=0x7e) && *byte != b'\\' {
-            output.write_all(&one)?;
-        } else {
-            output.write_all(b"\\")?;
-            write_hex(output, &one)?;
-        }
+        write_letter(output, *byte)?;
     }
     Ok(())
 }
 
 /// Writes the line of a key or a value.
-fn write_bytes<O: Write>(output: &mut O, letters: Letters, bytes: &[u8]) -> io::Result<()> {
+fn write_bytes<O: Write>(output: &mut O, letters: Letters, bytes: &[u8]) -> io::Result<()>
+    ensures { OnOk result (Appends (O.contents output.old) (O.contents output.new)
+        (dump_line letters bytes.now ++ 10 ∷ [])) }
+{
     output.write_all(b" ")?;
     match letters {
         Letters::Hex => write_hex(output, bytes)?,
@@ -92,7 +110,10 @@ pub fn write_dumped<O: Write>(
     letters: Letters,
     key: &[u8],
     value: &[u8],
-) -> io::Result<()> {
+) -> io::Result<()>
+    ensures { OnOk result (Appends (O.contents output.old) (O.contents output.new)
+        (dump_line letters key.now ++ 10 ∷ dump_line letters value.now ++ 10 ∷ [])) }
+{
     write_bytes(output, letters, key)?;
     write_bytes(output, letters, value)
 }
@@ -119,7 +140,10 @@ struct Unescaping<B> {
 }
 
 /// The value of a hex digit.
-fn digit_of(letter: u8) -> Result<u8, LineFault> {
+fn digit_of(letter: u8) -> Result<u8, LineFault>
+    ensures value { result_ok result ≡ hex_digit_value letter }
+    ensures digit { IfOk result (λ digit. digit < 16) }
+{
     match letter {
         b'0'..=b'9' => Ok(letter - b'0'),
         b'a'..=b'f' => Ok(letter - b'a' + 10),
@@ -128,9 +152,22 @@ fn digit_of(letter: u8) -> Result<u8, LineFault> {
     }
 }
 
+/// The byte of two digits; of the first no more counts than a digit has.
+fn byte_of(first: u8, second: u8) -> u8
+    requires { second < 16 }
+    ensures { result ≡ first % 16 * 16 + second }
+{
+    (first & 0x0f) << 4 | second
+}
+
 impl<B: Buffer> Unescaping<B> {
     /// A byte of the line was read to its end.
-    fn push(&mut self, byte: u8) -> Result<(), LineFault> {
+    fn push(&mut self, byte: u8) -> Result<(), LineFault>
+        ensures escape { self.new.escape ≡ Escape.Outside }
+        ensures added { OnOk result (B.held self.new.bytes ≡ B.held self.old.bytes ++ byte ∷ []) }
+        ensures full { OnErr result (B.room self.old.bytes ≤ length (B.held self.old.bytes)) }
+        ensures room { B.room self.old.bytes ≤ B.room self.new.bytes }
+    {
         self.escape = Escape::Outside;
         match self.bytes.add(byte) {
             Ok(()) => Ok(()),
@@ -139,7 +176,16 @@ impl<B: Buffer> Unescaping<B> {
     }
 
     /// Reads a letter.
-    fn take(&mut self, letter: u8) -> Result<(), LineFault> {
+    fn take(&mut self, letter: u8) -> Result<(), LineFault>
+        ensures ok { OnOk result ((rest : List ℕ) →
+            prepend_known (B.held self.new.bytes) (unescaped self.new.escape rest)
+            ≡ prepend_known (B.held self.old.bytes) (unescaped self.old.escape (letter ∷ rest))) }
+        ensures err { OnErr result ((rest : List ℕ) →
+            IfSome (prepend_known (B.held self.old.bytes)
+            (unescaped self.old.escape (letter ∷ rest)))
+            (λ all. B.room self.old.bytes < length all)) }
+        ensures room { B.room self.old.bytes ≤ B.room self.new.bytes }
+    {
         match self.escape {
             Escape::Outside if letter == b'\\' => {
                 self.escape = Escape::Begun;
@@ -151,14 +197,20 @@ impl<B: Buffer> Unescaping<B> {
                 self.escape = Escape::Half(digit_of(letter)?);
                 Ok(())
             }
-            Escape::Half(first) => self.push((first & 0x0f) << 4 | digit_of(letter)?),
+            Escape::Half(first) => self.push(byte_of(first, digit_of(letter)?)),
         }
     }
 }
 
 /// The bytes of a line with escapes, in a buffer that had none; `too_long` if it has not room for
 /// so many.
-pub fn unescaped<B: Buffer>(line: &[u8], bytes: B, too_long: LineFault) -> Result<B, LineFault> {
+pub fn unescaped<B: Buffer>(line: &[u8], bytes: B, too_long: LineFault) -> Result<B, LineFault>
+    ensures ok { IfOk result (λ read.
+        prepend_known (B.held bytes) (unescaped Escape.Outside line.now) ≡ Some (B.held read)) }
+    ensures err { OnErr result (IfSome
+        (prepend_known (B.held bytes) (unescaped Escape.Outside line.now))
+        (λ all. B.room bytes < length all)) }
+{
     let mut read = Unescaping {
         bytes,
         escape: Escape::Outside,
@@ -174,7 +226,10 @@ pub fn unescaped<B: Buffer>(line: &[u8], bytes: B, too_long: LineFault) -> Resul
 }
 
 /// What stands after the space of a line of data.
-pub fn behind_space(line: &[u8]) -> Result<&[u8], LineFault> {
+pub fn behind_space(line: &[u8]) -> Result<&[u8], LineFault>
+    ensures ok { IfOk result (λ text. behind_space line.now ≡ Some text.now) }
+    ensures err { OnErr result (behind_space line.now ≡ None) }
+{
     match line.strip_prefix(b" ") {
         Some(text) => Ok(text),
         None => Err(LineFault::NoSpace),
@@ -182,7 +237,11 @@ pub fn behind_space(line: &[u8]) -> Result<&[u8], LineFault> {
 }
 
 /// The bytes of hex digits; `too_long` if a value has not so many.
-fn undigited(digits: &[u8], too_long: LineFault) -> Result<ArrayVec<u8, MAX_VALUE>, LineFault> {
+fn undigited(digits: &[u8], too_long: LineFault) -> Result<ArrayVec<u8, MAX_VALUE>, LineFault>
+    ensures ok { IfOk result (λ bytes. result_ok (decode_of digits.now) ≡ Some bytes.items) }
+    ensures err { OnErr result (IfSome (result_ok (decode_of digits.now))
+        (λ bytes. 512 < length bytes)) }
+{
     let mut room = [0u8; MAX_VALUE];
     let mut bytes = ArrayVec::new();
     match bytes.try_extend_from_slice(decoded(digits, &mut room, too_long)?) {
@@ -196,7 +255,11 @@ fn bytes_in(
     letters: Letters,
     line: &[u8],
     too_long: LineFault,
-) -> Result<ArrayVec<u8, MAX_VALUE>, LineFault> {
+) -> Result<ArrayVec<u8, MAX_VALUE>, LineFault>
+    ensures ok { IfOk result (λ bytes. dump_meant letters line.now ≡ Some bytes.items) }
+    ensures err { OnErr result (IfSome (dump_meant letters line.now)
+        (λ bytes. 512 < length bytes)) }
+{
     let text = behind_space(line)?;
     match letters {
         Letters::Hex => undigited(text, too_long),
@@ -205,12 +268,16 @@ fn bytes_in(
 }
 
 /// The key of a line.
-pub fn key_in(letters: Letters, line: &[u8]) -> Result<Key, LineFault> {
+pub fn key_in(letters: Letters, line: &[u8]) -> Result<Key, LineFault>
+    ensures { result_ok result ≡ dump_key letters line.now }
+{
     key_from(bytes_in(letters, line, LineFault::BadKey)?.as_slice())
 }
 
 /// The value of a line.
-pub fn value_in(letters: Letters, line: &[u8]) -> Result<Value, LineFault> {
+pub fn value_in(letters: Letters, line: &[u8]) -> Result<Value, LineFault>
+    ensures { result_ok result ≡ dump_value letters line.now }
+{
     value_from(bytes_in(letters, line, LineFault::BadValue)?.as_slice())
 }
 

@@ -1,9 +1,16 @@
 //! A pair as a line of JSON: an object of its key and its value, as texts, or in base64 if they are
 //! no UTF-8.
 
+ghost use Rattle.std.specs.Prelude.{◌≡◌, ◌≤◌, [], ◌∷◌, ◌++◌, length, OnOk, flat_map, option_copied};
+ghost use Rattle.std.specs.Io.KnownBytes.{Appends};
+ghost use Rattle.std.specs.Str.{is_utf8};
+ghost use Rattle.base64.specs.GeneralPurpose.{encode_of};
+ghost use Rattle.base64.specs.Engines.{standard};
+ghost use Rattle.bw_pairs.specs.Json.{letter, text, based, name_of, member, members, object};
+
 use crate::buffer::Buffer;
 use crate::fault::LineFault;
-use crate::spelling::{key_from, value_from};
+use crate::spelling::{key_from, value_from, write_hex};
 use arrayvec::ArrayVec;
 use base64::engine::general_purpose::STANDARD;
 use bw_codec::limits::MAX_VALUE;
@@ -19,47 +26,137 @@ const PART: usize = MAX_VALUE / 3 * 3;
 
 // ---- out
 
-/// Writes a letter of a text between quotes.
-fn write_letter<O: Write>(output: &mut O, byte: u8) -> io::Result<()> {
+/// Writes a byte of a text between quotes.
+fn write_letter<O: Write>(output: &mut O, byte: u8) -> io::Result<()>
+    ensures { OnOk result (Appends (O.contents output.old) (O.contents output.new) (letter byte)) }
+{
     match byte {
         b'"' => output.write_all(b"\\\""),
         b'\\' => output.write_all(b"\\\\"),
         b'\n' => output.write_all(b"\\n"),
         b'\r' => output.write_all(b"\\r"),
         b'\t' => output.write_all(b"\\t"),
-        0..=0x1f => write!(output, "\\u{byte:04x}"),
+        0..=0x1f => {
+            output.write_all(b"\\u00")?;
+            write_hex(output, &[byte])
+        }
         _ => output.write_all(&[byte]),
     }
 }
 
-/// Writes a text between quotes.
-fn write_text<O: Write>(output: &mut O, text: &[u8]) -> io::Result<()> {
-    output.write_all(b"\"")?;
+/// Writes the letters of a text.
+fn write_letters<O: Write>(output: &mut O, text: &[u8]) -> io::Result<()>
+    ensures { OnOk result (Appends (O.contents output.old) (O.contents output.new)
+        (flat_map letter text.now)) }
+{
     for byte in text {
         write_letter(output, *byte)?;
     }
+    Ok(())
+}
+
+/// Writes a text between quotes.
+fn write_text<O: Write>(output: &mut O, bytes: &[u8]) -> io::Result<()>
+    ensures { OnOk result (Appends (O.contents output.old) (O.contents output.new)
+        (text bytes.now)) }
+{
+    output.write_all(b"\"")?;
+    write_letters(output, bytes)?;
     output.write_all(b"\"")
 }
 
-/// Writes bytes in base64, between quotes, a part after the other.
-fn write_base64<O: Write>(output: &mut O, bytes: &[u8]) -> io::Result<()> {
-    output.write_all(b"\"")?;
-    for part in bytes.chunks(PART) {
-        let mut room = [0u8; LETTERS];
-        let count = STANDARD.encode_slice(part, &mut room).unwrap_or(0);
-        output.write_all(room.get(..count).unwrap_or(&[]))?;
+/// Writes the base64 of no more bytes than a value of a store has.
+fn write_part<O: Write>(output: &mut O, bytes: &[u8]) -> io::Result<()>
+    requires { length bytes.now ≤ 512 }
+    ensures { OnOk result (Appends (O.contents output.old) (O.contents output.new)
+        (encode_of standard bytes.now)) }
+{
+    let mut room = [0u8; LETTERS];
+    let count = STANDARD.encode_slice(bytes, &mut room).unwrap_or(0);
+    output.write_all(room.get(..count).unwrap_or(&[]))
+}
+
+/// Writes the base64 of bytes, a part after the other.
+fn write_parts<O: Write>(output: &mut O, bytes: &[u8]) -> io::Result<()>
+    ensures { OnOk result (Appends (O.contents output.old) (O.contents output.new)
+        (encode_of standard bytes.now)) }
+{
+    let mut rest = bytes;
+    'parts: while rest.len() > PART {
+        let (part, after) = rest.split_at(PART);
+        write_part(output, part)?;
+        rest = after;
     }
+    write_part(output, rest)
+}
+
+/// Writes bytes in base64, between quotes.
+fn write_base64<O: Write>(output: &mut O, bytes: &[u8]) -> io::Result<()>
+    ensures { OnOk result (Appends (O.contents output.old) (O.contents output.new)
+        (based bytes.now)) }
+{
+    output.write_all(b"\"")?;
+    write_parts(output, bytes)?;
     output.write_all(b"\"")
+}
+
+/// Writes the name of a member, whose bytes stand there as a text or in base64.
+fn write_name<O: Write>(output: &mut O, name: &str, is_text: bool) -> io::Result<()>
+    ensures { OnOk result (Appends (O.contents output.old) (O.contents output.new)
+        (name_of name.now is_text)) }
+{
+    output.write_all(b"\"")?;
+    output.write_all(name.as_bytes())?;
+    if is_text {
+        output.write_all(b"\":")
+    } else {
+        output.write_all(b"_base64\":")
+    }
+}
+
+/// Whether bytes are UTF-8.
+fn is_utf8(bytes: &[u8]) -> bool
+    ensures { result ≡ is_utf8 bytes.now }
+{
+    match std::str::from_utf8(bytes) {
+        Ok(_) => true,
+        Err(_) => false,
+    }
 }
 
 /// Writes a member of an object.
-fn write_member<O: Write>(output: &mut O, name: &str, bytes: &[u8]) -> io::Result<()> {
-    if std::str::from_utf8(bytes).is_ok() {
-        write!(output, "\"{name}\":")?;
-        return write_text(output, bytes);
+fn write_member<O: Write>(output: &mut O, name: &str, bytes: &[u8]) -> io::Result<()>
+    ensures { OnOk result (Appends (O.contents output.old) (O.contents output.new)
+        (member name.now bytes.now)) }
+{
+    let is_text = is_utf8(bytes);
+    write_name(output, name, is_text)?;
+    if is_text {
+        write_text(output, bytes)
+    } else {
+        write_base64(output, bytes)
     }
-    write!(output, "\"{name}_base64\":")?;
-    write_base64(output, bytes)
+}
+
+/// Writes the members that are there.
+fn write_members<O: Write>(
+    output: &mut O,
+    key: Option<&[u8]>,
+    value: Option<&[u8]>,
+) -> io::Result<()>
+    ensures { OnOk result (Appends (O.contents output.old) (O.contents output.new)
+        (members (option_copied key.entry) (option_copied value.entry))) }
+{
+    match (key, value) {
+        (Some(key), Some(value)) => {
+            write_member(output, "key", key)?;
+            output.write_all(b",")?;
+            write_member(output, "value", value)
+        }
+        (Some(key), None) => write_member(output, "key", key),
+        (None, Some(value)) => write_member(output, "value", value),
+        (None, None) => Ok(()),
+    }
 }
 
 /// Writes the object of a key, a value, or both, and an end of line.
@@ -67,17 +164,12 @@ pub fn write_json<O: Write>(
     output: &mut O,
     key: Option<&[u8]>,
     value: Option<&[u8]>,
-) -> io::Result<()> {
+) -> io::Result<()>
+    ensures { OnOk result (Appends (O.contents output.old) (O.contents output.new)
+        (object (option_copied key.entry) (option_copied value.entry) ++ 10 ∷ [])) }
+{
     output.write_all(b"{")?;
-    if let Some(key) = key {
-        write_member(output, "key", key)?;
-    }
-    if key.is_some() && value.is_some() {
-        output.write_all(b",")?;
-    }
-    if let Some(value) = value {
-        write_member(output, "value", value)?;
-    }
+    write_members(output, key, value)?;
     output.write_all(b"}\n")
 }
 
@@ -262,7 +354,7 @@ impl Members {
 
 /// The key and the value of a line: an object that has both, or only a key, and nothing else.
 fn members_of(line: &[u8]) -> Result<Members, LineFault> {
-    if std::str::from_utf8(line).is_err() {
+    if !is_utf8(line) {
         return Err(LineFault::BadJson);
     }
     let mut rest = Rest { bytes: line };

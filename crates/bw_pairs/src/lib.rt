@@ -11,14 +11,17 @@ mod dump;
 mod fault;
 mod input;
 mod json;
+pub mod laws;
 mod lines;
 mod long;
 mod rows;
 mod spelling;
 mod tabs;
 
-pub use csv::{write_csv, write_csv_field};
-pub use dump::{Letters, write_dumped, write_end, write_header, write_named_header};
+pub use csv::{csv_del_of, csv_put_of, write_csv, write_csv_field};
+pub use dump::{
+    Letters, key_in, value_in, write_dumped, write_end, write_header, write_named_header,
+};
 pub use fault::{LineFault, PairsFault};
 pub use input::{Pairs, Skipped, Source};
 pub use json::write_json;
@@ -28,4 +31,4 @@ pub use long::{
 };
 pub use rows::{Item, Row, Rows};
 pub use spelling::{Spelling, key_from, key_of, value_from, value_of, write_line, write_word};
-pub use tabs::write_pair;
+pub use tabs::{del_of, put_of, raw_del_of, raw_put_of, write_pair};

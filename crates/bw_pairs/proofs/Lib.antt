@@ -1,0 +1,12 @@
+pub mod Writing
+pub mod Hexing
+pub mod Longs
+pub mod Plain
+pub mod WordLaws
+pub mod LineLaws
+pub mod Escaping
+pub mod DumpLaws
+pub mod Parts
+pub mod Fielding
+pub mod CsvLaws
+pub mod WholeLines

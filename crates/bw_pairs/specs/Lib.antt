@@ -1,0 +1,8 @@
+-- what callers see, in reading order
+pub mod Words
+pub mod Lines
+pub mod Longs
+pub mod Dumps
+pub mod Csv
+pub mod Json
+pub mod Laws
