@@ -1,6 +1,8 @@
 //! An open store is copied, as it stands in its segments.
 
-ghost use Rattle.bw_home.specs.Ready.{IsReady};
+ghost use Rattle.std.specs.Prelude.{◌≡◌, None, Some, slice_get, IfOk, IfSome, IsSome, MatchOption, OnOk};
+ghost use Rattle.bw_home.specs.Ready.{kept_in, IsReady};
+ghost use Rattle.bw_rescue.specs.Images.{copied, copy_of, AreImages};
 
 use crate::compared::Wanted;
 use crate::copying::Copied;
@@ -11,10 +13,14 @@ use bw_home::{Home, HomeFault, System};
 use bw_look::{Image, Unseen};
 use std::alloc::Global;
 
-/// The i-th live segment, from 0; `None` if there are fewer.
+// The i-th live segment, from 0; `None` if there are fewer.
 fn image_at(alloc: Global, home: &mut Home, index: u32) -> Result<Option<Image>, RescueFault>
     requires { IsReady home.old holding }
-    ensures { IsReady home.new holding }
+    ensures ready { IsReady home.new holding }
+    ensures image { IfOk result (λ image.
+        MatchOption (slice_get (kept_in home.old holding).log.live index) (image ≡ None)
+        (λ h. IsSome image × IfSome image (λ i. copied i ≡ copy_of h))) }
+    ensures same { OnOk result (kept_in home.new holding ≡ kept_in home.old holding) }
 {
     let Some((segment, lease, _)) = home.store.live_segment(index) else {
         return Ok(None);
@@ -29,16 +35,23 @@ fn image_at(alloc: Global, home: &mut Home, index: u32) -> Result<Option<Image>,
     }
 }
 
-/// All live segments, the oldest first.
-fn live_images(alloc: Global, home: &mut Home) -> Result<Vec<Image>, RescueFault>
+/// A copy of each live segment of an open store, byte by byte, the oldest first: all that was
+/// flushed. The store stays as it is. Refused `NoMemory`, and `Home` if a segment was not read.
+///
+/// It takes memory for the bytes of all live segments.
+pub fn live_images(alloc: Global, home: &mut Home) -> Result<Vec<Image>, RescueFault>
     requires { IsReady home.old holding }
-    ensures { IsReady home.new holding }
+    ensures ready { IsReady home.new holding }
+    ensures images { IfOk result (λ images.
+        AreImages images.items (kept_in home.old holding).log.live) }
+    ensures same { OnOk result (kept_in home.new holding ≡ kept_in home.old holding) }
 {
     let mut images = Vec::new(alloc);
-    'segments: for index in 0..u32::MAX {
+    let live = home.store.live();
+    'segments: for index in 0..live {
         match image_at(alloc, home, index)? {
             Some(image) => images.push(image)?,
-            None => return Ok(images),
+            None => unreachable!(),
         }
     }
     Ok(images)

@@ -33,7 +33,7 @@ mod verifying;
 mod walking;
 mod whole;
 
-pub use backing::backup;
+pub use backing::{backup, live_images};
 pub use compacting::compact;
 pub use copying::{Copied, copy};
 pub use fault::RescueFault;
