@@ -1,6 +1,6 @@
-use Rattle.std.specs.Prelude.{◌≡◌, List, map, take}
+use Rattle.std.specs.Prelude.{◌≡◌, map, take}
 use Rattle.bw_home.specs.Ready.{kept_in, IsReady}
-use Rattle.bw_rescue.specs.Images.{Copied, copied, copy_of}
+use Rattle.bw_rescue.specs.Images.{copied, copy_of}
 use Rattle.bw_rescue.proofs.backing.live_images.Given as goal
 
 abbrev pub invariant-segments : goal.invariant-segments
