@@ -24,11 +24,11 @@ PREFIX = /usr/local
 BENCH = --keys 1000000
 # One check a processor, each at one job: two jobs for one check cost a tenth more time of the processors.
 JOBS = $(shell n=$$(nproc); echo $$((n < 4 ? n : 4)))
-# The scripts that ask the built program, the longest first. They run side by side; growth.py and fuzz.py ask for times, and run by themselves.
+# The scripts that ask the built program, the longest first. They run side by side; fuzz.py, instructions.py and growth.py ask for times or counts, and run by themselves.
 SCRIPTS = clients rescue sums failing tables_crash follow steady drawn cases tables people memory full beside pages moments events terminal waits
 people_words = crates/bwlog/out/bwlog 100000
 tables_crash_words = 100 5
-SUBJECTS = pages cleaning core alone beside late one one-beside many many-beside
+SUBJECTS = pages cleaning core cold alone beside late one one-beside many many-beside
 
 .PHONY: run try lib install uninstall test check wrong memory bench peers crash fuzz ask-refuse $(SCRIPTS:%=ask-%)
 
@@ -59,6 +59,7 @@ test:
 	python3 tools/manual.py --check
 	@$(MAKE) --no-print-directory --keep-going --output-sync=target --jobs $(JOBS) ask-refuse $(SCRIPTS:%=ask-%)
 	python3 tests/program/fuzz.py --cases 500
+	python3 tests/program/instructions.py
 	python3 tests/program/growth.py
 
 $(SCRIPTS:%=ask-%): ask-%:

@@ -10,9 +10,7 @@ other work on the machine is not counted. The ratio of the two has to be below t
   - where four times as much is done, below 8: a cost that is linear, but for a logarithm, makes 4 to 5, and a square makes 16;
   - where a request may not cost more in a greater store, of 100,000 keys in place of 10,000, below 4: caches alone make up to 2.5;
   - where it may not cost more at a frame limit that is four times as great, below 1.4; or beside four times as many blocks in the frame in
-    the making, below 2;
-  - where a queue passes four times as many entries, below 16, which is a square: its empty pages stay, and a question from the first key on
-    walks over all of them.
+    the making, below 2.
 
 A way that fails is timed once more, with more turns, before the whole ends with status 1. All ways take about a minute."""
 
@@ -27,7 +25,7 @@ from hostile.scans import many_pairs
 
 HERE = os.path.dirname(os.path.abspath(__file__))
 PROGRAM = os.path.join(HERE, "..", "..", "crates", "bwlog", "out", "bwlog")
-SQUARE, STORE, LIMIT, BESIDE, EMPTIED = 8, 4, 1.4, 2, 16
+SQUARE, STORE, LIMIT, BESIDE = 8, 4, 1.4, 2
 TURNS = 3
 BURST = 400
 
@@ -191,7 +189,7 @@ class Imported:
 
 
 class Queue:
-    """n entries are put at one end of a queue, and then each is asked for from the first key on, and deleted."""
+    """n entries are put at one end of a queue, and then each is asked for from the first key on, and deleted. The pages that it empties stay."""
 
     def begin(self, program, count):
         self.served, self.count, self.first = Served(program), count, 0
@@ -295,7 +293,7 @@ WAYS = [
     ("blocks_of_a_frame", Blocks, (1500, 6000), SQUARE),
     ("walk", Walk, (10000, 40000), SQUARE),
     ("import_away", Imported, (10000, 40000), SQUARE),
-    ("queue", Queue, (4000, 16000), EMPTIED),
+    ("queue", Queue, (4000, 16000), SQUARE),
     ("get", lambda: InStore("get %s", "value "), (10000, 100000), STORE),
     ("get_shared", lambda: Shared("get %s", "value "), (10000, 100000), STORE),
     ("get_away", lambda: Away("get %s", "value "), (10000, 100000), STORE),

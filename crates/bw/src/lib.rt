@@ -1,10 +1,11 @@
 //! The door: all that a program names which keeps a store in its own process.
 //!
 //! `with_store` opens a folder, and hands a `Course` a `Home`. With one writer a home is a map: `set`,
-//! `delete`, `change` for several at once, `get`, `next_at`, `prev_at`, `scan`, `scan_shared`, which
-//! copies no pair, and `keep`, which makes all of it durable. With several writers each has a queue
-//! of its own, a `Feed`, which may go to another thread. `with_readers` hands out a `SharedHome`,
-//! whose `Reader`s may. A `Walk` goes over the pairs of a home whose keys begin with a prefix.
+//! `delete`, `change` for several at once, `get`, `next_at`, `prev_at`, `scan`, and `keep`, which
+//! makes all of it durable. `get_shared` and `scan_shared` copy no pair of a page in memory. With
+//! several writers each has a queue of its own, a `Feed`, which may go to another thread.
+//! `with_readers` hands out a `SharedHome`, whose `Reader`s may. A `Walk` goes over the pairs of a
+//! home whose keys begin with a prefix.
 //!
 //! Each name stands in the crate that proves it; whoever needs more of that crate lists it too.
 #![tactic(auto)]

@@ -7,7 +7,6 @@ use crate::options::Options;
 use crate::reopened::reopened;
 use crate::segments::{CAPACITY, count_of, memory};
 use crate::subject::{Course, Subject};
-use bw_codec::limits::MIN_FRAME;
 use bw_device::{Desk, Segment};
 use bw_ring::Feed;
 use bw_store::{Config, Store};
@@ -28,7 +27,7 @@ fn config_of(options: Options, course: Course) -> Config {
         places: usize::from(options.batch),
         readers: READERS,
         m: 32,
-        f: MIN_FRAME,
+        f: options.frame,
     }
 }
 

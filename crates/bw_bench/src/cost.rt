@@ -20,7 +20,7 @@ impl Cost {
     };
 
     /// The nanoseconds of all parts.
-    fn all(self) -> u64 {
+    pub fn all(self) -> u64 {
         self.puts
             .saturating_add(self.turns)
             .saturating_add(self.flushes)

@@ -6,7 +6,7 @@ use crate::reopened::tell_opened;
 use crate::segments::{CAPACITY, count_of};
 use crate::stop::Stop;
 use crate::subject::{Course, Subject};
-use bw_codec::limits::{MAX_PAIRS, MIN_FRAME};
+use bw_codec::limits::MAX_PAIRS;
 use bw_device::{Desk, MAX_LEASES, Segment};
 use bw_file::{FileSegment, Folder};
 use bw_home::{Options, SharedHome, SharedLegs, System, with_readers};
@@ -159,7 +159,7 @@ fn in_folder<R: System, L: SharedLegs<R, Answer = Option<()>>>(
         writers,
         queue_groups: usize::from(bench.options.batch),
         pairs_a_page: MAX_PAIRS,
-        frame_bytes: MIN_FRAME,
+        frame_bytes: bench.options.frame,
         segments: count_of(bench.options),
         capacity: CAPACITY,
         page_bytes: u64::MAX,

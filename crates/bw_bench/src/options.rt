@@ -1,7 +1,7 @@
 //! The command line, read by `clap`. Nothing else of the program stands here.
 
 use crate::shape::{Shape, Span};
-use bw_codec::limits::{MAX_KEY, MAX_VALUE};
+use bw_codec::limits::{MAX_FRAME, MAX_KEY, MAX_VALUE, MIN_FRAME};
 use clap::error::ErrorKind;
 use clap::{Arg, ArgMatches, Command, Error};
 use std::alloc::{AllocError, Global};
@@ -19,6 +19,8 @@ pub struct Options {
     pub operations: u32,
     /// How many records a ring holds, a turn takes, and a frame has at most: 1 to 4,096.
     pub batch: u16,
+    /// How many bytes a frame has at most, 65,536 to 262,144.
+    pub frame: u32,
     /// How many writers there are in threads of their own, 1 to 64.
     pub writers: u16,
     /// Whether times are printed.
@@ -72,6 +74,7 @@ const SUBJECTS: &[&str] = &[
     "cleaning",
     "appends",
     "core",
+    "cold",
     "alone",
     "beside",
     "late",
@@ -124,6 +127,11 @@ const ROWS: &[Row] = &[
         name: "batch",
         kind: Kind::Number(1, 4096, "64"),
         help: "how many records are put, turned and flushed together",
+    },
+    Row {
+        name: "frame",
+        kind: Kind::Number(MIN_FRAME as i64, MAX_FRAME as i64, "65536"),
+        help: "how many bytes a frame has at most",
     },
     Row {
         name: "writers",
@@ -181,6 +189,7 @@ fn found_in(found: &ArgMatches<'_>) -> Options {
         value_length: found.get_one("value-length").unwrap_or(0),
         operations: found.get_one("operations").unwrap_or(0),
         batch: found.get_one("batch").unwrap_or(0),
+        frame: found.get_one("frame").unwrap_or(0),
         writers: found.get_one("writers").unwrap_or(0),
         times: found.get_flag("times"),
     }

@@ -1,6 +1,6 @@
 //! The subjects, each over a store of its own.
 
-use crate::bare::bare;
+use crate::bare::{bare, bare_and_cold};
 use crate::bench::Bench;
 use crate::boxes::over_memory;
 use crate::cleaning::cleaning;
@@ -74,6 +74,7 @@ enum Work {
     Pages,
     Cleaning,
     Bare,
+    Cold,
     Appends,
     Steady,
     Over(Course),
@@ -84,6 +85,7 @@ const SUBJECTS: &[(&str, Work)] = &[
     ("cleaning", Work::Cleaning),
     ("appends", Work::Appends),
     ("core", Work::Bare),
+    ("cold", Work::Cold),
     ("alone", Work::Over(ALONE)),
     ("beside", Work::Over(BESIDE)),
     ("late", Work::Over(LATE)),
@@ -111,6 +113,7 @@ fn run_one<R: Threads + System>(
         (Work::Pages, _) => pages(bench),
         (Work::Cleaning, _) => cleaning(bench),
         (Work::Bare, _) => bare(bench),
+        (Work::Cold, _) => bare_and_cold(bench),
         (Work::Appends, dir) => appends(bench, dir.unwrap_or(".")),
         (Work::Steady, dir) => steady(rt, bench, dir.unwrap_or("."), name),
         (Work::Over(course), Some(dir)) => over_files(rt, bench, course, dir, name),

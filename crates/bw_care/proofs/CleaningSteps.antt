@@ -33,6 +33,7 @@ use Rattle.bw_care.proofs.BasesLeave.{largest_base, may_follow, next_range, stan
 use Rattle.bw_care.proofs.BoxesGrown.{read_failed}
 use Rattle.bw_care.proofs.OldestHolds.{holds_at}
 use Rattle.bw_care.proofs.OldPages.{oldest_below, old_step}
+use Rattle.bw_care.proofs.Receivers.{asked_box}
 use Rattle.bw_care.proofs.PagesMoved.{frame_lawful, moved_one, moved_none, moved_then, take_more, take_drop_all, drop_twice}
 
 -- each frame has a number from 1 on
@@ -122,7 +123,8 @@ pub fill_reason : (old new : Contents) (fault : LogFault) (pages : List ℕ) →
 fill_reason old new NoMemory pages stops other some = tt
 fill_reason old new BadConfig pages stops other some = stops
 fill_reason old new NoSegment pages stops other some = absurd stops
-fill_reason old new (Device lease) pages stops other some = some
+fill_reason old new (Device lease) pages stops other some =
+    (some, inl (record { at = stops.at; holds = stops.read; segment = stops.segment; is = stops.was; named = stops.named }))
 fill_reason old new Failed pages stops other some = stops
 fill_reason old new Spent pages stops other some = (some, inr (inl stops.1))
 fill_reason old new NoPage pages stops other some = absurd (other refl)
@@ -199,32 +201,47 @@ append_refused old now x ps new fault bs same works short answers device log =
 next_some : (c : Contents) (pages : List ℕ) (x : Frame) → NextFrame c pages x → 0 < length pages
 next_some c pages x n = let more = n.some in let inside = n.inside in omega arith
 
-append_reason_by : (c : Contents) (pages : List ℕ) (x : Frame) (fault : LogFault) → NextFrame c pages x → c.is_failed ≡ false
+-- a device failed at the append
+device_reason : (c new : Contents) (pages : List ℕ) (x : Frame) (lease : ℕ) → NextFrame c pages x → refusal c (length (frame_bytes x)) true ≡ None
+    → Rose lease (boxes c) (boxes new) × appends.Stopped c x new → IsReason (Device lease) c pages
+device_reason c new pages x lease next may device =
+    let asked = asked_box c new x lease may device in
+    (next_some c pages x next, inr (record { frame = x; next = next; box = asked.box; is = asked.is; named = asked.named }))
+
+not_device : (c : Contents) (len lease : ℕ) → refusal c len true ≡ Some (Device lease) → ⊥
+unfolding IsKind
+not_device c len lease is = elim (kind_of c len (Device lease) is) [ inl a ↦ cc | inr b ↦ elim b [ inl x ↦ cc | inr y ↦ cc ] ]
+
+append_reason_by : (c new : Contents) (pages : List ℕ) (x : Frame) (fault : LogFault) → NextFrame c pages x → c.is_failed ≡ false
     → length (frame_bytes x) ≤ c.f
     → (refusal c (length (frame_bytes x)) true ≡ Some fault) ⊎ ((refusal c (length (frame_bytes x)) true ≡ None) × Answers None (Err fault))
+    → OnDevice {A = Unit {0}} (Err fault) (λ lease. Rose lease (boxes c) (boxes new) × appends.Stopped c x new) (new ≡ c)
     → IsReason fault c pages
-append_reason_by c pages x NoMemory next works short answers = tt
-append_reason_by c pages x BadConfig next works short (inl a) = not_bad c (length (frame_bytes x)) a
-append_reason_by c pages x BadConfig next works short (inr a) = a.1
-append_reason_by c pages x NoSegment next works short (inl a) = record { frame = x; next = next; short = short; told = a }
-append_reason_by c pages x NoSegment next works short (inr a) = absurd a.1
-append_reason_by c pages x (Device lease) next works short answers = next_some c pages x next
-append_reason_by c pages x Failed next works short (inl a) =
+append_reason_by c new pages x NoMemory next works short answers device = tt
+append_reason_by c new pages x BadConfig next works short (inl a) device = not_bad c (length (frame_bytes x)) a
+append_reason_by c new pages x BadConfig next works short (inr a) device = a.1
+append_reason_by c new pages x NoSegment next works short (inl a) device = record { frame = x; next = next; short = short; told = a }
+append_reason_by c new pages x NoSegment next works short (inr a) device = absurd a.1
+append_reason_by c new pages x (Device lease) next works short (inl a) device = absurd (not_device c (length (frame_bytes x)) lease a)
+append_reason_by c new pages x (Device lease) next works short (inr a) device = device_reason c new pages x lease next a.0 device
+append_reason_by c new pages x Failed next works short (inl a) device =
     not_failed_by c.is_failed (wants_segment c (length (frame_bytes x)) && nat_lt (length c.spares) (spares_wanted true))
     (is_spent c (length (frame_bytes x))) works a
-append_reason_by c pages x Failed next works short (inr a) = a.1
-append_reason_by c pages x Spent next works short (inl a) =
+append_reason_by c new pages x Failed next works short (inr a) device = a.1
+append_reason_by c new pages x Spent next works short (inl a) device =
     (next_some c pages x next, inr (inr (record { frame = x; next = next; short = short; told = a })))
-append_reason_by c pages x Spent next works short (inr a) = absurd a.1
-append_reason_by c pages x NoPage next works short (inl a) = not_page c (length (frame_bytes x)) a
-append_reason_by c pages x NoPage next works short (inr a) = a.1
+append_reason_by c new pages x Spent next works short (inr a) device = absurd a.1
+append_reason_by c new pages x NoPage next works short (inl a) device = not_page c (length (frame_bytes x)) a
+append_reason_by c new pages x NoPage next works short (inr a) device = a.1
 
-pub append_reason : (old now : Contents) (pages : List ℕ) (x : Frame) (fault : LogFault) → NextFrame old pages x → now ≡ old → old.is_failed ≡ false
-    → length (frame_bytes x) ≤ old.f → Answers (refusal now (length (frame_bytes x)) true) (Err fault) → IsReason fault old pages
-append_reason old now pages x fault next same works short answers =
-    append_reason_by old pages x fault next works short
+pub append_reason : (old now new : Contents) (pages : List ℕ) (x : Frame) (fault : LogFault) → NextFrame old pages x → now ≡ old → old.is_failed ≡ false
+    → length (frame_bytes x) ≤ old.f → Answers (refusal now (length (frame_bytes x)) true) (Err fault)
+    → OnDevice {A = Unit {0}} (Err fault) (λ lease. Rose lease (boxes now) (boxes new) × appends.Stopped now x new) (new ≡ now) → IsReason fault old pages
+append_reason old now new pages x fault next same works short answers device =
+    append_reason_by old new pages x fault next works short
     (asked (refusal old (length (frame_bytes x)) true) fault
     (subst (λ (c : Contents). Answers (refusal c (length (frame_bytes x)) true) (Err fault)) same answers))
+    (subst (λ (c : Contents). OnDevice {A = Unit {0}} (Err fault) (λ lease. Rose lease (boxes c) (boxes new) × appends.Stopped c x new) (new ≡ c)) same device)
 
 -- ---- a frame of them
 

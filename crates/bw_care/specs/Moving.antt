@@ -1,6 +1,6 @@
 -- A cleaning under way, and what stops it.
 
-use Rattle.std.specs.Prelude.{ℕ, ◌+◌, ◌<◌, ◌≤◌, ◌≡◌, ◌⊎◌, true, false, Some, None, List, [], ◌∷◌, ◌++◌, length, map, take, drop}
+use Rattle.std.specs.Prelude.{ℕ, ◌+◌, ◌<◌, ◌≤◌, ◌≡◌, ◌⊎◌, true, false, if◌then◌else◌, Option, Some, None, List, [], ◌∷◌, ◌++◌, length, map, take, drop}
 use Rattle.std.specs.Prelude.{slice_get, Ok}
 use Rattle.std.specs.List.{AllByRecursion}
 use Rattle.bw_codec.specs.Grammar.{IsBlock, block_bytes, frame_bytes}
@@ -14,7 +14,7 @@ use Rattle.bw_log.specs.Contents.{Contents, image, boxes, counted, roster, IsSou
 use Rattle.bw_log.specs.Reads.{IsWornOut, HoldsPage}
 use Rattle.bw_log.specs.Oldest.{oldest_count}
 use Rattle.bw_log.specs.Appends as appends
-use Rattle.bw_log.specs.Appends.{refusal, AfterAppend, Rose, IsSameLog}
+use Rattle.bw_log.specs.Appends.{last_of, refusal, wants_segment, AfterAppend, Rose, IsSameLog}
 use Rattle.bw_log.specs.declared.fault.LogFault.{LogFault}
 use Rattle.bw_log.specs.declared.fault.LogFault.TheVariants.{NoMemory, BadConfig, NoSegment, Device, Failed, Spent, NoPage}
 use Rattle.bw_care.specs.Cleaning.{IsRewritten, page_of, old_pages, oldest_last}
@@ -122,14 +122,35 @@ abbrev pub HoldsSome : Contents → List ℕ → ℕ → Type 0
 HoldsSome c [] at = ⊥
 HoldsSome c (p ∷ ps) at = HoldsPage c p at ⊎ HoldsSome c ps at
 
--- why a step is refused, memory and the device aside: the frame that comes next has no room or no
--- number, or one of the pages stands in a segment whose count is at its greatest; and only if a
--- page is left
+-- a live segment of this lease has to be read for one of these pages
+pub record IsReadFrom (c : Contents) (pages : List ℕ) (lease : ℕ) : Type 0 where
+  pub at : ℕ
+  pub holds : HoldsSome c pages at
+  pub segment : Holding
+  pub is : slice_get c.live at ≡ Some segment
+  pub named : segment.lease ≡ lease
+
+-- the box to which a frame of this length is appended: the first spare if a segment has to be begun,
+-- else the newest segment
+abbrev pub receiver : Contents → ℕ → Option Holding
+receiver c len = if wants_segment c len then slice_get c.spares 0 else last_of c.live
+
+-- the frame of the next of these pages is appended to the box of this lease
+pub record IsWrittenTo (c : Contents) (pages : List ℕ) (lease : ℕ) : Type 0 where
+  pub frame : Frame
+  pub next : NextFrame c pages frame
+  pub box : Holding
+  pub is : receiver c (length (frame_bytes frame)) ≡ Some box
+  pub named : box.lease ≡ lease
+
+-- why a step is refused, memory aside: the frame that comes next has no room or no number, one of
+-- the pages stands in a segment whose count is at its greatest, or a segment failed that had to be
+-- read or appended to; and only if a page is left
 abbrev pub IsReason : LogFault → Contents → List ℕ → Type 0
 IsReason NoMemory c pages = Unit {0}
 IsReason BadConfig c pages = ⊥
 IsReason NoSegment c pages = IsRefused c pages NoSegment
-IsReason (Device lease) c pages = 0 < length pages
+IsReason (Device lease) c pages = (0 < length pages) × (IsReadFrom c pages lease ⊎ IsWrittenTo c pages lease)
 IsReason Failed c pages = ⊥
 IsReason Spent c pages =
     (0 < length pages) × ((c.next ≡ None) ⊎ (IsWornOut (HoldsSome c pages) c.live ⊎ IsRefused c pages Spent))

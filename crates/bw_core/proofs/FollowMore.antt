@@ -281,16 +281,17 @@ all_works : (s : Kept) (lane : ℕ) (ms : List Marked) → (taken_all s lane ms)
 all_works s lane [] = refl
 all_works s lane (m ∷ ms) = all_works (taken s lane m (back_for s m.item)) lane ms
 
-pub may_entries : (group : List Record) (old new : Kept) → MakesRoom group old new → new.entries ≡ old.entries
+may_entries : (group : List Record) (old new : Kept) → MakesRoom group old new → new.entries ≡ old.entries
 may_entries group old new (inl e) = ap (λ (s : Kept). s.entries) e
 may_entries group old new (inr f) = ap (λ (s : Kept). s.entries) f.2.1.is
 
-one_group : (lane : ℕ) (old new : Kept) (t : Took lane old new) → groups_since old new ≡ 1
-one_group lane old new t =
-    let is : new.entries ≡ old.entries ++ entered lane (marked t.group) =
+pub took_entries : (lane : ℕ) (old new : Kept) (t : Took lane old new) → new.entries ≡ old.entries ++ entered lane (marked t.group)
+took_entries lane old new t =
     ap (λ (s : Kept). s.entries) t.is ∙ all_entries t.middle lane (marked t.group)
-    ∙ ap (λ (es : List Entry). es ++ entered lane (marked t.group)) (may_entries t.group old t.middle t.flushes) in
-    came old new (entered lane (marked t.group)) is ∙ ends_one lane t.group t.few.0
+    ∙ ap (λ (es : List Entry). es ++ entered lane (marked t.group)) (may_entries t.group old t.middle t.flushes)
+
+one_group : (lane : ℕ) (old new : Kept) (t : Took lane old new) → groups_since old new ≡ 1
+one_group lane old new t = came old new (entered lane (marked t.group)) (took_entries lane old new t) ∙ ends_one lane t.group t.few.0
 
 in_turn_took : (lane : ℕ) (old new : Kept) (t : Took lane old new) → TookInTurn (length t.group) old new
 in_turn_took lane old new t =

@@ -6,6 +6,7 @@ use Rattle.std.proofs.Common.{if◌then◌else◌}
 use Rattle.std.specs.Prelude.{IfOk, MatchResult, nat_le}
 use Rattle.std.specs.List.{slice_get}
 use Rattle.std.proofs.lemmas.Bool.{leb-true, leb-false}
+use Rattle.std.proofs.lemmas.List.{take-append-le}
 use Rattle.bw_record.specs.declared.leaf.Leaf.{Leaf}
 use Rattle.bw_record.specs.declared.block.Frame.{Frame}
 use Rattle.bw_page.specs.Leaves.{pages}
@@ -57,14 +58,9 @@ before_last change (suc n) [] less = absurd (omega arith)
 before_last change (suc n) (h ∷ []) less = absurd (omega arith)
 before_last change (suc n) (h ∷ k ∷ hs) less = ap (λ (l : List Holding). h ∷ l) (before_last change n (k ∷ hs) (omega arith))
 
-take_more : (n : ℕ) (hs ks : List Holding) → n ≤ length hs → take n (hs ++ ks) ≡ take n hs
-take_more zero hs ks low = refl
-take_more (suc n) [] ks low = absurd (omega arith)
-take_more (suc n) (h ∷ hs) ks low = ap (λ (l : List Holding). h ∷ l) (take_more n hs ks (omega arith))
-
 begun_keeps : (c : logs.Contents) (n : ℕ) (ss : List Holding) → n ≤ length c.live → take n (begun_with c ss).live ≡ take n c.live
 begun_keeps c n [] low = refl
-begun_keeps c n (s ∷ ss) low = take_more n c.live _ low
+begun_keeps c n (s ∷ ss) low = take-append-le n c.live _ low
 
 roomy_keeps : (c : logs.Contents) (n : ℕ) (wants : Bool) → n ≤ length c.live → take n (if wants then begun c else c).live ≡ take n c.live
 roomy_keeps c n true low = begun_keeps c n c.spares low

@@ -36,6 +36,16 @@ module _ {I : Type 0} {H : I → Type 0} where
     noted = looks.noted ∙ stays.noted;
   }
 
+  -- a note that changes none of it
+  pub stays_as : (old mid new : Core I H) (v : (i : I) × H i → Holding) → Stays old mid v → IsSound new v → kept_by new v ≡ kept_by mid v
+      → new.pages.leaves ≡ mid.pages.leaves → noted_of new ≡ noted_of mid → Stays old new v
+  stays_as old mid new v stays sound same pages noted = record {
+    sound = sound;
+    same = same ∙ stays.same;
+    pages = pages ∙ stays.pages;
+    noted = noted ∙ stays.noted;
+  }
+
   -- a look after them, whatever its answer
   pub reads_behind : {A : Type 0} (page : ℕ) (result : Result A StoreFault) (old mid new : Core I H) (v : (i : I) × H i → Holding) → Stays old mid v
       → LooksAt page mid result new v → OnlyReads old new v

@@ -1,9 +1,10 @@
 -- What a round leaves of what each lane gave and knows.
 
 use Rattle.std.proofs.Common.{inl, inr, ◌≡◌, ◌⊎◌, ℕ, zero, suc, ◌+◌, ◌<◌, ◌≤◌, Bool, true, false, Option, Some, None, Result, Ok, Err}
-use Rattle.std.proofs.Common.{List, [], ◌∷◌, ◌++◌, length, drop, refl, sym, ap, ◌∙◌, subst, arith, length-append, append-nil, if◌then◌else◌}
+use Rattle.std.proofs.Common.{List, [], ◌∷◌, ◌++◌, length, drop, refl, sym, ap, ◌∙◌, subst, arith, length-append, append-nil, drop_of_length-le, if◌then◌else◌}
 use Rattle.std.specs.Prelude.{IfOk, IsSomeAnd, IfNone, MatchOption, nat_le}
 use Rattle.std.proofs.lemmas.Bool.{eq-eqb, ne_eqb, leb-true, leb-false, le-leb, lt-leb}
+use Rattle.std.proofs.lemmas.List.{drop-append-le}
 use Rattle.bw_ring.specs.declared.lane.Lane.{Lane}
 use Rattle.bw_ring.specs.Marks.{marked}
 use Rattle.bw_terms.specs.declared.fault.StoreFault.{StoreFault}
@@ -15,7 +16,7 @@ use Rattle.bw_core.specs.Following.{Turned}
 use Rattle.bw_core.specs.Kept.{Kept}
 use Rattle.bw_core.specs.Rounds.{gave, known_of, rounds_over, InRound, IsAtRound, IsFair}
 use Rattle.bw_core.specs.Taking.{RefusesNext, TakeLeaves, Took}
-use Rattle.bw_core.proofs.FollowMore.{all_entries, follows_refused, may_entries}
+use Rattle.bw_core.proofs.FollowMore.{follows_refused, took_entries}
 
 -- ---- lanes
 
@@ -50,24 +51,15 @@ never_none X P (Err fault) some = tt
 
 -- ---- what was given
 
-drop_before : (n : ℕ) (xs ys : List Entry) → n ≤ length xs → drop n (xs ++ ys) ≡ drop n xs ++ ys
-drop_before zero xs ys low = refl
-drop_before (suc n) [] ys low = absurd (omega arith)
-drop_before (suc n) (x ∷ xs) ys low = drop_before n xs ys (omega arith)
-
 gave_more : (first s t : Kept) (more : List Entry) (w : ℕ) → length first.entries ≤ length s.entries → t.entries ≡ s.entries ++ more
     → gave first t w ≡ gave first s w + groups_of w more
 gave_more first s t more w low is =
     ap (λ (es : List Entry). groups_of w (drop (length first.entries) es)) is
-    ∙ ap (groups_of w) (drop_before (length first.entries) s.entries more low)
+    ∙ ap (groups_of w) (drop-append-le (length first.entries) s.entries more low)
     ∙ groups_append w (drop (length first.entries) s.entries) more
 
-drop_whole : (xs : List Entry) → drop (length xs) xs ≡ []
-drop_whole [] = refl
-drop_whole (x ∷ xs) = drop_whole xs
-
 gave_none : (s : Kept) (w : ℕ) → gave s s w ≡ 0
-gave_none s w = ap (groups_of w) (drop_whole s.entries)
+gave_none s w = ap (groups_of w) (drop_of_length-le s.entries (omega arith))
 
 -- ---- rounds
 
@@ -153,11 +145,6 @@ by_lane lane P here others i = elim (over 0 lane i) [
   ]
   | inr less ↦ others i (let a = less.0 in λ same. omega arith)
 ]
-
-took_entries : (lane : ℕ) (old new : Kept) (t : Took lane old new) → new.entries ≡ old.entries ++ entered lane (marked t.group)
-took_entries lane old new t =
-    ap (λ (s : Kept). s.entries) t.is ∙ all_entries t.middle lane (marked t.group)
-    ∙ ap (λ (es : List Entry). es ++ entered lane (marked t.group)) (may_entries t.group old t.middle t.flushes)
 
 -- a group was taken from it
 took_round : {rounds lane : ℕ} (first_lanes : List Lane) (first : Kept) (lanes new_lanes : List Lane) (s t : Kept)

@@ -1,7 +1,10 @@
 -- A walk from page to page finds the first pair of the map at or above a key.
 
-use Rattle.std.proofs.Common.{◌≡◌, ℕ, ◌≤◌, ◌<◌, true, false, if◌then◌else◌, Option, Some, None, Err, [], length, sym, ap, ◌∙◌, subst, arith}
-use Rattle.std.specs.Prelude.{is_some}
+use Rattle.std.proofs.Common.{inl, refl, List, ◌∷◌, ◌≡◌, ℕ, ◌≤◌, ◌<◌, true, false, if◌then◌else◌, Option, Some, None, Err, [], length, sym, ap, ◌∙◌, subst, arith}
+use Rattle.std.specs.Prelude.{is_some, IsTrue, ◌==◌}
+use Rattle.std.proofs.lemmas.Bool.{eqb-true}
+use Rattle.bw_record.specs.Keys.{is_below}
+use Rattle.bw_record.proofs.Order.{upto-trans, below_upto}
 use Rattle.bw_record.specs.declared.leaf.Leaf.{Leaf}
 use Rattle.bw_log.specs.Reads.{HoldsPage}
 use Rattle.bw_leaf.specs.Above.{pair_above}
@@ -49,6 +52,14 @@ module _ (s : Kept) (h : IsSound s) where
   pub walk_first : (key : Bytes) → HasCome (map_of s) key key
   walk_first key = subst (λ (u : Map). HasCome u key key) h.mapped (come_first s.filed.leaves key)
 
+  -- what the pages' map says, the map of the history says, and the other way round
+  pub walk_past : (key to : Bytes) → HasCome (union s.filed.leaves) key to → HasCome (map_of s) key to
+  walk_past key to come = subst (λ (u : Map). HasCome u key to) h.mapped come
+
+  gap_here : (key to : Bytes) (leaves : List Leaf) → leaves ≡ s.filed.leaves → HasCome (map_of s) key to → HasCome (union leaves) key to
+  gap_here key to leaves same come =
+      subst (λ (ls : List Leaf). HasCome (union ls) key to) (sym same) (subst (λ (u : Map). HasCome u key to) (sym h.mapped) come)
+
   pub walk_found : (key to : Bytes) (p : Bytes × Bytes) → HasCome (map_of s) key to → pair_above to (home to s.filed.leaves).pairs ≡ Some p
       → IsFirstPair (map_of s) key p
   walk_found key to p come e =
@@ -73,6 +84,32 @@ module _ (s : Kept) (h : IsSound s) where
       (come_last s.filed.m s.filed.leaves h.grown.stands.lawful key to (subst (λ (u : Map). HasCome u key to) (sym h.mapped) come) e last)
 
 module _ (s : Kept) (h : IsSound s) where
+  -- a page without a pair at or above a key makes a gap up to the next low
+  pub gap_next : (from low : Bytes) (leaves : List Leaf) → leaves ≡ s.filed.leaves → pair_above from (home from s.filed.leaves).pairs ≡ None
+      → IsNextLow s.filed.leaves from low → HasCome (union leaves) from low
+  gap_next from low leaves same none next = gap_here s h from low leaves same (walk_further s h from from low (walk_first s h from) none next)
+
+  -- so does a walk that has found nothing
+  pub gap_gone : (key from low : Bytes) (most : ℕ) (found : Pairs) (leaves : List Leaf) → leaves ≡ s.filed.leaves → is_below from key ≡ false
+      → IsTrue (is_below from low) → HasGone (map_of s) key low most found → length found == 0 ≡ true → 0 < most → HasCome (union leaves) from low
+  gap_gone key from low most [] leaves same at above gone none some = gap_here s h from low leaves same (record {
+    upto = below_upto from low above;
+    none = λ q u b. gone.all q (upto-trans key from q at u) b (inl some);
+  })
+  gap_gone key from low most (p ∷ ps) leaves same at above gone none some = absurd (let e = eqb-true (length (p ∷ ps)) 0 none in omega arith)
+
+  pub stretch_past : (key from : Bytes) (most : ℕ) → HasCome (union s.filed.leaves) key from → HasGone (map_of s) key from most []
+  stretch_past key from most come =
+      let there = walk_past s h key from come in
+      record {
+        few = omega arith;
+        ascends = refl;
+        from = tt;
+        below = tt;
+        upto = there.upto;
+        all = λ q u b more. there.none q u b;
+      }
+
   pub stretch_first : (key : Bytes) (most : ℕ) → HasGone (map_of s) key key most []
   stretch_first key most = subst (λ (u : Map). HasGone u key key most []) h.mapped (gone_first s.filed.leaves key most)
 

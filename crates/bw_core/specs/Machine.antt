@@ -37,8 +37,8 @@ FindsLeft s held =
 abbrev pub MayBeStopped : Kept → Type 0
 MayBeStopped s = FindsLeft s (boxes s.log)
 
--- .. and what is found if these boxes were given up before, and still have what they had: the first
--- so many of them are empty again, and the others stand before those of the store
+-- what is found, were the store stopped while boxes that it gave up still have what they had: any
+-- number of the first of them are empty again, and the others stand before those of the store
 abbrev pub MayBeStoppedBefore : List Holding → Kept → Type 0
 MayBeStoppedBefore given s = (k : ℕ) → FindsLeft s (drop k given ++ boxes s.log)
 

@@ -1,4 +1,4 @@
--- A turn goes in rounds: no lane is passed over that knows of a group.
+-- A turn goes in rounds: no lane falls behind that knew of groups when it began.
 
 use Rattle.std.specs.Prelude.{ℕ, suc, ◌+◌, ◌<◌, ◌≤◌, ◌⊎◌, nat_le, if◌then◌else◌, IfOk, List, MatchResult, Result, length, drop}
 use Rattle.bw_ring.specs.declared.lane.Lane.{Lane}
@@ -16,7 +16,8 @@ gave old new writer = groups_of writer (drop (length old.entries) new.entries)
 abbrev pub known_of : List Lane → ℕ → ℕ
 known_of lanes i = length (known_at lanes i)
 
--- as long as a lane has not given all groups of which it knew, no other gave two more than it
+-- as long as a lane has not given all groups of which it knew at first, no other gave two more than
+-- it
 abbrev pub IsFair : List Lane → Kept → Kept → Type 0
 IsFair lanes old new = (i j : ℕ) → gave old new i < known_of lanes i → gave old new j ≤ gave old new i + 1
 
@@ -33,7 +34,8 @@ pub record IsAtRound (rounds known given left : ℕ) : Type 0 where
 abbrev pub rounds_over : ℕ → ℕ → ℕ → ℕ
 rounds_over rounds lane i = if nat_le lane i then rounds else suc rounds
 
--- since these lanes and this store so many rounds are done, and one more of the lanes before this one
+-- since these lanes and this store so many rounds are done, and one more went over the lanes before
+-- this one
 pub record InRound (rounds lane : ℕ) (first_lanes : List Lane) (first : Kept) (lanes : List Lane) (s : Kept) : Type 0 where
   pub low : length first.entries ≤ length s.entries
   pub each : (i : ℕ) → IsAtRound (rounds_over rounds lane i) (known_of first_lanes i) (gave first s i) (known_of lanes i)

@@ -61,8 +61,8 @@ impl Core {
         // As the machine: all that was taken is kept, and what a stop leaves is found.
         ensures runs { RunsAs (kept_by self.old holding) result (kept_by self.new holding) }
 
-        // So it is as long as the segment that was given up has what it had, and stands before the
-        // others: its file is emptied after this call.
+        // What a stop leaves is found even if the segment that was given up still has what it had,
+        // and stands before the others: its file is emptied after this call.
         ensures before { IfOk result (λ _. MayBeStoppedBefore
             (take 1 (kept_by self.old holding).log.live) (kept_by self.new holding)) }
     {

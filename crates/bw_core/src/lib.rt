@@ -18,6 +18,7 @@ mod enter;
 mod evict;
 mod flush;
 mod forget;
+mod get_shared;
 mod groups;
 mod laws;
 mod memory;

@@ -62,11 +62,14 @@ impl Core {
         ensures walks { Walks self.old result self.new holding }
     {
         found.clear();
-        let mut from = key.copy();
+        let mut from = self.pages.leaves.past_gap(key);
         'pages: while found.len() < most {
             self.share_page(&from, most, found)?;
             match self.pages.leaves.low_above(&from) {
-                Some(low) => from = low,
+                Some(low) => {
+                    self.note_gap(found.as_slice().is_empty(), &from, &low);
+                    from = low;
+                }
                 None => return Ok(()),
             }
         }

@@ -61,7 +61,8 @@ impl Core {
         ensures tried { IfErr result (λ fault.
             groups_since (kept_by self.old holding) (kept_by self.new holding) < limit) }
 
-        // No lane is passed over that knows of a group.
+        // No lane falls behind: as long as one has not given all groups of which it knew before, no
+        // other gave two more than it.
         ensures fair { IsFair (lanes_of self.old) (kept_by self.old holding)
             (kept_by self.new holding) }
 

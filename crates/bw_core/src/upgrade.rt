@@ -57,8 +57,8 @@ impl Core {
         // As the machine: all that was taken is kept, and what a stop leaves is found.
         ensures runs { RunsAs (kept_by self.old holding) result (kept_by self.new holding) }
 
-        // So it is as long as segments that were given up have what they had, and stand before the
-        // others: their files are emptied after this call, one after the other.
+        // What a stop leaves is found even if segments that were given up still have what they had,
+        // and stand before the others: their files are emptied after this call, one by one.
         ensures before { IfOk result (λ _. MayBeStoppedBefore
             (take (old_segments (kept_by self.old holding).log) (kept_by self.old holding).log.live)
             (kept_by self.new holding)) }

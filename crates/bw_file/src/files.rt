@@ -1,12 +1,14 @@
 // What is asked of an open file, and the bytes of one.
-ghost use Rattle.std.specs.Prelude.{◌≡◌, ◌≢◌, ◌≤◌, ◌↔◌, length, IsOk, IfOk, IfErr};
+ghost use Rattle.std.specs.Prelude.{◌≡◌, ◌≢◌, ◌≤◌, ◌↔◌, ◌++◌, length, IsOk, IfOk, IfErr};
 ghost use Rattle.std.specs.Vec.{vec_capacity};
 ghost use Rattle.bw_device.specs.Leases.{number_of};
 ghost use Rattle.bw_device.specs.Memory.{memory_holding};
 ghost use Rattle.bw_device.specs.declared.memory.TheConstants.{MAX_CAPACITY};
+ghost use Rattle.bw_file.specs.Asked.{read_calls};
 ghost use Rattle.bw_file.specs.FileHolding.{IsOpened};
 ghost use Rattle.bw_file.specs.declared.refusals.FolderFault.TheVariants.{BadConfig};
 
+use crate::asked::{Asked, len_of, read_bytes};
 use crate::refusals::{FolderFault, NotOpened};
 use bw_device::{Lease, MAX_CAPACITY, MemSegment};
 use std::alloc::{AllocError, Global};
@@ -32,13 +34,6 @@ impl SegmentFile for File {
     }
 }
 
-/// A segment's file, and the one with its sums beside it.
-#[derive(Drop)]
-pub(crate) struct Pair<F> {
-    pub(crate) file: F,
-    pub(crate) sums: F,
-}
-
 /// What a list is made longer by, before a file is read into it.
 const BLANK: [u8; 4_096] = [0; 4_096];
 
@@ -62,17 +57,20 @@ pub(crate) fn bytes_of<F: SegmentFile>(
     alloc: Global,
     file: &F,
     capacity: u64,
+    asked: &mut Asked,
 ) -> Result<Vec<u8>, FolderFault>
+    ensures found { IfOk result (λ bytes.
+        asked.new.value ≡ asked.old.value ++ read_calls bytes.items) }
     ensures within { IfOk result (λ bytes. length bytes.items ≤ MAX_CAPACITY) }
     ensures room { IfOk result (λ bytes. capacity ≤ vec_capacity bytes) }
     ensures cause { IfErr result (λ cause. cause ≢ BadConfig) }
 {
-    let len = file.metadata()?.len();
+    let len = len_of(file, asked)?;
     if len > MAX_CAPACITY {
         return Err(FolderFault::TooLong);
     }
     let mut bytes = blank(alloc, len as usize, capacity.max(len) as usize)?;
-    file.read_exact_at(&mut bytes, 0)?;
+    read_bytes(file, &mut bytes, asked)?;
     Ok(bytes)
 }
 

@@ -1,20 +1,26 @@
 // A folder with a file for each segment.
-ghost use Rattle.std.specs.Prelude.{◌≡◌, ◌≢◌, ◌≤◌, ◌<◌, ◌⊎◌, ◌↔◌, [], length, All, IfOk, IfErr, IsErrAnd};
+ghost use Rattle.std.specs.Prelude.{◌≡◌, ◌≢◌, ◌≤◌, ◌<◌, ◌⊎◌, ◌↔◌, [], ◌∷◌, ◌++◌, true, length, All, IfOk, IfErr, OnOk, IsErrAnd};
 ghost use Rattle.std.specs.List.Sorted.{IsStrictlyIncreasing};
 ghost use Rattle.bw_device.specs.Leases.{number_of};
 ghost use Rattle.bw_device.specs.Memory.{fresh_holding};
 ghost use Rattle.bw_device.specs.declared.leases.TheConstants.{MAX_LEASES};
 ghost use Rattle.bw_device.specs.declared.memory.TheConstants.{MAX_CAPACITY};
 ghost use Rattle.bw_digest.specs.Rows.{reach};
-ghost use Rattle.bw_file.specs.FileHolding.{file_holding, IsOpened};
+ghost use Rattle.bw_file.specs.Asked.{Names, each_of, spare_calls};
+ghost use Rattle.bw_file.specs.Written.{IsMade, IsWrittenAnew, IsBegun};
+ghost use Rattle.bw_file.specs.FileHolding.{file_holding, asked_of, held_back_asked, held_back_left, asked_in, folder_asked, waiting_of, IsOpened};
 ghost use Rattle.bw_file.specs.declared.refusals.FolderFault.TheVariants.{BadConfig};
 
-use crate::files::{Pair, SegmentFile, with_capacity};
+use crate::asked::{
+    Asked, Done, FolderAsked, Pair, add, make, nothing, nothing_yet, sync_names, sync_own_name,
+};
+use crate::files::{SegmentFile, with_capacity};
 use crate::names::{leases_in, lock_path, segment_path, sums_path};
 use crate::refusals::{FolderFault, NotOpened};
 use crate::segment::{FileSegment, Place, Shared};
 use crate::sums::sums_for;
 use crate::unsettled::Unsettled;
+use crate::writing::{cut_to_nothing, hold_back, write_anew, write_first};
 use bw_device::{Lease, MAX_CAPACITY, MemSegment};
 use bw_digest::Row;
 use std::alloc::Global;
@@ -35,6 +41,17 @@ pub struct Folder<F = File> {
     pub(crate) shared: Arc<Shared<F>>,
     /// What is owed to the segments that are not settled.
     pub(crate) waiting: Vec<Unsettled<F>>,
+    /// What it asked of its files.
+    pub(crate) asked: FolderAsked,
+}
+
+/// Makes the folder of this path, if it is missing; whether it was.
+pub(crate) fn is_made<R: AllocGlobal + Files>(rt: &R, path: &str) -> io::Result<bool> {
+    match fs::create_dir(rt, path) {
+        Ok(()) => Ok(true),
+        Err(error) if error.kind() == ErrorKind::AlreadyExists => Ok(false),
+        Err(error) => Err(error),
+    }
 }
 
 // Makes the folder if it is missing, and then waits until its name stands in its parent. The parent
@@ -42,15 +59,16 @@ pub struct Folder<F = File> {
 fn make_folder<R: AllocGlobal + Files<File = F>, F: SegmentFile>(
     rt: &R,
     path: &str,
-) -> Result<(), FolderFault> {
-    match fs::create_dir(rt, path) {
-        Ok(()) => {}
-        Err(error) if error.kind() == ErrorKind::AlreadyExists => return Ok(()),
-        Err(error) => return Err(FolderFault::from(error)),
+) -> Result<FolderAsked, FolderFault>
+    ensures made { IfOk result (λ asked. IsMade asked.value) }
+{
+    let mut asked = nothing_yet();
+    if !make(rt, path, &mut asked)? {
+        return Ok(asked);
     }
     let parent = format!(in rt.alloc(); "{path}/..")?;
-    fs::open(rt, parent.as_str())?.sync_all()?;
-    Ok(())
+    sync_own_name(&fs::open(rt, parent.as_str())?, &mut asked)?;
+    Ok(asked)
 }
 
 // Where a segment finds these files, which are settled.
@@ -72,12 +90,6 @@ fn opened<R: AllocGlobal + Files<File = F>, F: SegmentFile>(rt: &R, name: &str) 
         .open(rt, name)
 }
 
-// Empties a file, and waits until that stands.
-fn cut_to_nothing<F: SegmentFile>(file: &F) -> io::Result<()> {
-    file.set_len(0)?;
-    file.sync_all()
-}
-
 impl<F: SegmentFile> Folder<F> {
     /// The folder of this path, which is made if it is missing; the folder that it lies in has to
     /// be there.
@@ -87,8 +99,11 @@ impl<F: SegmentFile> Folder<F> {
     pub fn open<R: AllocGlobal + Files<File = F>>(
         rt: &R,
         path: &str,
-    ) -> Result<Folder<F>, FolderFault> {
-        make_folder(rt, path)?;
+    ) -> Result<Folder<F>, FolderFault>
+        ensures made { IfOk result (λ folder. IsMade (folder_asked folder)) }
+        ensures none { IfOk result (λ folder. waiting_of folder ≡ []) }
+    {
+        let asked = make_folder(rt, path)?;
         // If the path is no folder, as a pipe, this finds it, and that is not opened either.
         let name = lock_path(rt, path)?;
         let itself = fs::open(rt, path)?;
@@ -96,16 +111,21 @@ impl<F: SegmentFile> Folder<F> {
             .write(true)
             .create(true)
             .open(rt, name.as_str())?;
-        Folder::locked(rt.alloc(), path, itself, lock)
+        Folder::locked(rt.alloc(), path, itself, lock, asked)
     }
 
-    // The folder of this path, once nobody else has this file `lock` of it.
+    // The folder of this path, once nobody else has this file `lock` of it, and what was asked
+    // before.
     pub(crate) fn locked(
         alloc: Global,
         path: &str,
         itself: F,
         lock: F,
-    ) -> Result<Folder<F>, FolderFault> {
+        asked: FolderAsked,
+    ) -> Result<Folder<F>, FolderFault>
+        ensures asked { IfOk result (λ folder. folder_asked folder ≡ asked.value) }
+        ensures none { IfOk result (λ folder. waiting_of folder ≡ []) }
+    {
         lock.lock_alone()?;
         let path = String::from_str(alloc, path)?;
         let Ok(shared) = Arc::new(alloc, Shared::new(lock)) else {
@@ -116,6 +136,7 @@ impl<F: SegmentFile> Folder<F> {
             itself,
             shared,
             waiting: Vec::new(alloc),
+            asked,
         })
     }
 
@@ -137,7 +158,9 @@ impl<F: SegmentFile> Folder<F> {
         &self,
         rt: &R,
         lease: u32,
+        all: &mut FolderAsked,
     ) -> Result<Pair<F>, FolderFault>
+        ensures asked { OnOk result (all.new.value ≡ all.old.value ++ Names true ∷ []) }
         ensures cause { IfErr result (λ cause. cause ≢ BadConfig) }
     {
         let name = segment_path(rt, self.path.as_str(), lease)?;
@@ -145,23 +168,23 @@ impl<F: SegmentFile> Folder<F> {
         let file = opened(rt, name.as_str())?;
         file.lock_alone()?;
         let sums = opened(rt, beside.as_str())?;
-        self.itself.sync_all()?;
-        Ok(Pair { file, sums })
+        sync_names(&self.itself, all)?;
+        Ok(Pair::new(file, sums))
     }
 
-    // The files of this lease, which are empty and stand so, with what the folder shares. The sums
-    // go first: those of an earlier segment must not come back beside the bytes of a later one.
+    // The files of this lease, which are empty and stand so, with what the folder shares.
     fn emptied<R: AllocGlobal + Files<File = F>>(
         &self,
         rt: &R,
         lease: u32,
-    ) -> Result<(Place<F>, Arc<Shared<F>>), FolderFault>
+    ) -> Result<(Place<F>, Arc<Shared<F>>, Asked), FolderFault>
+        ensures asked { IfOk result (λ emptied. emptied.2.value ≡ spare_calls) }
         ensures cause { IfErr result (λ cause. cause ≢ BadConfig) }
     {
-        let files = self.taken(rt, lease)?;
-        cut_to_nothing(&files.sums)?;
-        cut_to_nothing(&files.file)?;
-        Ok((placed(rt.alloc(), files)?, self.shared.clone()?))
+        let files = self.taken(rt, lease, &mut nothing_yet())?;
+        let mut asked = nothing();
+        cut_to_nothing(&files, &mut asked)?;
+        Ok((placed(rt.alloc(), files)?, self.shared.clone()?, asked))
     }
 
     /// A new segment of this lease and capacity, in bytes, over an empty file: what the file held
@@ -177,18 +200,19 @@ impl<F: SegmentFile> Folder<F> {
     ) -> Result<FileSegment<F>, NotOpened>
         ensures made { IfOk result
             (λ s. file_holding s ≡ fresh_holding (number_of lease) capacity []) }
+        ensures asked { IfOk result (λ s. asked_of s ≡ spare_calls) }
 
         ensures bad_config { IsErrAnd result (λ e. e.cause ≡ BadConfig) ↔
             ((capacity ≡ 0) ⊎ (MAX_CAPACITY < capacity)) }
         ensures lease { IfErr result (λ e. e.lease ≡ lease) }
     {
         let lease = with_capacity(lease, capacity)?;
-        let (files, shared) = match self.emptied(rt, lease.number()) {
+        let (files, shared, asked) = match self.emptied(rt, lease.number()) {
             Ok(emptied) => emptied,
             Err(cause) => return Err(NotOpened { lease, cause }),
         };
         match MemSegment::new(rt.alloc(), lease, capacity) {
-            Ok(copy) => Ok(FileSegment::over(copy, files, Row::new(), shared)),
+            Ok(copy) => Ok(FileSegment::over(copy, files, Row::new(), shared, asked)),
             Err(refused) => Err(NotOpened {
                 lease: refused.lease,
                 cause: FolderFault::NoMemory,
@@ -209,18 +233,19 @@ impl<F: SegmentFile> Folder<F> {
         lease: u32,
         bytes: &[u8],
         ends: &[u64],
-    ) -> Result<(), FolderFault> {
+    ) -> Result<Done, FolderFault>
+        ensures asked { IfOk result (λ done. IsWrittenAnew lease bytes.now (asked_in done)) }
+    {
         if bytes.len() as u64 > MAX_CAPACITY {
             return Err(FolderFault::TooLong);
         }
         let rows = sums_for(rt.alloc(), bytes, ends)?;
-        let Pair { file, sums } = self.taken(rt, lease)?;
-        cut_to_nothing(&sums)?;
-        file.set_len(0)?;
-        file.write_all_at(bytes, 0)?;
-        file.sync_all()?;
-        sums.write_all_at(&rows, 0)?;
-        Ok(())
+        let mut all = nothing_yet();
+        let files = self.taken(rt, lease, &mut all)?;
+        let mut asked = nothing();
+        write_anew(&files, bytes, &rows, &mut asked)?;
+        add(&mut all, lease, &asked);
+        Ok(Done { asked: all })
     }
 
     /// Writes these bytes as `write` does, but for the first one, in whose place a 0 stands: no
@@ -234,22 +259,28 @@ impl<F: SegmentFile> Folder<F> {
         lease: u32,
         bytes: &[u8],
         ends: &[u64],
-    ) -> Result<HeldBack<F>, FolderFault> {
+    ) -> Result<HeldBack<F>, FolderFault>
+        ensures asked { IfOk result
+            (λ h. IsBegun lease bytes.now (held_back_asked h) (held_back_left h)) }
+    {
         if bytes.len() as u64 > MAX_CAPACITY {
             return Err(FolderFault::TooLong);
         }
         let rows = sums_for(rt.alloc(), bytes, ends)?;
-        let files = self.taken(rt, lease)?;
-        cut_to_nothing(&files.sums)?;
-        files.file.set_len(0)?;
-        let Some((first, rest)) = bytes.split_first() else {
-            return Ok(HeldBack { files, last: None });
+        let mut all = nothing_yet();
+        let files = self.taken(rt, lease, &mut all)?;
+        let mut asked = nothing();
+        let last = match hold_back(&files, bytes, &mut asked)? {
+            Some(first) => Some((first, rows)),
+            None => None,
         };
-        files.file.write_all_at(&[0], 0)?;
-        files.file.write_all_at(rest, 1)?;
-        files.file.sync_all()?;
-        let last = Some((*first, rows));
-        Ok(HeldBack { files, last })
+        add(&mut all, lease, &asked);
+        Ok(HeldBack {
+            lease,
+            files,
+            last,
+            asked: all,
+        })
     }
 
     /// Empties the file of a lease whose segment was given up and dropped, and waits until that
@@ -262,37 +293,51 @@ impl<F: SegmentFile> Folder<F> {
         &self,
         rt: &R,
         lease: u32,
-    ) -> Result<(), FolderFault> {
+    ) -> Result<Done, FolderFault>
+        ensures asked { IfOk result (λ done. asked_in done ≡ each_of lease spare_calls) }
+    {
         let name = segment_path(rt, self.path.as_str(), lease)?;
         let beside = sums_path(rt, self.path.as_str(), lease)?;
         let file = OpenOptions::new().write(true).open(rt, name.as_str())?;
         file.lock_alone()?;
-        // The sums go first, as in `emptied`: one that outlasted its bytes would say that these
-        // were lost.
-        cut_to_nothing(&opened(rt, beside.as_str())?)?;
-        cut_to_nothing(&file)?;
-        Ok(())
+        let files = Pair::new(file, opened(rt, beside.as_str())?);
+        let mut asked = nothing();
+        cut_to_nothing(&files, &mut asked)?;
+        let mut all = nothing_yet();
+        add(&mut all, lease, &asked);
+        Ok(Done { asked: all })
     }
 }
 
 /// A file that was written but for its first byte, and for the sums beside it.
 #[derive(Drop)]
 pub struct HeldBack<F = File> {
+    lease: u32,
     files: Pair<F>,
     /// The first byte, and the sums of all pieces. None if the file has no bytes.
     last: Option<(u8, Vec<u8>)>,
+    /// What was asked of its files.
+    asked: FolderAsked,
 }
 
 impl<F: SegmentFile> HeldBack<F> {
     /// Writes the first byte, and waits until it stands; then the sums. After a refusal only that
     /// byte of the file is not known.
-    pub fn end(self) -> Result<(), FolderFault> {
-        let HeldBack { files, last } = self;
+    pub fn end(self) -> Result<Done, FolderFault>
+        ensures asked { IfOk result
+            (λ done. asked_in done ≡ held_back_asked self ++ held_back_left self) }
+    {
+        let HeldBack {
+            lease,
+            files,
+            last,
+            asked: mut all,
+        } = self;
         if let Some((first, rows)) = last {
-            files.file.write_all_at(&[first], 0)?;
-            files.file.sync_all()?;
-            files.sums.write_all_at(&rows, 0)?;
+            let mut asked = nothing();
+            write_first(&files, first, &rows, &mut asked)?;
+            add(&mut all, lease, &asked);
         }
-        Ok(())
+        Ok(Done { asked: all })
     }
 }

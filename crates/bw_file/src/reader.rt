@@ -10,6 +10,7 @@ ghost use Rattle.bw_digest.specs.Rows.{reach};
 ghost use Rattle.bw_file.specs.FileHolding.{IsOpened};
 ghost use Rattle.bw_file.specs.declared.refusals.FolderFault.TheVariants.{BadConfig};
 
+use crate::asked::nothing;
 use crate::files::{SegmentFile, bytes_of, copy_of, with_capacity};
 use crate::names::{leases_in, lock_path, segment_path, sums_path};
 use crate::refusals::{FolderFault, NotOpened};
@@ -111,7 +112,7 @@ impl<F: SegmentFile> FolderReader<F> {
     {
         let name = segment_path(rt, self.path.as_str(), lease)?;
         match fs::open(rt, name.as_str()) {
-            Ok(file) => bytes_of(rt.alloc(), &file, capacity),
+            Ok(file) => bytes_of(rt.alloc(), &file, capacity, &mut nothing()),
             Err(error) if error.kind() == ErrorKind::NotFound => {
                 Ok(Vec::with_capacity(rt.alloc(), capacity as usize)?)
             }

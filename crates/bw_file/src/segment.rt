@@ -1,9 +1,12 @@
 // A segment in a file, and what it shares with its folder.
-ghost use Rattle.std.specs.Prelude.{◌≡◌, ◌+◌, ◌<◌, ◌≤◌, length, take, drop, OnOk, OnErr, IfOk, IfSome, IsOk, IsSome};
+ghost use Rattle.std.specs.Prelude.{◌≡◌, ◌+◌, ◌++◌, ◌<◌, ◌≤◌, List, ℕ, length, take, drop, OnOk, OnErr, IfOk, IfSome, IsOk, IsSome};
 ghost use Rattle.bw_device.specs.Memory.{memory_holding};
+ghost use Rattle.bw_device.specs.declared.memory.TheConstants.{MAX_CAPACITY};
 ghost use Rattle.bw_digest.specs.Rows.{reach};
+ghost use Rattle.bw_file.specs.Asked.{append_calls, after_all, empty, IsBrokenOff, IsKept};
 
-use crate::files::{Pair, SegmentFile};
+use crate::asked::{Asked, Pair, sync_bytes, write_bytes};
+use crate::files::SegmentFile;
 use crate::sums::note;
 use bw_device::{Fault, MemSegment, Segment};
 use bw_digest::Row;
@@ -74,21 +77,34 @@ pub struct FileSegment<F = File> {
     shared: Arc<Shared<F>>,
     /// How many appends have failed.
     failed: u64,
+    /// What was asked of its files.
+    asked: Asked,
     ghost noted: { (reach row).end ≡ length (memory_holding copy).bytes },
+    /// If the disk does its duty, the file begins with the held bytes.
+    ghost given: { take (length (memory_holding copy).bytes) (after_all empty asked.value).given
+        ≡ (memory_holding copy).bytes },
+    /// It does so after a stop too.
+    ghost stands: { take (length (memory_holding copy).bytes) (after_all empty asked.value).stands
+        ≡ (memory_holding copy).bytes },
 }
 
 impl<F: SegmentFile> FileSegment<F> {
-    ghost use Rattle.bw_file.specs.FileHolding.{file_holding};
+    ghost use Rattle.bw_file.specs.FileHolding.{file_holding, asked_of};
 
-    /// Over a file that holds what the copy has, of which this row of sums speaks.
+    /// Over a file that holds what the copy has, by what was asked of it, and of which this row of
+    /// sums speaks.
     pub(crate) fn over(
         copy: MemSegment,
         files: Place<F>,
         row: Row,
         shared: Arc<Shared<F>>,
+        asked: Asked,
     ) -> FileSegment<F>
-        requires { (reach row).end ≡ length (memory_holding copy).bytes }
-        ensures { file_holding result ≡ memory_holding copy }
+        requires noted { (reach row).end ≡ length (memory_holding copy).bytes }
+        requires given { (after_all empty asked.value).given ≡ (memory_holding copy).bytes }
+        requires stands { (after_all empty asked.value).stands ≡ (memory_holding copy).bytes }
+        ensures holding { file_holding result ≡ memory_holding copy }
+        ensures asked { asked_of result ≡ asked.value }
     {
         FileSegment {
             copy,
@@ -96,30 +112,43 @@ impl<F: SegmentFile> FileSegment<F> {
             row,
             shared,
             failed: 0,
+            asked,
         }
     }
+}
 
-    // Writes the piece after what the file holds, waits until the system says it is there, and then
-    // writes its sum, for which nobody waits. No clause sees what this does to the files: it is the
-    // one function to be read with care.
-    fn write_through(&self, piece: &[u8]) -> io::Result<Row>
-        requires { length (file_holding self.now).bytes + length piece.now ≤
-            (file_holding self.now).room }
-        ensures { IfOk result
-            (λ row. (reach row).end ≡ length (file_holding self.now).bytes + length piece.now) }
-    {
-        let (true, Some(files)) = (self.shared.is_open(), self.files.get()) else {
-            return Err(io::Error::from(ErrorKind::Other));
-        };
-        files.file.write_all_at(piece, self.copy.len())?;
-        files.file.sync_data()?;
-        note(&files.sums, self.row, piece)
-    }
+// The files that may be appended to: there are none as long as no segment may be.
+fn open_files<'a, F: SegmentFile>(shared: &Shared<F>, files: &'a Place<F>) -> Option<&'a Pair<F>> {
+    if shared.is_open() { files.get() } else { None }
+}
+
+// Writes the piece from this offset on, waits until the system says it is there, and then writes
+// its sum after those of the row, for which nobody waits.
+fn write_through<F: SegmentFile>(
+    files: Option<&Pair<F>>,
+    at: u64,
+    row: Row,
+    piece: &[u8],
+    asked: &mut Asked,
+) -> io::Result<Row>
+    requires { (reach row).end + length piece.now ≤ MAX_CAPACITY }
+    ensures end { IfOk result (λ new. (reach new).end ≡ (reach row).end + length piece.now) }
+    ensures asked { OnOk result (asked.new.value ≡ asked.old.value
+        ++ append_calls at (reach row) piece.now) }
+    ensures broken { OnErr result
+        (IsBrokenOff (append_calls at (reach row) piece.now) asked.old.value asked.new.value) }
+{
+    let Some(files) = files else {
+        return Err(io::Error::from(ErrorKind::Other));
+    };
+    write_bytes(files, at, piece, asked)?;
+    sync_bytes(files, asked)?;
+    note(files, row, piece, asked)
 }
 
 impl<F: SegmentFile + Send + Sync> Segment for FileSegment<F> {
     ghost use Rattle.bw_device.specs.Holding.{appended, failed_once};
-    ghost use Rattle.bw_file.specs.FileHolding.{file_holding};
+    ghost use Rattle.bw_file.specs.FileHolding.{file_holding, asked_of, sums_of};
 
     ghost holding = { file_holding };
 
@@ -138,9 +167,20 @@ impl<F: SegmentFile + Send + Sync> Segment for FileSegment<F> {
             (file_holding self.new ≡ appended (file_holding self.old) piece.now) }
         ensures failed { OnErr result
             (file_holding self.new ≡ failed_once (file_holding self.old)) }
+
+        // What was asked of the files: all of it before the answer.
+        ensures asked { OnOk result (asked_of self.new ≡ asked_of self.old
+            ++ append_calls (length (file_holding self.old).bytes) (sums_of self.old) piece.now) }
+        ensures broken { OnErr result (IsBrokenOff
+            (append_calls (length (file_holding self.old).bytes) (sums_of self.old) piece.now)
+            (asked_of self.old) (asked_of self.new)) }
+        ensures kept { (file : List ℕ) → IsKept (asked_of self.new) file →
+            take (length (file_holding self.new).bytes) file ≡ (file_holding self.new).bytes }
     {
         // The copy is changed last, so that an append that fails leaves it as it was.
-        let Ok(row) = self.write_through(piece) else {
+        let files = open_files(&self.shared, &self.files);
+        let at = self.copy.len();
+        let Ok(row) = write_through(files, at, self.row, piece, &mut self.asked) else {
             self.shared.close();
             self.failed += 1;
             return Err(Fault);

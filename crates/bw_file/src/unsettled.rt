@@ -1,7 +1,7 @@
 // Segments over the files that are there. Each file is opened, locked, read and checked once;
 // nothing is made, and nothing is written before whoever opens them says that what was read is a
 // store, and settles it. Up to then no segment of the folder is appended to.
-ghost use Rattle.std.specs.Prelude.{◌≡◌, ◌≢◌, ◌≤◌, ◌<◌, ◌⊎◌, ◌↔◌, ◌-◌, ◌*◌, length, drop, max, IfOk, IfErr, IsErrAnd, MatchOption};
+ghost use Rattle.std.specs.Prelude.{◌≡◌, ◌≢◌, ◌≤◌, ◌<◌, ◌⊎◌, ◌↔◌, ◌-◌, ◌*◌, ◌∷◌, ◌++◌, [], ℕ, true, is_some, length, drop, map, max, IfOk, IfErr, OnOk, OnErr, IsErrAnd, MatchOption};
 ghost use Rattle.std.specs.Vec.{vec_capacity};
 ghost use Rattle.bw_device.specs.Leases.{number_of};
 ghost use Rattle.bw_device.specs.declared.memory.TheConstants.{MAX_CAPACITY};
@@ -10,11 +10,16 @@ ghost use Rattle.bw_digest.specs.Sums.{sum_of};
 ghost use Rattle.bw_digest.specs.declared.sum.TheConstants.{SUM_LEN};
 ghost use Rattle.bw_file.specs.declared.unsettled.TheConstants.{LAST};
 ghost use Rattle.bw_file.specs.declared.refusals.FolderFault.TheVariants.{BadConfig};
-ghost use Rattle.bw_file.specs.FileHolding.{file_holding, IsOpened};
+ghost use Rattle.bw_file.specs.Asked.{Bytes, Find, Names, done, IsFound, IsCutOff};
+ghost use Rattle.bw_file.specs.Settled.{calls_of, all_calls, settle_calls, owed_after, IsOwed};
+ghost use Rattle.bw_file.specs.Written.{IsSettledAgain};
+ghost use Rattle.bw_file.specs.FileHolding.{file_holding, asked_of, folder_asked, waiting_of, owed_of, owes, asked_in, IsOpened};
 
-use crate::files::{Pair, SegmentFile, bytes_of, copy_of, with_capacity};
+use crate::asked::{Asked, Done, FolderAsked, Pair, add, find, nothing, nothing_yet, sync_names};
+use crate::files::{SegmentFile, bytes_of, copy_of, with_capacity};
 use crate::folder::Folder;
 use crate::names::{lock_path, segment_path, sums_path};
+use crate::paying::{pay, pay_again};
 use crate::refusals::{FolderFault, NotOpened};
 use crate::segment::{FileSegment, Place, Shared};
 use crate::sums::{checked, filled_up, sums_of};
@@ -29,7 +34,7 @@ use std::sync::{Arc, OnceLock};
 
 // So many bytes at the end of a file are written once more, if they have no sum: no append is
 // longer, a header or the longest frame.
-const LAST: usize = 262_168;
+pub(crate) const LAST: usize = 262_168;
 
 /// What is owed to a segment that was opened, and its files. The folder keeps both until they are
 /// settled, for the segment is in a log by then.
@@ -47,17 +52,17 @@ pub(crate) struct Unsettled<F> {
 
 /// What is written into the files of a segment once recovery has taken it.
 #[derive(Drop)]
-struct Owed {
+pub(crate) struct Owed {
     /// Where the end begins that is written again, in bytes.
-    from: u64,
+    pub(crate) from: u64,
     /// That end: bytes that no sum speaks of, so maybe nobody has waited for them.
-    end: Vec<u8>,
+    pub(crate) end: Vec<u8>,
     /// How many bytes of sums there are.
-    held: u64,
+    pub(crate) held: u64,
     /// How many of them count.
-    counted: u64,
+    pub(crate) counted: u64,
     /// The sum of the bytes that had none.
-    sum: Option<Sum>,
+    pub(crate) sum: Option<Sum>,
 }
 
 /// What was read of a segment's files, and what it shares with its folder.
@@ -68,6 +73,8 @@ struct Read<F> {
     row: Row,
     place: Place<F>,
     shared: Arc<Shared<F>>,
+    /// What was asked of the files.
+    asked: Asked,
 }
 
 // Where a segment will find its files.
@@ -81,7 +88,7 @@ fn no_files<F: SegmentFile>(alloc: Global) -> Result<Place<F>, FolderFault>
 }
 
 // The file of this name, to be read and written, if it is there.
-fn found<R: AllocGlobal + Files<File = F>, F: SegmentFile>(
+pub(crate) fn found<R: AllocGlobal + Files<File = F>, F: SegmentFile>(
     rt: &R,
     name: &str,
 ) -> io::Result<Option<F>> {
@@ -96,10 +103,13 @@ fn found<R: AllocGlobal + Files<File = F>, F: SegmentFile>(
 fn found_alone<R: AllocGlobal + Files<File = F>, F: SegmentFile>(
     rt: &R,
     name: &str,
+    asked: &mut Asked,
 ) -> Result<Option<F>, FolderFault>
+    ensures found { IfOk result (λ file. asked.new.value
+        ≡ asked.old.value ++ done Bytes (Find (is_some file)) ∷ []) }
     ensures cause { IfErr result (λ cause. cause ≢ BadConfig) }
 {
-    match found(rt, name)? {
+    match find(rt, name, asked)? {
         Some(file) => {
             file.lock_alone()?;
             Ok(Some(file))
@@ -133,13 +143,16 @@ fn bytes_in<F: SegmentFile>(
     alloc: Global,
     file: &Option<F>,
     capacity: u64,
+    asked: &mut Asked,
 ) -> Result<Vec<u8>, FolderFault>
+    requires { asked.old.value ≡ done Bytes (Find (is_some file.now)) ∷ [] }
+    ensures found { IfOk result (λ bytes. IsFound bytes.items asked.new.value) }
     ensures within { IfOk result (λ bytes. length bytes.items ≤ MAX_CAPACITY) }
     ensures room { IfOk result (λ bytes. capacity ≤ vec_capacity bytes) }
     ensures cause { IfErr result (λ cause. cause ≢ BadConfig) }
 {
     match file {
-        Some(file) => bytes_of(alloc, file, capacity),
+        Some(file) => bytes_of(alloc, file, capacity, asked),
         None => Ok(Vec::with_capacity(alloc, capacity as usize)?),
     }
 }
@@ -171,6 +184,8 @@ fn owed_to(alloc: Global, bytes: &[u8], held: u64, row: Row) -> Result<(Owed, Ro
         (λ sum. sum ≡ sum_of (reach row) (drop (reach row).end bytes.now))) }
     ensures stands { IfOk result (λ owed. owed.0.held ≡ held) }
     ensures counted { IfOk result (λ owed. owed.0.counted ≡ (reach row).count * SUM_LEN) }
+    ensures owed { IfOk result (λ owed. (lease : ℕ) →
+        owed_of lease owed.0 ≡ owed_after lease bytes.now held (reach row)) }
     ensures cause { IfErr result (λ cause. cause ≢ BadConfig) }
 {
     let from = bytes.len().saturating_sub(LAST).max(row.end() as usize);
@@ -185,21 +200,6 @@ fn owed_to(alloc: Global, bytes: &[u8], held: u64, row: Row) -> Result<(Owed, Ro
         sum,
     };
     Ok((owed, full))
-}
-
-// Pays it. The end stands before its sum is written, for which nobody waits, as in an append.
-fn pay<F: SegmentFile>(files: &Pair<F>, owed: &Owed) -> io::Result<()> {
-    if !owed.end.is_empty() {
-        files.file.write_all_at(&owed.end, owed.from)?;
-        files.file.sync_all()?;
-    }
-    if owed.held != owed.counted {
-        files.sums.set_len(owed.counted)?;
-    }
-    if let Some(sum) = owed.sum {
-        files.sums.write_all_at(&sum.to_bytes(), owed.counted)?;
-    }
-    Ok(())
 }
 
 // Makes the files of a segment that are missing in the folder of this path.
@@ -218,7 +218,7 @@ fn completed<R: AllocGlobal + Files<File = F>, F: SegmentFile>(
         Some(sums) => sums,
         None => made(rt, sums_path(rt, path, lease)?.as_str())?,
     };
-    Ok(Pair { file, sums })
+    Ok(Pair::new(file, sums))
 }
 
 // Makes what is missing of a segment, pays what is owed to it, and shows it its files.
@@ -226,7 +226,11 @@ fn settle<R: AllocGlobal + Files<File = F>, F: SegmentFile>(
     rt: &R,
     path: &str,
     one: Unsettled<F>,
-) -> Result<(), FolderFault> {
+    all: &mut FolderAsked,
+) -> Result<(), FolderFault>
+    ensures asked { OnOk result (all.new.value ≡ all.old.value ++ calls_of (owes one)) }
+    ensures cut { OnErr result (IsCutOff (calls_of (owes one)) all.old.value all.new.value) }
+{
     let Unsettled {
         lease,
         file,
@@ -235,7 +239,10 @@ fn settle<R: AllocGlobal + Files<File = F>, F: SegmentFile>(
         place,
     } = one;
     let files = completed(rt, path, lease, file, sums)?;
-    pay(&files, &owed)?;
+    let mut asked = nothing();
+    let paid = pay(&files, &owed, &mut asked);
+    add(all, lease, &asked);
+    paid?;
     match place.try_set(files) {
         Ok(_) => Ok(()),
         // Nobody else sets it.
@@ -248,9 +255,15 @@ fn settle_all<R: AllocGlobal + Files<File = F>, F: SegmentFile>(
     rt: &R,
     path: &str,
     waiting: Vec<Unsettled<F>>,
-) -> Result<(), FolderFault> {
+    all: &mut FolderAsked,
+) -> Result<(), FolderFault>
+    ensures asked { OnOk result
+        (all.new.value ≡ all.old.value ++ all_calls (map owes waiting.items)) }
+    ensures cut { OnErr result
+        (IsCutOff (all_calls (map owes waiting.items)) all.old.value all.new.value) }
+{
     for one in waiting {
-        settle(rt, path, one)?;
+        settle(rt, path, one, all)?;
     }
     Ok(())
 }
@@ -262,11 +275,14 @@ impl<F: SegmentFile> Folder<F> {
     pub fn open_again<R: AllocGlobal + Files<File = F>>(
         rt: &R,
         path: &str,
-    ) -> Result<Folder<F>, FolderFault> {
+    ) -> Result<Folder<F>, FolderFault>
+        ensures asked { IfOk result (λ folder. folder_asked folder ≡ []) }
+        ensures none { IfOk result (λ folder. waiting_of folder ≡ []) }
+    {
         let name = lock_path(rt, path)?;
         let itself = fs::open(rt, path)?;
         let lock = OpenOptions::new().write(true).open(rt, name.as_str())?;
-        Folder::locked(rt.alloc(), path, itself, lock)
+        Folder::locked(rt.alloc(), path, itself, lock, nothing_yet())
     }
 
     // The bytes of the files of this lease, which fit their sums, in a list that has room for so
@@ -281,13 +297,19 @@ impl<F: SegmentFile> Folder<F> {
         ensures within { IfOk result (λ read. length read.bytes.items ≤ MAX_CAPACITY) }
         ensures room { IfOk result (λ read. capacity ≤ vec_capacity read.bytes) }
         ensures noted { IfOk result (λ read. (reach read.row).end ≡ length read.bytes.items) }
+        ensures found { IfOk result (λ read. IsFound read.bytes.items read.asked.value) }
+        ensures waits { IfOk result (λ read.
+            IsOwed lease read.bytes.items (waiting_of self.old) (waiting_of self.new)) }
+        ensures still { OnErr result (waiting_of self.new ≡ waiting_of self.old) }
+        ensures asked { folder_asked self.new ≡ folder_asked self.old }
         ensures cause { IfErr result (λ cause. cause ≢ BadConfig) }
     {
         let name = segment_path(rt, self.path.as_str(), lease)?;
         let beside = sums_path(rt, self.path.as_str(), lease)?;
-        let file = found_alone(rt, name.as_str())?;
+        let mut asked = nothing();
+        let file = found_alone(rt, name.as_str(), &mut asked)?;
         let sums = found(rt, beside.as_str())?;
-        let bytes = bytes_in(rt.alloc(), &file, capacity)?;
+        let bytes = bytes_in(rt.alloc(), &file, capacity, &mut asked)?;
         let told = rows_in(rt.alloc(), &sums)?;
         let row = checked(lease, &bytes, &told)?;
         let (owed, row) = owed_to(rt.alloc(), &bytes, told.len() as u64, row)?;
@@ -308,6 +330,7 @@ impl<F: SegmentFile> Folder<F> {
             row,
             place,
             shared,
+            asked,
         })
     }
 
@@ -326,6 +349,13 @@ impl<F: SegmentFile> Folder<F> {
         capacity: u64,
     ) -> Result<FileSegment<F>, NotOpened>
         ensures opened { IfOk result (λ s. IsOpened (number_of lease) capacity (file_holding s)) }
+        ensures found { IfOk result (λ s. IsFound (file_holding s).bytes (asked_of s)) }
+
+        // What a settlement will ask.
+        ensures waits { IfOk result (λ s. IsOwed (number_of lease) (file_holding s).bytes
+            (waiting_of self.old) (waiting_of self.new)) }
+        ensures still { OnErr result (waiting_of self.new ≡ waiting_of self.old) }
+        ensures asked { folder_asked self.new ≡ folder_asked self.old }
 
         ensures bad_config { IsErrAnd result (λ e. e.cause ≡ BadConfig) ↔
             ((capacity ≡ 0) ⊎ (MAX_CAPACITY < capacity)) }
@@ -337,23 +367,31 @@ impl<F: SegmentFile> Folder<F> {
             row,
             place,
             shared,
+            asked,
         } = match self.read(rt, lease.number(), capacity) {
             Ok(read) => read,
             Err(cause) => return Err(NotOpened { lease, cause }),
         };
         let copy = copy_of(lease, capacity, bytes);
         shared.wait();
-        Ok(FileSegment::over(copy, place, row, shared))
+        Ok(FileSegment::over(copy, place, row, shared, asked))
     }
 
     // Settles what waits, and waits until the names stand.
     fn settle_waiting<R: AllocGlobal + Files<File = F>>(
         &mut self,
         rt: &R,
-    ) -> Result<(), FolderFault> {
+    ) -> Result<(), FolderFault>
+        ensures asked { OnOk result (folder_asked self.new
+            ≡ folder_asked self.old ++ settle_calls (waiting_of self.old)) }
+        ensures cut { OnErr result (IsCutOff (settle_calls (waiting_of self.old))
+            (folder_asked self.old) (folder_asked self.new)) }
+        ensures none { waiting_of self.new ≡ [] }
+    {
         let waiting = mem::replace(&mut self.waiting, Vec::new(rt.alloc()));
-        settle_all(rt, self.path.as_str(), waiting)?;
-        self.settle_names()
+        settle_all(rt, self.path.as_str(), waiting, &mut self.asked)?;
+        sync_names(&self.itself, &mut self.asked)?;
+        Ok(())
     }
 
     /// Settles all segments that were opened, once recovery has taken them. It makes the files that
@@ -363,7 +401,13 @@ impl<F: SegmentFile> Folder<F> {
     ///
     /// Refused, no segment of the folder is ever appended to: it is to be dropped, and opened
     /// again.
-    pub fn settle<R: AllocGlobal + Files<File = F>>(&mut self, rt: &R) -> Result<(), FolderFault> {
+    pub fn settle<R: AllocGlobal + Files<File = F>>(&mut self, rt: &R) -> Result<(), FolderFault>
+        ensures asked { OnOk result (folder_asked self.new
+            ≡ folder_asked self.old ++ settle_calls (waiting_of self.old)) }
+        ensures cut { OnErr result (IsCutOff (settle_calls (waiting_of self.old))
+            (folder_asked self.old) (folder_asked self.new)) }
+        ensures none { waiting_of self.new ≡ [] }
+    {
         match self.settle_waiting(rt) {
             Ok(()) => {
                 self.shared.go_on();
@@ -378,7 +422,10 @@ impl<F: SegmentFile> Folder<F> {
 
     /// Lets go of the files of all segments that are not settled. Nothing is written, and none of
     /// them is ever appended to.
-    pub fn forget(&mut self) {
+    pub fn forget(&mut self)
+        ensures none { waiting_of self.new ≡ [] }
+        ensures asked { folder_asked self.new ≡ folder_asked self.old }
+    {
         self.waiting.clear();
     }
 
@@ -388,7 +435,9 @@ impl<F: SegmentFile> Folder<F> {
         &self,
         rt: &R,
         lease: u32,
-    ) -> Result<(), FolderFault> {
+    ) -> Result<Done, FolderFault>
+        ensures asked { IfOk result (λ done. IsSettledAgain lease (asked_in done)) }
+    {
         let name = segment_path(rt, self.path.as_str(), lease)?;
         let beside = sums_path(rt, self.path.as_str(), lease)?;
         let file = OpenOptions::new()
@@ -399,20 +448,20 @@ impl<F: SegmentFile> Folder<F> {
             .read(true)
             .write(true)
             .open(rt, beside.as_str())?;
-        let length = file.metadata()?.len();
-        let from = length.saturating_sub(LAST as u64);
-        let mut end = vec![in rt.alloc(); 0u8; (length - from) as usize]?;
-        file.read_exact_at(&mut end, from)?;
-        file.write_all_at(&end, from)?;
-        file.sync_all()?;
-        sums.sync_all()?;
-        Ok(())
+        let mut asked = nothing();
+        pay_again(rt.alloc(), &Pair::new(file, sums), &mut asked)?;
+        let mut all = nothing_yet();
+        add(&mut all, lease, &asked);
+        Ok(Done { asked: all })
     }
 
     /// Waits until the names of the folder's files stand on the disk.
-    pub fn settle_names(&self) -> Result<(), FolderFault> {
-        self.itself.sync_all()?;
-        Ok(())
+    pub fn settle_names(&self) -> Result<Done, FolderFault>
+        ensures asked { IfOk result (λ done. asked_in done ≡ Names true ∷ []) }
+    {
+        let mut asked = nothing_yet();
+        sync_names(&self.itself, &mut asked)?;
+        Ok(Done { asked })
     }
 
     /// How many bytes the longest file of these leases has.

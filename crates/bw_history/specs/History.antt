@@ -59,7 +59,7 @@ abbrev pub ends_in : List Entry → ℕ
 ends_in [] = 0
 ends_in (e ∷ es) = (if e.more then 0 else 1) + ends_in es
 
--- how many of this writer end in these entries
+-- how many groups of this writer end in these entries
 abbrev pub groups_of : ℕ → List Entry → ℕ
 groups_of w [] = 0
 groups_of w (e ∷ es) = (if e.writer == w then (if e.more then 0 else 1) else 0) + groups_of w es

@@ -54,6 +54,6 @@ KnowMore old new = (i : ℕ) → length (known_at old i) ≤ length (known_at ne
 abbrev pub only_at : ℕ → ℕ → ℕ
 only_at at i = if at == i then 1 else 0
 
--- so they do, but that this lane gave one of those of which it knew
+-- each lane but this one knows of as many groups as before, at least; this one may have given one
 abbrev pub KnowAfter : ℕ → List Lane → List Lane → Type 0
 KnowAfter at old new = (i : ℕ) → length (known_at old i) ≤ only_at at i + length (known_at new i)

@@ -1,4 +1,5 @@
--- A home that was just opened: what it is opened with, and that nothing was put and nothing was taken yet.
+-- A home that was just opened: what it is opened with, and that nothing was put and nothing was
+-- taken yet.
 
 use Rattle.std.specs.Prelude.{ℕ, ◌≡◌, List, [], length, map, replicate}
 use Rattle.std.specs.declared.dyn_box.DynBox.{DynBox}

@@ -39,7 +39,8 @@ ABegunHomeIsAMap = (feeds : List Feed) (s : Kept) → AreBegun feeds s.entries s
 abbrev pub ABegunHomeBegins : Type 0
 ABegunHomeBegins = (feeds : List Feed) (s : Kept) → AreBegun feeds s.entries s.cuts → machine_of s ≡ begun (union s.start)
 
--- recovery finds in the boxes of a home that is begun the pages that it begins with, or no store in those of a new one
+-- recovery finds in the boxes of a home that is begun the pages that it begins with, or no store in
+-- those of a new one
 abbrev pub ABegunHomeIsFound : Type 0
 ABegunHomeIsFound =
     (feeds : List Feed) (s : Kept) → AreBegun feeds s.entries s.cuts → IsSound s

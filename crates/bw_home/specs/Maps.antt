@@ -24,7 +24,8 @@ pub record Maps : Type 0 where
   pub now : Map
   -- as what is durable leaves it
   pub kept : Map
-  -- the kept map, and each that a group made since, in turn, up to what was put: if the home is a map, a stop leaves one of these
+  -- the kept map, and each that a group made since, in turn, up to what was put: if the home is a
+  -- map, a stop leaves one of these
   pub cuts : List Map
 
 -- as these entries leave it

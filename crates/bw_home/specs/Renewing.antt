@@ -1,4 +1,5 @@
--- What a cleaning of a home leaves: it renews what was given up before, cleans the store, and renews that segment too.
+-- What a cleaning of a home leaves: it renews what was given up before, cleans the store, and
+-- renews that segment too.
 
 use Rattle.std.specs.Prelude.{◌≡◌, ◌⊎◌, IfOk, Result, Ok, Err, take}
 use Rattle.bw_care.specs.declared.cleaner.Cleaned.{Cleaned}

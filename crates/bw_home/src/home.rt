@@ -12,6 +12,7 @@ ghost use Rattle.bw_history.specs.Entries.{records};
 ghost use Rattle.bw_history.specs.Lanes.{AreDry};
 ghost use Rattle.bw_history.specs.Machine.{Stops, TakesAndKeeps, TakesAndStops, TakesMany, keeps};
 ghost use Rattle.bw_walks.specs.Back.{IsLast, IsLastBelow};
+ghost use Rattle.bw_walks.specs.Shared.{with_key};
 ghost use Rattle.bw_core.specs.Faults.{FlushAnswers, FlushLeaves, flush_refusal};
 ghost use Rattle.bw_core.specs.Following.{Follows, HasBoxes, RefusedAfter, TookInTurn, Turned, groups_since};
 ghost use Rattle.bw_core.specs.Goal.{Goal, SameFeeds, Sequel};
@@ -355,6 +356,28 @@ impl Home {
         ensures stays { StaysMap self.old self.new holding }
     {
         self.store.get(key)
+    }
+
+    /// The pair of a key, with the value that `get` finds. If its page is in memory, the pair
+    /// shares its bytes with the page, and nothing is copied. As `Core::get_shared`.
+    pub fn get_shared(&mut self, key: &Key) -> Result<Option<Pair>, StoreFault>
+        requires { IsReady self.old holding }
+        ensures ready { IsReady self.new holding }
+        ensures feeds { self.new.feeds ≡ self.old.feeds }
+        ensures value { IfOk result (λ pair. pair ≡ with_key key.now
+            (finite.get (plain (kept_in self.old holding).start
+            (records (kept_in self.old holding).entries)) key.now)) }
+        ensures leaves { ReadLeaves (HoldsPage (kept_in self.old holding).log
+            (home key.now (leaves_now (kept_in self.old holding))).page)
+            (kept_in self.old holding) result (kept_in self.new holding) }
+        ensures memory { is_evicted (home key.now (leaves_now (kept_in self.old holding))).page
+            self.old.store ≡ false → IfErr result (λ fault. fault ≡ StoreFault.NoMemory) }
+        ensures read { HasRead (kept_in self.old holding) (kept_in self.new holding) }
+        ensures follows { Follows (kept_in self.old holding) (kept_in self.new holding) }
+        ensures boxes { HasBoxes (kept_in self.old holding) (kept_in self.new holding) }
+        ensures stays { StaysMap self.old self.new holding }
+    {
+        self.store.get_shared(key)
     }
 
     /// The pair with the least key at or above this one, as all that was taken leaves it, flushed

@@ -78,7 +78,8 @@ impl Home {
         ensures writers { IsErrOf result MapFault.Writers
             ↔ (length self.old.feeds.items ≡ 1 → ⊥) }
         ensures reason { IfErr result (λ fault. IsReason fault self.new.feeds.items
-            (kept_in self.old holding) (lanes_of self.new.store) (away_in self.new.store) (kept_in self.new holding)) }
+            (kept_in self.old holding) (lanes_of self.new.store) (away_in self.new.store)
+            (kept_in self.new holding)) }
         ensures follows { Follows (kept_in self.old holding) (kept_in self.new holding) }
     {
         self.change(Group::one(Record::Put(key, value)))
@@ -100,7 +101,8 @@ impl Home {
         ensures writers { IsErrOf result MapFault.Writers
             ↔ (length self.old.feeds.items ≡ 1 → ⊥) }
         ensures reason { IfErr result (λ fault. IsReason fault self.new.feeds.items
-            (kept_in self.old holding) (lanes_of self.new.store) (away_in self.new.store) (kept_in self.new holding)) }
+            (kept_in self.old holding) (lanes_of self.new.store) (away_in self.new.store)
+            (kept_in self.new holding)) }
         ensures follows { Follows (kept_in self.old holding) (kept_in self.new holding) }
     {
         self.change(Group::one(Record::Del(key)))
@@ -124,7 +126,8 @@ impl Home {
         ensures writers { IsErrOf result MapFault.Writers
             ↔ (length self.old.feeds.items ≡ 1 → ⊥) }
         ensures reason { IfErr result (λ fault. IsReason fault self.new.feeds.items
-            (kept_in self.old holding) (lanes_of self.new.store) (away_in self.new.store) (kept_in self.new holding)) }
+            (kept_in self.old holding) (lanes_of self.new.store) (away_in self.new.store)
+            (kept_in self.new holding)) }
         ensures follows { Follows (kept_in self.old holding) (kept_in self.new holding) }
     {
         let _ = group.as_slice(); // For the proof.
@@ -187,7 +190,8 @@ impl Home {
         ensures writers { IsErrOf result MapFault.Writers
             ↔ (length self.old.feeds.items ≡ 1 → ⊥) }
         ensures reason { IfErr result (λ fault. IsReason fault self.new.feeds.items
-            (kept_in self.old holding) (lanes_of self.new.store) (away_in self.new.store) (kept_in self.new holding)) }
+            (kept_in self.old holding) (lanes_of self.new.store) (away_in self.new.store)
+            (kept_in self.new holding)) }
         ensures follows { Follows (kept_in self.old holding) (kept_in self.new holding) }
     {
         if self.feeds.len() != 1 {

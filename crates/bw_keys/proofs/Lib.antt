@@ -1,1 +1,6 @@
-pub mod Wanted
+pub mod WantedKeys
+pub mod Stretches
+pub mod Written
+pub mod Loading
+pub mod Waiting
+pub mod AsRead

@@ -1,6 +1,6 @@
 -- What pages are asked: how many keys of a stretch they have, and the values of keys.
 
-use Rattle.std.specs.Prelude.{ℕ, ◌-◌, ◌^◌, min, List, count_by, sum_by, map, length, Option, Some, None, if◌then◌else◌}
+use Rattle.std.specs.Prelude.{ℕ, ◌-◌, ◌^◌, min, List, count_by, sum_by, map, Option, Some, None, if◌then◌else◌}
 use Rattle.std.specs.FinMap as finite
 use Rattle.bw_record.specs.declared.leaf.Leaf.{Leaf}
 use Rattle.bw_page.specs.Leaves.{leaf_at, union}
@@ -11,12 +11,12 @@ use Rattle.bw_keys.specs.Spans.{is_wanted, has_all}
 abbrev pub count_in : Span → Leaf → ℕ
 count_in span leaf = count_by (λ p. is_wanted span p.0) leaf.pairs
 
--- the same of a page that may not be there
+-- of a page that may not be there: none if it is not
 abbrev pub count_if : Span → Option Leaf → ℕ
 count_if span None = 0
 count_if span (Some leaf) = count_in span leaf
 
--- the same of the page of a number
+-- how many keys of the page of a number are wanted
 abbrev pub count_at : Span → List Leaf → ℕ → ℕ
 count_at span leaves number = count_if span (leaf_at number leaves)
 

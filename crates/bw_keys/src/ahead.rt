@@ -1,5 +1,6 @@
 //! Room for a call that writes many groups, and looks at the spares only before the first of them.
 
+ghost use Rattle.std.specs.Prelude.{◌≡◌};
 ghost use Rattle.bw_home.specs.Ready.{IsReady};
 
 use crate::full::{Admission, Full, is_asked_again};
@@ -29,7 +30,8 @@ impl Tending {
     /// what a cleaning wants.
     fn has_room_to_delete(&mut self, home: &mut Home, bytes: u64) -> Result<bool, HomeFault>
         requires { IsReady home.old holding }
-        ensures { IsReady home.new holding }
+        ensures ready { IsReady home.new holding }
+        ensures feeds { home.new.feeds ≡ home.old.feeds }
     {
         let Some(full) = self.full else {
             return Ok(false);
@@ -50,7 +52,8 @@ impl Tending {
     /// Whether a call that only deletes may be done in a log in which no room can be made.
     fn admits_delete(&mut self, home: &mut Home, bytes: u64) -> Result<Admission, HomeFault>
         requires { IsReady home.old holding }
-        ensures { IsReady home.new holding }
+        ensures ready { IsReady home.new holding }
+        ensures feeds { home.new.feeds ≡ home.old.feeds }
     {
         if self.has_room_to_delete(home, bytes)? {
             Ok(Admission::Yes)
@@ -77,7 +80,8 @@ impl Tending {
         wanted: u64,
     ) -> Result<bool, HomeFault>
         requires { IsReady home.old holding }
-        ensures { IsReady home.new holding }
+        ensures ready { IsReady home.new holding }
+        ensures feeds { home.new.feeds ≡ home.old.feeds }
     {
         if !self.tries(home, wanted) {
             return Ok(false);
@@ -97,7 +101,8 @@ impl Tending {
         deletes: bool,
     ) -> Result<Admission, HomeFault>
         requires { IsReady home.old holding }
-        ensures { IsReady home.new holding }
+        ensures ready { IsReady home.new holding }
+        ensures feeds { home.new.feeds ≡ home.old.feeds }
     {
         let wanted = self.wanted(home, bytes);
         if u64::from(home.store.spares()) >= wanted {

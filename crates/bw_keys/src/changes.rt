@@ -8,7 +8,7 @@ use crate::leases::leases_of;
 use crate::load::{Load, Wanted};
 use crate::pages::check_store;
 use crate::plan::{Plan, planned};
-use crate::records::{Records, Single};
+use crate::records::{Input, Records, Single};
 use crate::span::Span;
 use crate::tending::Tending;
 use bw_codec::{Key, Record};
@@ -147,9 +147,7 @@ pub fn put<R: System, W: Watch>(
     record: Record,
     watch: &mut W,
 ) -> Result<Changed, KeysFault> {
-    let mut records = Single {
-        record: Some(record),
-    };
+    let mut records = Single::new(record);
     let options = options(None, None);
     let _ = load(
         rt,
@@ -182,7 +180,7 @@ pub fn del<R: System, W: Watch>(
     watch: &mut W,
 ) -> Result<Changed, KeysFault> {
     check_store(rt, dir)?;
-    let mut records = Named { keys };
+    let mut records = Named::new(keys);
     let options = options(None, None);
     let stored = load(
         rt,
@@ -260,7 +258,7 @@ fn load_pairs<R: System, I: Read, W: Watch>(
     let all = input_bytes(rt, watch);
     let options = options(wanted.capacity, wanted.memory);
     let pairs = pairs_of(rt, input, wanted)?;
-    let mut records = Filling::new(rt.alloc(), pairs, options.pairs_a_page);
+    let mut records = Filling::new(rt.alloc(), Input::new(pairs), options.pairs_a_page);
     let which = wanted_by(effect);
     let stored = load(rt, dir, leases, &options, &mut records, which, all, watch);
     let count = match stored.end {
@@ -270,7 +268,7 @@ fn load_pairs<R: System, I: Read, W: Watch>(
     let Skipped {
         count: skipped,
         first,
-    } = records.into_records().skipped();
+    } = records.into_records().into_pairs().skipped();
     Ok(Changed::Loaded(Loaded {
         effect,
         count,

@@ -1,6 +1,7 @@
 //! A log in which no room can be made: puts are refused while there is still room for deletes, for
 //! a flush of what was taken, and for a cleaning.
 
+ghost use Rattle.std.specs.Prelude.{◌≡◌};
 ghost use Rattle.bw_home.specs.Ready.{IsReady};
 
 use crate::measure::taken;
@@ -63,7 +64,8 @@ impl Tending {
     /// is left of the newest segment, or of a spare, but for what a cleaning wants.
     fn room_to_delete(&mut self, home: &mut Home) -> Result<u64, HomeFault>
         requires { IsReady home.old holding }
-        ensures { IsReady home.new holding }
+        ensures ready { IsReady home.new holding }
+        ensures feeds { home.new.feeds ≡ home.old.feeds }
     {
         match home.flush() {
             Ok(Some(_)) => self.has_flushed = true,
@@ -85,7 +87,8 @@ impl Tending {
     /// How many bytes deletes may still add.
     pub(crate) fn left_to_delete(&mut self, home: &mut Home, full: Full) -> Result<u64, HomeFault>
         requires { IsReady home.old holding }
-        ensures { IsReady home.new holding }
+        ensures ready { IsReady home.new holding }
+        ensures feeds { home.new.feeds ≡ home.old.feeds }
     {
         match full.left {
             Some(left) => Ok(left),
@@ -101,7 +104,8 @@ impl Tending {
         group: &Group,
     ) -> Result<bool, HomeFault>
         requires { IsReady home.old holding }
-        ensures { IsReady home.new holding }
+        ensures ready { IsReady home.new holding }
+        ensures feeds { home.new.feeds ≡ home.old.feeds }
     {
         let Some(bytes) = bytes_of_deletes(group) else {
             return Ok(false);
@@ -122,7 +126,8 @@ impl Tending {
         full: Full,
     ) -> Result<Admission, HomeFault>
         requires { IsReady home.old holding }
-        ensures { IsReady home.new holding }
+        ensures ready { IsReady home.new holding }
+        ensures feeds { home.new.feeds ≡ home.old.feeds }
     {
         if !is_asked_again(home, full) {
             return Ok(Admission::No);
@@ -146,7 +151,8 @@ impl Tending {
         group: &Group,
     ) -> Result<Admission, HomeFault>
         requires { IsReady home.old holding }
-        ensures { IsReady home.new holding }
+        ensures ready { IsReady home.new holding }
+        ensures feeds { home.new.feeds ≡ home.old.feeds }
     {
         let Some(full) = self.full else {
             return Ok(Admission::Yes);

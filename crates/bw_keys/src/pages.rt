@@ -1,14 +1,17 @@
 //! The pages of a folder that is only looked at, as recovery finds them.
 
-ghost use Rattle.std.specs.Prelude.{◌≡◌};
+ghost use Rattle.std.specs.Prelude.{◌≡◌, None, IfOk, IfSome};
+ghost use Rattle.bw_page.specs.Ahead.{IsNextLow};
+ghost use Rattle.bw_page.specs.Leaves.{union};
+ghost use Rattle.bw_keys.specs.Stretches.{stretch, stretch_on, HasNoneWanted};
 ghost use Rattle.bw_keys.specs.Asked.{count_in};
 
 use crate::fault::KeysFault;
 use crate::span::Span;
 use bw_beside::{Ask, Asked};
 use bw_care::recover;
-use bw_codec::Leaf;
 use bw_codec::limits::{HEADER_LEN, MAX_FRAME};
+use bw_codec::{Key, Leaf};
 use bw_device::{Desk, MemSegment, Segment};
 use bw_file::{FolderFault, FolderReader};
 use bw_home::{HomeFault, System};
@@ -164,20 +167,31 @@ pub(crate) fn ask_if_there<R: System, W: Watch, A: Ask<W>>(
     }
 }
 
+/// The low of the page after that of a key, if it may have wanted keys.
+fn next_low(leaves: &Leaves, span: &Span, key: &Key) -> Option<Key>
+    ensures some { IfSome result (λ low. IsNextLow leaves.now.leaves key.now low) }
+    ensures none { result ≡ None → HasNoneWanted span.now leaves.now.leaves key.now }
+{
+    let low = leaves.low_above(key)?;
+    if span.is_over(low.as_slice()) {
+        return None;
+    }
+    Some(low)
+}
+
 /// The numbers of the pages that may have wanted keys, in the order of their keys.
-pub(crate) fn pages_over(
-    alloc: Global,
-    leaves: &Leaves,
-    span: &Span,
-) -> Result<Vec<u32>, KeysFault> {
+pub(crate) fn pages_over(alloc: Global, leaves: &Leaves, span: &Span) -> Result<Vec<u32>, KeysFault>
+    ensures { IfOk result (λ numbers. stretch_on span.now leaves.now.leaves numbers.items
+        ≡ stretch span.now (union leaves.now.leaves)) }
+{
     let mut pages = Vec::new(alloc);
     let mut key = span.start_key();
     pages.push(leaves.find(&key))?;
     for _ in 0..leaves.count() {
-        match leaves.low_above(&key) {
-            Some(low) if !span.is_over(low.as_slice()) => key = low,
-            _ => break,
-        }
+        let Some(low) = next_low(leaves, span, &key) else {
+            return Ok(pages);
+        };
+        key = low;
         pages.push(leaves.find(&key))?;
     }
     Ok(pages)

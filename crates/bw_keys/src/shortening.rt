@@ -2,6 +2,7 @@
 //! pages that were split. Each segment in turn is given up, so that only whole pages are left, as
 //! the next opening wants them.
 
+ghost use Rattle.std.specs.Prelude.{◌≡◌};
 ghost use Rattle.bw_home.specs.Ready.{IsReady};
 
 use crate::tending::Tending;
@@ -25,7 +26,8 @@ impl Tending {
     /// `false` if there is no way, or only one segment is left.
     pub(crate) fn shorten<R: System>(&mut self, rt: &R, home: &mut Home) -> Result<bool, HomeFault>
         requires { IsReady home.old holding }
-        ensures { IsReady home.new holding }
+        ensures ready { IsReady home.new holding }
+        ensures feeds { home.new.feeds ≡ home.old.feeds }
     {
         if home.store.live() < 2 {
             return Ok(false);

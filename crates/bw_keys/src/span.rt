@@ -51,7 +51,7 @@ fn least() -> Key
 
 impl Span {
     /// The least key that may be wanted.
-    #[tactic(auto, using(crate::proofs::Wanted::from_kept, crate::proofs::Wanted::prefix_kept, crate::proofs::Wanted::least_kept,))]
+    #[tactic(auto, using(crate::proofs::WantedKeys::from_kept, crate::proofs::WantedKeys::prefix_kept, crate::proofs::WantedKeys::least_kept,))]
     pub fn start_key(&self) -> Key
         ensures { (key : List ℕ) → 1 ≤ length key → is_wanted self.now key ≡ true
             → is_below key result ≡ false }

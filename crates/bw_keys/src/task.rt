@@ -292,12 +292,13 @@ fn list<R: System, O: Write, W: Watch>(
     let mut listed = PairsOf {
         alloc: rt.alloc(),
         span,
-        listing: Listing::new(&mut *output, order, span),
+        order,
+        output: &mut *output,
     };
     match ask_in(rt, dir, leases, &mut listed, watch)? {
         Some(listed) => listed?,
         // A folder in which nothing was ever durable has no pair.
-        None => Listing::new(output, order, span).none()?,
+        None => Listing::new(order, span).none(output)?,
     }
     Ok(Told::Done)
 }

@@ -4,6 +4,7 @@
 //! is not needed, wherever it stands. Each spare is only made here: it is added before the next
 //! leg, and what wants it is asked again then.
 
+ghost use Rattle.std.specs.Prelude.{◌≡◌};
 ghost use Rattle.bw_home.specs.Ready.{IsReady};
 
 use crate::full::{Admission, Full};
@@ -95,7 +96,8 @@ fn bytes_of(item: &Record) -> u64 {
 /// Lets go of the history as far as it is durable, and of pages that need not stay in memory.
 pub fn forget(home: &mut Home)
     requires { IsReady home.old holding }
-    ensures { IsReady home.new holding }
+    ensures ready { IsReady home.new holding }
+    ensures feeds { home.new.feeds ≡ home.old.feeds }
 {
     let _ = home.store.forget();
     let _ = home.keep_pages();
@@ -104,7 +106,8 @@ pub fn forget(home: &mut Home)
 /// Gives up the oldest segment, and makes what stands in its place.
 fn renew<R: System>(rt: &R, home: &mut Home) -> Result<Cleaned, HomeFault>
     requires { IsReady home.old holding }
-    ensures { IsReady home.new holding }
+    ensures ready { IsReady home.new holding }
+    ensures feeds { home.new.feeds ≡ home.old.feeds }
 {
     let cleaned = home.clean(rt)?;
     forget(home);
@@ -225,7 +228,8 @@ impl Tending {
         home: &mut Home,
     ) -> Result<bool, HomeFault>
         requires { IsReady home.old holding }
-        ensures { IsReady home.new holding }
+        ensures ready { IsReady home.new holding }
+        ensures feeds { home.new.feeds ≡ home.old.feeds }
     {
         let had_unflushed = has_unflushed(home);
         let made = renew(rt, home);
@@ -250,7 +254,8 @@ impl Tending {
         needed: Option<u64>,
     ) -> Result<bool, HomeFault>
         requires { IsReady home.old holding }
-        ensures { IsReady home.new holding }
+        ensures ready { IsReady home.new holding }
+        ensures feeds { home.new.feeds ≡ home.old.feeds }
     {
         if !self.wins(home, needed) {
             return Ok(false);
@@ -267,7 +272,8 @@ impl Tending {
         needed: Option<u64>,
     ) -> Result<bool, HomeFault>
         requires { IsReady home.old holding }
-        ensures { IsReady home.new holding }
+        ensures ready { IsReady home.new holding }
+        ensures feeds { home.new.feeds ≡ home.old.feeds }
     {
         if !self.wins_at_last(home, needed) {
             return Ok(false);
@@ -282,7 +288,8 @@ impl Tending {
         home: &mut Home,
     ) -> Result<bool, HomeFault>
         requires { IsReady home.old holding }
-        ensures { IsReady home.new holding }
+        ensures ready { IsReady home.new holding }
+        ensures feeds { home.new.feeds ≡ home.old.feeds }
     {
         let segments = home.store.live().saturating_add(home.store.spares());
         if segments >= self.most {
@@ -329,7 +336,8 @@ impl Tending {
     /// need, or no way.
     pub fn make_room<R: System>(&mut self, rt: &R, home: &mut Home) -> Result<bool, HomeFault>
         requires { IsReady home.old holding }
-        ensures { IsReady home.new holding }
+        ensures ready { IsReady home.new holding }
+        ensures feeds { home.new.feeds ≡ home.old.feeds }
     {
         if self.has_spares(home) {
             return Ok(false);
@@ -340,7 +348,8 @@ impl Tending {
     /// Makes room, however many spares are left; `false` if there is no way.
     pub fn make_some<R: System>(&mut self, rt: &R, home: &mut Home) -> Result<bool, HomeFault>
         requires { IsReady home.old holding }
-        ensures { IsReady home.new holding }
+        ensures ready { IsReady home.new holding }
+        ensures feeds { home.new.feeds ≡ home.old.feeds }
     {
         let needed = needed_of_oldest(home);
         if self.clean_if_it_pays(rt, home, needed)? {
@@ -366,7 +375,8 @@ impl Tending {
         bytes: u64,
     ) -> Result<Admission, HomeFault>
         requires { IsReady home.old holding }
-        ensures { IsReady home.new holding }
+        ensures ready { IsReady home.new holding }
+        ensures feeds { home.new.feeds ≡ home.old.feeds }
     {
         self.measure.capacity = home.capacity();
         let kept = self.measure.kept(home, self.most);
@@ -393,7 +403,8 @@ impl Tending {
     /// comes to an end. No segment is added.
     fn make_room_again<R: System>(&mut self, rt: &R, home: &mut Home) -> Result<bool, HomeFault>
         requires { IsReady home.old holding }
-        ensures { IsReady home.new holding }
+        ensures ready { IsReady home.new holding }
+        ensures feeds { home.new.feeds ≡ home.old.feeds }
     {
         if self.has_spares(home) {
             return Ok(false);
@@ -411,7 +422,8 @@ impl Tending {
     /// to ask whether one pays costs a look at each page.
     pub fn look<R: System>(&mut self, rt: &R, home: &mut Home) -> Result<bool, HomeFault>
         requires { IsReady home.old holding }
-        ensures { IsReady home.new holding }
+        ensures ready { IsReady home.new holding }
+        ensures feeds { home.new.feeds ≡ home.old.feeds }
     {
         let newest = newest(home);
         if newest.0 != self.seen {
@@ -431,7 +443,8 @@ impl Tending {
     /// Makes room if the spares were not looked at yet.
     pub fn first_look<R: System>(&mut self, rt: &R, home: &mut Home) -> Result<bool, HomeFault>
         requires { IsReady home.old holding }
-        ensures { IsReady home.new holding }
+        ensures ready { IsReady home.new holding }
+        ensures feeds { home.new.feeds ≡ home.old.feeds }
     {
         if self.seen != 0 {
             return Ok(false);
@@ -467,7 +480,8 @@ impl Tending {
         fault: HomeFault,
     ) -> Result<(), HomeFault>
         requires { IsReady home.old holding }
-        ensures { IsReady home.new holding }
+        ensures ready { IsReady home.new holding }
+        ensures feeds { home.new.feeds ≡ home.old.feeds }
     {
         if !is_full(&fault) {
             return Err(fault);
@@ -483,7 +497,8 @@ impl Tending {
     /// was made before all was taken.
     pub fn take_waiting<R: System>(&mut self, rt: &R, home: &mut Home) -> Result<bool, HomeFault>
         requires { IsReady home.old holding }
-        ensures { IsReady home.new holding }
+        ensures ready { IsReady home.new holding }
+        ensures feeds { home.new.feeds ≡ home.old.feeds }
     {
         'parts: for _ in 0..u64::MAX {
             match home.turn(self.part()) {

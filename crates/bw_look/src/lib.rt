@@ -21,7 +21,8 @@
 //! own; `notes_in` reads them. Nothing of a log hangs on them: a note that was lost or damaged is
 //! one that nobody finds.
 //!
-//! No function has a clause: nothing hangs on what is said.
+//! Only `kept_bytes` has a clause. A restore also asks `Survey` and `pages_at`; nothing hangs on what
+//! else is said.
 #![tactic(auto)]
 
 mod amount;

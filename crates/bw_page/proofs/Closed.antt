@@ -1,6 +1,6 @@
 -- What a change of the leaves and of the index leaves: both stay in step.
 
-use Rattle.std.proofs.Common.{Result, ◌≡◌, ◌≢◌, ℕ, ◌+◌, ◌-◌, ◌<◌, ◌≤◌, ◌^◌, cond, Some, None, List, [], ◌∷◌, ◌++◌}
+use Rattle.std.proofs.Common.{Result, Option, ◌≡◌, ◌≢◌, ℕ, ◌+◌, ◌-◌, ◌<◌, ◌≤◌, ◌^◌, cond, Some, None, List, [], ◌∷◌, ◌++◌}
 use Rattle.std.proofs.Common.{map, length, drop, get_or, refl, sym, ap, ◌∙◌, subst}
 use Rattle.std.proofs.Common.{arith, length-append}
 use Rattle.std.specs.Prelude.{slice_set}
@@ -15,7 +15,7 @@ use Rattle.bw_record.specs.declared.leaf.Leaf.{Leaf}
 use Rattle.bw_record.specs.declared.record.Record.{Record}
 use Rattle.bw_record.proofs.Order.{order-total, apart}
 use Rattle.bw_page.specs.declared.leaves.Leaves.TheInside.{Inside}
-use Rattle.bw_leaf.specs.Changed.{Bytes, order, empty_leaf, changed, changed_map}
+use Rattle.bw_leaf.specs.Changed.{Bytes, Map, order, empty_leaf, changed, changed_map}
 use Rattle.bw_page.specs.Leaves.{home, AreLeaves, BeginsEmpty, HasPage, applied, union}
 use Rattle.bw_leaf.specs.SplitRule.{lower_of, upper_of}
 use Rattle.bw_lows.specs.LowHeads.{page_of_low}
@@ -23,6 +23,9 @@ use Rattle.bw_page.specs.Shown.{Shown, applied_by}
 use Rattle.bw_leaf.specs.Seek.{seek_of, IsWithin}
 use Rattle.bw_page.specs.Lows.{lows_of}
 use Rattle.bw_page.specs.Index.{view_of, IsIndexed}
+use Rattle.bw_page.specs.declared.gap.Gap.{Gap}
+use Rattle.bw_page.specs.Gap.{IsGap, IsPassed}
+use Rattle.bw_page.proofs.Gaps.{passed}
 use Rattle.bw_page.proofs.Homes.{put_in, set_is_put}
 use Rattle.bw_page.proofs.Applying.{put_in-page, same_lows, put_leaves, new_low}
 use Rattle.bw_page.proofs.Law.{directed, whole_in, lower_in, upper_in, applied-whole, applied-split, applied-lawful, applied-plain}
@@ -67,12 +70,13 @@ lawful_at a b em el h = subst (λ (p : ℕ × List Leaf). AreLeaves p.0 p.1) (λ
 
 -- nothing was changed
 pub same_filed : (a b : Inside) → IsIndexed a → b.m ≡ a.m → b.leaves.items ≡ a.leaves.items
-    → ((q : Bytes) → page_of_low b.index q ≡ page_of_low a.index q) → IsIndexed b
-same_filed a b h em el same = record {
+    → ((q : Bytes) → page_of_low b.index q ≡ page_of_low a.index q) → b.gap ≡ a.gap → IsIndexed b
+same_filed a b h em el same eg = record {
   limit = subst (λ (n : ℕ). (4 ≤ n) × (n ≤ 32)) (sym em) h.limit;
   count = subst (λ (ls : List Leaf). length ls < 2 ^ 32) (sym el) h.count;
   lawful = lawful_at a b em el h.lawful;
   index = λ q. same q ∙ h.index q ∙ ap (λ (ls : List Leaf). find order q (lows_of (drop 1 ls))) (sym el);
+  gap = subst (λ (p : List Leaf × Option Gap). IsGap (union p.0) p.1) (λ i. (sym el i, sym eg i)) h.gap;
 }
 
 module _ (a : Inside) (h : IsIndexed a) (r : Record) (op : IsOp r) (at : ℕ) (here : at + 1 ≡ (home (key_of r) a.leaves.items).page) where
@@ -97,8 +101,8 @@ module _ (a : Inside) (h : IsIndexed a) (r : Record) (op : IsOp r) (at : ℕ) (h
   whole_is fits = in_place (changed r (home (key_of r) a.leaves.items)) refl ∙ sym (applied-whole a.m a.leaves.items r some h.lawful op fits)
 
   pub whole_filed : (b : Inside) → b.m ≡ a.m → length (changed r (home (key_of r) a.leaves.items)).pairs ≤ a.m → b.leaves.items ≡ applied a.m a.leaves.items r
-      → ((q : Bytes) → page_of_low b.index q ≡ page_of_low a.index q) → IsIndexed b
-  whole_filed b em fits el same =
+      → ((q : Bytes) → page_of_low b.index q ≡ page_of_low a.index q) → IsGap (union b.leaves.items) b.gap → IsIndexed b
+  whole_filed b em fits el same gap =
       let into = whole_in a.m a.leaves.items (key_of r) _ (directed a.m a.leaves.items r h.lawful op) fits in
       let form = applied-whole a.m a.leaves.items r some h.lawful op fits in
       record {
@@ -110,6 +114,7 @@ module _ (a : Inside) (h : IsIndexed a) (r : Record) (op : IsOp r) (at : ℕ) (h
         index = λ q. same q ∙ h.index q ∙ ap (find order q)
             (sym (ap (λ (ls : List Leaf). lows_of (drop 1 ls)) (el ∙ form)
             ∙ lows-put _ a.leaves.items (same_lows a.m a.leaves.items (key_of r) _ h.lawful into)));
+        gap = gap;
       }
 
   -- one leaf was split in two, and its upper part stands after the others
@@ -126,8 +131,8 @@ module _ (a : Inside) (h : IsIndexed a) (r : Record) (op : IsOp r) (at : ℕ) (h
       → ((q : Bytes) → page_of_low b.index q
       ≡ cond (eq_by_cmp order q (upper_of a.m (length a.leaves.items + 1) (changed r (home (key_of r) a.leaves.items))).low)
       (Some (length a.leaves.items + 1)) (page_of_low a.index q))
-      → IsIndexed b
-  split_filed b em over room el got =
+      → IsGap (union b.leaves.items) b.gap → IsIndexed b
+  split_filed b em over room el got gap =
       let x = changed r (home (key_of r) a.leaves.items) in
       let u = upper_of a.m (length a.leaves.items + 1) x in
       let t = directed a.m a.leaves.items r h.lawful op in
@@ -148,6 +153,7 @@ module _ (a : Inside) (h : IsIndexed a) (r : Record) (op : IsOp r) (at : ℕ) (h
             (h.index q ∙ ap (find order q) (sym (lows-put _ a.leaves.items (same_lows a.m a.leaves.items (key_of r) _ h.lawful into))))
             ∙ sym (find-push q parts u lowers.first (new_low a.m parts u lowers up))
             ∙ ap (λ (ls : List Leaf). find order q (lows_of (drop 1 ls))) (sym (el ∙ form));
+        gap = gap;
       }
 
   -- the map of all pages after the record
@@ -199,18 +205,24 @@ module _ (a : Inside) (h : IsIndexed a) (now : Shown) (v : view_of a ≡ now) (r
       λ i. record { m = em i; leaves = el i; evicted = ea i } in
       to ∙ ap (λ (f : Shown). let g : Shown = record { m = f.m; leaves = applied f.m f.leaves r; evicted = f.evicted } in g) v
 
+  -- no page has a pair in the gap that is left
+  gap_is : (b : Inside) → union b.leaves.items ≡ changed_map (union a.leaves.items) r → IsPassed a.gap (key_of r) b.gap
+      → IsGap (union b.leaves.items) b.gap
+  gap_is b e by = subst (λ (m : Map). IsGap m b.gap) (sym e) (passed (union a.leaves.items) r a.gap b.gap by h.gap)
+
   pub follows_whole : (b : Inside) → b.m ≡ a.m → b.leaves.evicted ≡ a.leaves.evicted → count ≤ a.m
       → ((d : Leaf) → b.leaves.items ≡ slice_set a.leaves.items at (changed r (get_or a.leaves.items at d)))
-      → ((q : Bytes) → page_of_low b.index q ≡ page_of_low a.index q) → Follows now r b
-  follows_whole b em ea few set same =
+      → ((q : Bytes) → page_of_low b.index q ≡ page_of_low a.index q) → IsPassed a.gap (key_of r) b.gap → Follows now r b
+  follows_whole b em ea few set same by =
       let fits : length (changed r (home (key_of r) a.leaves.items)).pairs ≤ a.m = (let c = count_inside in omega arith) in
       let el : b.leaves.items ≡ applied a.m a.leaves.items r =
       set empty_leaf ∙ ap (λ (l : Leaf). slice_set a.leaves.items at (changed r l)) (leaf_is a h r op at here_inside empty_leaf)
       ∙ whole_is a h r op at here_inside fits in
+      let plainly = plain_is a h r op at here_inside b.leaves.items (λ over. absurd (omega arith)) el in
       record {
-        filed = whole_filed a h r op at here_inside b em fits el same;
+        filed = whole_filed a h r op at here_inside b em fits el same (gap_is b plainly by);
         view = viewed b em ea el;
-        plain = plain_is a h r op at here_inside b.leaves.items (λ over. absurd (omega arith)) el ∙ ap (λ (f : Shown). changed_map (union f.leaves) r) v;
+        plain = plainly ∙ ap (λ (f : Shown). changed_map (union f.leaves) r) v;
       }
 
   pub follows_split : (b : Inside) (page : ℕ) → b.m ≡ a.m → b.leaves.evicted ≡ a.leaves.evicted → a.m < count → page ≡ length a.leaves.items + 1 → page < 2 ^ 32
@@ -218,8 +230,8 @@ module _ (a : Inside) (h : IsIndexed a) (now : Shown) (v : view_of a ≡ now) (r
       ++ upper_of a.m page (changed r (get_or a.leaves.items at d)) ∷ [])
       → ((d : Leaf) (q : Bytes) → page_of_low b.index q
       ≡ cond (eq_by_cmp order q (upper_of a.m page (changed r (get_or a.leaves.items at d))).low) (Some page) (page_of_low a.index q))
-      → Follows now r b
-  follows_split b page em ea many e room set got =
+      → IsPassed a.gap (key_of r) b.gap → Follows now r b
+  follows_split b page em ea many e room set got by =
       let over : a.m < length (changed r (home (key_of r) a.leaves.items)).pairs = (let c = count_inside in omega arith) in
       let fits : length a.leaves.items + 1 < 2 ^ 32 = subst (λ n. n < 2 ^ 32) e room in
       let el : b.leaves.items ≡ applied a.m a.leaves.items r =
@@ -229,13 +241,15 @@ module _ (a : Inside) (h : IsIndexed a) (now : Shown) (v : view_of a ≡ now) (r
       ∙ ap (λ n. slice_set a.leaves.items at (lower_of a.m (changed r (home (key_of r) a.leaves.items)))
       ++ upper_of a.m n (changed r (home (key_of r) a.leaves.items)) ∷ []) e
       ∙ split_is a h r op at here_inside over in
+      let plainly = plain_is a h r op at here_inside b.leaves.items (λ o. fits) el in
       record {
         filed = split_filed a h r op at here_inside b em over fits el (λ q. got empty_leaf q
             ∙ ap (λ (l : Leaf). cond (eq_by_cmp order q (upper_of a.m page (changed r l)).low) (Some page) (page_of_low a.index q))
             (leaf_is a h r op at here_inside empty_leaf)
-            ∙ ap (λ n. cond (eq_by_cmp order q (upper_of a.m n (changed r (home (key_of r) a.leaves.items))).low) (Some n) (page_of_low a.index q)) e);
+            ∙ ap (λ n. cond (eq_by_cmp order q (upper_of a.m n (changed r (home (key_of r) a.leaves.items))).low) (Some n) (page_of_low a.index q)) e)
+            (gap_is b plainly by);
         view = viewed b em ea el;
-        plain = plain_is a h r op at here_inside b.leaves.items (λ o. fits) el ∙ ap (λ (f : Shown). changed_map (union f.leaves) r) v;
+        plain = plainly ∙ ap (λ (f : Shown). changed_map (union f.leaves) r) v;
       }
 
 -- the same entries give the same look-ups

@@ -10,7 +10,8 @@ use Rattle.bw_codec.specs.Grammar.{IsBase}
 use Rattle.bw_record.specs.declared.leaf.Leaf.{Leaf}
 use Rattle.bw_page.specs.declared.leaves.Leaves.TheInside.{Inside}
 use Rattle.bw_leaf.specs.Changed.{Bytes, order}
-use Rattle.bw_page.specs.Leaves.{AreNumbered, AreLeaves}
+use Rattle.bw_page.specs.Gap.{IsGap}
+use Rattle.bw_page.specs.Leaves.{AreNumbered, AreLeaves, union}
 use Rattle.bw_lows.specs.LowHeads.{page_of_low}
 use Rattle.bw_page.specs.Lows.{lows_of}
 use Rattle.bw_page.specs.Index.{IsIndexed}
@@ -71,5 +72,5 @@ some_leaf m (l ∷ ls) a = omega arith
 
 -- leaves with the index of their lows
 pub filed_new : (b : Inside) → (4 ≤ b.m) × (b.m ≤ 32) → AreLeaves b.m b.leaves.items
-    → ((q : Bytes) → page_of_low b.index q ≡ find order q (lows_of (drop 1 b.leaves.items))) → IsIndexed b
-filed_new b limit lawful index = record { limit = limit; count = count_fits b.m b.leaves.items lawful; lawful = lawful; index = index }
+    → ((q : Bytes) → page_of_low b.index q ≡ find order q (lows_of (drop 1 b.leaves.items))) → IsGap (union b.leaves.items) b.gap → IsIndexed b
+filed_new b limit lawful index gap = record { limit = limit; count = count_fits b.m b.leaves.items lawful; lawful = lawful; index = index; gap = gap }

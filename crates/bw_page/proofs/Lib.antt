@@ -4,6 +4,7 @@ pub mod Homes
 pub mod Applying
 pub mod Law
 pub mod Indexed
+pub mod Gaps
 pub mod Closed
 pub mod Bases
 pub mod Indexing

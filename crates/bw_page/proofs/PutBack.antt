@@ -15,10 +15,11 @@ use Rattle.bw_record.specs.declared.record.Record.{Record}
 use Rattle.bw_record.specs.declared.record.Record.TheVariants.{Del}
 use Rattle.bw_record.specs.declared.leaf.Leaf.{Leaf}
 use Rattle.bw_page.specs.declared.leaves.Leaves.TheInside.{Inside}
+use Rattle.bw_page.specs.declared.journal.Undo.{Undo}
 use Rattle.bw_page.specs.declared.journal.Undo.TheVariants.{Back, Page}
 use Rattle.bw_page.specs.Displaced.{Displaced, joined, HasSeat, IsLess, AreParts}
-use Rattle.bw_leaf.specs.Changed.{Bytes, order, empty_leaf, changed}
-use Rattle.bw_page.specs.Leaves.{home, result_of, with_leaf, applied, AreLeaves}
+use Rattle.bw_leaf.specs.Changed.{Bytes, Map, order, empty_leaf, changed}
+use Rattle.bw_page.specs.Leaves.{home, result_of, with_leaf, applied, union, AreLeaves}
 use Rattle.bw_leaf.specs.SplitRule.{lower_of, upper_of}
 use Rattle.bw_lows.specs.LowHeads.{page_of_low}
 use Rattle.bw_page.specs.Seats.{Seating, is_among}
@@ -27,6 +28,8 @@ use Rattle.bw_page.specs.Shown.{Shown, IsHere}
 use Rattle.bw_page.specs.Lows.{lows_of}
 use Rattle.bw_page.specs.Journal.{undone, IsNewest}
 use Rattle.bw_page.specs.Index.{view_of, IsIndexed}
+use Rattle.bw_page.specs.Gap.{IsGap, IsPassed}
+use Rattle.bw_page.proofs.Gaps.{passed_back}
 use Rattle.bw_page.proofs.Journals.{Stepped, stepped, one_more, new_key, index_back, front, last_is}
 use Rattle.bw_page.proofs.Indexed.{home_within}
 use Rattle.bw_page.proofs.Indexing.{filed_new}
@@ -34,7 +37,7 @@ use Rattle.bw_page.proofs.Homes.{put_in, set_is_put}
 use Rattle.bw_page.proofs.Parting.{parts_few, parts_whole}
 use Rattle.bw_leaf.proofs.Sorted.{ascends_rises}
 use Rattle.bw_page.proofs.Applying.{Replaces, same_lows, put_in-page, home-put}
-use Rattle.bw_page.proofs.Law.{directed, home_base, lower_in, applied-whole, applied-split}
+use Rattle.bw_page.proofs.Law.{directed, home_base, lower_in, applied-whole, applied-split, applied-plain}
 use Rattle.bw_page.proofs.Closed.{leaf_is, lows-put}
 use Rattle.bw_page.proofs.TakenBack.{into, back_adds, back-key, none_deletes}
 use Rattle.bw_page.proofs.Runs.{back_one, page_of, back_is, none_back}
@@ -49,6 +52,14 @@ fits_of : (n m : ℕ) → not (nat_le n m) ≡ false → n ≤ m
 fits_of n m h =
     elim (nat_le n m) as (λ b. nat_le n m ≡ b → not b ≡ false → n ≤ m)
     [ true ↦ λ e yes. leb-true n m e | false ↦ λ e no. absurd (cc) ] refl h
+
+-- what is left of the gap, if the newest record is taken back
+gap_back : (a : Inside) → IsIndexed a → {now : Shown} {u : Undo} (n : IsNewest now u) (b : Inside) → view_of b ≡ n.before
+    → a.leaves.items ≡ applied n.before.m n.before.leaves n.change → IsPassed a.gap (key_of n.change) b.gap → IsGap (union b.leaves.items) b.gap
+gap_back a h n b all are by =
+    subst (λ (f : Shown). IsGap (union f.leaves) b.gap) (sym all)
+    (passed_back (union n.before.leaves) n.change a.gap b.gap by
+    (subst (λ (m : Map). IsGap m a.gap) (ap union are ∙ applied-plain n.before.m n.before.leaves n.change n.some n.room n.lawful n.op) h.gap))
 
 module _ (a : Inside) (h : IsIndexed a) (now : Shown) (v : view_of a ≡ now) (u : Displaced) (n : IsNewest now (Page u)) where
   pages_are : u.pages ≡ length n.before.leaves
@@ -169,8 +180,8 @@ module _ (a : Inside) (h : IsIndexed a) (now : Shown) (v : view_of a ≡ now) (u
       → (length a.leaves.items ≤ u.pages → (q : Bytes) → page_of_low b.index q ≡ page_of_low a.index q)
       → ((d : Leaf) → u.pages < length a.leaves.items → (q : Bytes)
       → page_of_low b.index q ≡ cond (eq_by_cmp order q (get_or a.leaves.items u.pages d).low) None (page_of_low a.index q))
-      → IsIndexed b
-  put_back_filed b em ea el same less =
+      → IsPassed a.gap u.key b.gap → IsIndexed b
+  put_back_filed b em ea el same less by =
       let to : view_of b ≡ undone (view_of a) (Page u) = λ i. record { m = em i; leaves = el i; evicted = ea i } in
       let all : view_of b ≡ n.before = to ∙ ap (λ f. undone f (Page u)) v ∙ back_one now (Page u) n in
       let e = pages_are in
@@ -181,6 +192,8 @@ module _ (a : Inside) (h : IsIndexed a) (now : Shown) (v : view_of a ≡ now) (u
       (λ few. same (omega arith))
       (λ more k. less u.leaf (omega arith) k ∙ ap (λ p. cond (eq_by_cmp order k (get_or a.leaves.items p u.leaf).low) None (page_of_low a.index k)) e) q
       ∙ ap (λ (f : Shown). find order q (lows_of (drop 1 f.leaves))) (sym all))
+      (gap_back a h n b all leaves_are
+      (subst (λ (k : Bytes). IsPassed a.gap k b.gap) (ap (λ (x : Displaced). x.key) (page_of n.before n.change u n.displaced)) by))
 
 -- ---- the same by a record
 
@@ -227,8 +240,8 @@ module _ (a : Inside) (h : IsIndexed a) (now : Shown) (v : view_of a ≡ now) (b
       to ∙ ap (λ f. undone f (Back back)) v
 
   pub filed_back : (b : Inside) → b.m ≡ a.m → view_of b ≡ undone now (Back back)
-      → ((q : Bytes) → page_of_low b.index q ≡ page_of_low a.index q) → IsIndexed b
-  filed_back b em to same =
+      → ((q : Bytes) → page_of_low b.index q ≡ page_of_low a.index q) → IsPassed a.gap (key_of back) b.gap → IsIndexed b
+  filed_back b em to same by =
       let all : view_of b ≡ n.before = to ∙ back_one now (Back back) n in
       let x : Leaf = result_of n.before.leaves n.change in
       let old : a.leaves.items ≡ map (put_in x) n.before.leaves = ap (λ (f : Shown). f.leaves) (v ∙ n.is)
@@ -240,3 +253,6 @@ module _ (a : Inside) (h : IsIndexed a) (now : Shown) (v : view_of a ≡ now) (b
       ∙ ap (find order q) (lows-put x n.before.leaves (same_lows n.before.m n.before.leaves (key_of n.change) x n.lawful
       (into n.before.m n.before.leaves n.change back n.some n.lawful n.op fits takes)))
       ∙ ap (λ (f : Shown). find order q (lows_of (drop 1 f.leaves))) (sym all))
+      (gap_back a h n b all (ap (λ (f : Shown). f.leaves) (v ∙ n.is))
+      (subst (λ (k : Bytes). IsPassed a.gap k b.gap)
+      (back-key n.change back (find order (key_of n.change) (home (key_of n.change) n.before.leaves).pairs) takes) by))

@@ -9,6 +9,7 @@ pub mod Ahead
 pub mod Laws
 -- what private functions say, and how values stand in memory
 
+pub mod Gap
 pub mod Index
 pub mod Beginning
 pub mod Seats

@@ -98,6 +98,16 @@ impl Displaced {
         })
     }
 
+    /// The key of the record.
+    pub(crate) fn key(&self) -> &[u8]
+        ensures { result.now ≡ self.now.key }
+    {
+        match &self.kept {
+            Kept::Lost(_, pair) => pair.key(),
+            Kept::Parted(by) => by.key(),
+        }
+    }
+
     /// How many pages there were before.
     pub(crate) fn pages(&self) -> u32
         ensures { result ≡ self.now.pages }

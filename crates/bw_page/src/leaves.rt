@@ -18,7 +18,7 @@ ghost use Rattle.bw_page.specs.Aim.{IsAim, IsFound};
 ghost use Rattle.bw_page.specs.Seats.{numbers_from};
 ghost use Rattle.bw_page.specs.Journal.{displaced_by};
 ghost use Rattle.bw_leaf.specs.Seek.{back_of};
-ghost use Rattle.bw_page.specs.Ahead.{HasNoLowAbove, IsNextLow};
+ghost use Rattle.bw_page.specs.Ahead.{HasCome, HasNoLowAbove, IsNextLow};
 
 mod ahead;
 mod batch;
@@ -26,6 +26,7 @@ mod hinted;
 mod walk;
 
 use crate::fault::ApplyError;
+use crate::gap::{Gap, grow, pass, past};
 use crate::index::{copy_all, index_of, index_of_found};
 use crate::journal::Displaced;
 use crate::seats::Seats;
@@ -55,6 +56,8 @@ pub struct Leaves {
     leaves: Seats,
     /// The page of each low key but the empty one, which is that of page 1.
     index: LowIndex,
+    /// Keys between which no page has a pair, if a walk has passed by such pages.
+    gap: Option<Gap>,
 }
 
 impl Model for Leaves {
@@ -82,6 +85,7 @@ impl Leaves {
             m,
             leaves,
             index: LowIndex::new(alloc),
+            gap: None,
         })
     }
 
@@ -203,6 +207,23 @@ impl Leaves {
         ensures none { result ≡ None → HasNoLowAbove self.now.leaves key.now }
     {
         self.index.above(key)
+    }
+
+    /// The key at which a walk from this one may begin: no key at or above this one, and below that
+    /// one, has a value. It costs nothing but two looks at keys.
+    pub fn past_gap(&self, key: &Key) -> Key
+        ensures { HasCome (union self.now.leaves) key.now result }
+    {
+        past(&self.gap, key)
+    }
+
+    /// Notes that no key at or above the one, and below the other, has a value, so that later walks
+    /// pass by the pages between. One gap is kept: that of the walk which passes by the most pages.
+    pub fn note_gap(&mut self, from: &Key, to: &Key)
+        requires { HasCome (union self.old.leaves) from.now to.now }
+        ensures { self.new ≡ self.old }
+    {
+        grow(&mut self.gap, from, to);
     }
 
     /// The value of a key, if it has one.
@@ -419,6 +440,7 @@ impl Leaves {
         ensures unchanged { OnErr result (self.new ≡ self.old) }
     {
         let back = self.leaves.change(at, found, change)?;
+        pass(&mut self.gap, change.key());
         Ok(back)
     }
 
@@ -458,6 +480,7 @@ impl Leaves {
             change,
             pages + 1,
         )?;
+        pass(&mut self.gap, change.key());
         Ok((displaced, pages + 1))
     }
 
@@ -479,6 +502,7 @@ impl Leaves {
             m: _,
             leaves,
             index: _,
+            gap: _,
         } = self;
         leaves
     }
@@ -508,6 +532,7 @@ impl Leaves {
             m,
             leaves: Seats::away(pages)?,
             index,
+            gap: None,
         })
     }
 
@@ -523,6 +548,7 @@ impl Leaves {
             m,
             leaves: Seats::of(leaves)?,
             index,
+            gap: None,
         })
     }
 }

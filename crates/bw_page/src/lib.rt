@@ -22,6 +22,7 @@
 
 mod clock;
 mod fault;
+mod gap;
 mod index;
 mod journal;
 mod laws;

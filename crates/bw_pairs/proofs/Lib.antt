@@ -1,3 +1,5 @@
+pub mod Fronts
+pub mod Kept
 pub mod Writing
 pub mod Hexing
 pub mod Longs
@@ -7,6 +9,14 @@ pub mod LineLaws
 pub mod Escaping
 pub mod DumpLaws
 pub mod Parts
+pub mod Blanks
+pub mod Texting
+pub mod Membering
 pub mod Fielding
 pub mod CsvLaws
+pub mod JsonTexts
+pub mod JsonLetters
+pub mod JsonLaws
 pub mod WholeLines
+pub mod JsonLines
+pub mod WrittenLines

@@ -56,8 +56,8 @@ prepended bytes read = record read { bytes = bytes ++ read.bytes }
 abbrev pub onto : List ℕ → Option Read → Option Read
 onto bytes read = option_map (prepended bytes) read
 
--- the first field of a line, from before it, in it, between its quotes, or after a quote: a comma ends it,
--- but for one between quotes, where a quote is written twice
+-- the first field of a line, from before it, in it, between its quotes, or after a quote: a comma
+-- ends it, but for one between quotes; a quote between quotes is written twice
 abbrev pub field_from : At → List ℕ → Option Read
 field_from Begin [] = ended false None
 field_from Bare [] = ended false None

@@ -1,6 +1,6 @@
 -- Dumps: keys and values as lines of a dump, and the bytes for which such a line stands.
 
-use Rattle.std.specs.Prelude.{ℕ, Bool, not, ◌&&◌, ◌==◌, ◌+◌, ◌*◌, ◌%◌, nat_le, if◌then◌else◌, List, [], ◌∷◌, flat_map, Option, Some, None, option_map, option_and_then}
+use Rattle.std.specs.Prelude.{ℕ, Bool, not, ◌&&◌, ◌==◌, ◌+◌, ◌*◌, ◌%◌, nat_le, if◌then◌else◌, List, [], ◌∷◌, ◌++◌, codes, decimal, flat_map, Option, Some, None, option_map, option_and_then}
 use Rattle.std.specs.Result.{result_ok}
 use Rattle.hex.specs.Hex.{encode_lower, decode_of, hex_digit_value}
 use Rattle.bw_pairs.specs.Words.{as_key, as_value}
@@ -28,13 +28,34 @@ lettered Print bytes = flat_map escape bytes
 abbrev pub dump_line : Letters → List ℕ → List ℕ
 dump_line letters bytes = 32 ∷ lettered letters bytes
 
+-- the lines that say how bytes are spelled, which name a database has, and how large its map is
+abbrev pub format_line : Letters → List ℕ
+format_line Hex = codes "format=bytevalue\n"
+format_line Print = codes "format=print\n"
+
+abbrev pub name_line : Option (List ℕ) → List ℕ
+name_line None = []
+name_line (Some name) = codes "database=" ++ flat_map escape name ++ 10 ∷ []
+
+abbrev pub size_line : Option ℕ → List ℕ
+size_line None = []
+size_line (Some size) = codes "mapsize=" ++ decimal size ++ 10 ∷ []
+
+-- what stands before the lines of the pairs, and after them
+abbrev pub dump_header : Letters → Option (List ℕ) → Option ℕ → List ℕ
+dump_header letters name mapsize =
+    codes "VERSION=3\n" ++ format_line letters ++ name_line name ++ codes "type=btree\n" ++ size_line mapsize ++ codes "HEADER=END\n"
+
+abbrev pub dump_end : List ℕ
+dump_end = codes "DATA=END\n"
+
 -- ---- in
 
 abbrev pub before : ℕ → Option (List ℕ) → Option (List ℕ)
 before byte rest = option_map (λ bytes. byte ∷ bytes) rest
 
--- the bytes of letters with escapes, from a place in an escape or outside of one: after a backslash comes
--- another one or two digits
+-- the bytes of letters with escapes, from a place in an escape or outside of one: after a backslash
+-- comes another one or two digits
 abbrev pub unescaped : Escape → List ℕ → Option (List ℕ)
 unescaped Outside [] = Some []
 unescaped Begun [] = None

@@ -1,17 +1,19 @@
 -- What holds of the spellings themselves.
 
-use Rattle.std.specs.Prelude.{Bool, ◌==◌, ◌||◌, ◌≤◌, length, ℕ, ◌≡◌, ◌≢◌, List, Some, false}
+use Rattle.std.specs.Prelude.{Bool, ◌==◌, ◌||◌, ◌≤◌, length, ℕ, ◌≡◌, ◌≢◌, List, Some, None, false, ◌∷◌, ◌++◌}
 use Rattle.std.specs.List.{list_any}
 use Rattle.bw_record.specs.Keys.{IsBytes}
 use Rattle.bw_record.specs.Lawful.{IsPair}
-use Rattle.bw_record.specs.declared.record.Record.TheVariants.{Put}
+use Rattle.bw_record.specs.declared.record.Record.TheVariants.{Put, Del}
 use Rattle.bw_pairs.specs.declared.spelling.Spelling.{Spelling}
 use Rattle.bw_pairs.specs.declared.spelling.Spelling.TheVariants.{Raw}
 use Rattle.bw_pairs.specs.declared.input.TheConstants.{LONGEST}
 use Rattle.bw_pairs.specs.Words.{word, meant}
+use Rattle.bw_pairs.specs.Inputs.{line_of, after_line}
 use Rattle.bw_pairs.specs.Lines.{Pair, tab_line, tab_put, raw_put, is_tab}
 use Rattle.bw_pairs.specs.Dumps.{dump_line, dump_key, dump_value}
 use Rattle.bw_pairs.specs.Csv.{csv_line, csv_put}
+use Rattle.bw_pairs.specs.Json.{object, json_put, json_del}
 use Rattle.bw_pairs.specs.declared.dump.Letters.{Letters}
 
 -- a pair's key and value are bytes, no more and no fewer than a store takes
@@ -41,6 +43,14 @@ DumpLinesAreReadBack = (letters : Letters) (pair : Pair) → IsLawful pair
 abbrev pub CsvLinesAreReadBack : Type 0
 CsvLinesAreReadBack = (pair : Pair) → IsLawful pair → csv_put (csv_line pair) ≡ Some (Put pair.0 pair.1)
 
+-- the object of a pair in JSON is read back, whatever bytes it has, as a put and as the delete of its
+-- key, and so is that of only a key
+abbrev pub JsonLinesAreReadBack : Type 0
+JsonLinesAreReadBack = (pair : Pair) → IsLawful pair
+    → (json_put (object (Some pair.0) (Some pair.1)) ≡ Some (Put pair.0 pair.1))
+    × (json_del (object (Some pair.0) (Some pair.1)) ≡ Some (Del pair.0))
+    × (json_del (object (Some pair.0) None) ≡ Some (Del pair.0))
+
 -- ---- lines
 
 -- a byte that may end a line
@@ -61,3 +71,12 @@ CsvLinesAreLines = (pair : Pair) → IsLawful pair → IsLine (csv_line pair)
 abbrev pub DumpLinesAreLines : Type 0
 DumpLinesAreLines = (letters : Letters) (pair : Pair) → IsLawful pair
     → IsLine (dump_line letters pair.0) × IsLine (dump_line letters pair.1)
+
+abbrev pub JsonLinesAreLines : Type 0
+JsonLinesAreLines = (pair : Pair) → IsLawful pair
+    → IsLine (object (Some pair.0) (Some pair.1)) × IsLine (object (Some pair.0) None)
+
+-- a line that was written with an LF is read, and what was written after it is left
+abbrev pub WrittenLinesAreRead : Type 0
+WrittenLinesAreRead = (line rest : List ℕ) → IsLine line
+    → (line_of LONGEST (line ++ 10 ∷ rest) ≡ line) × (after_line (line ++ 10 ∷ rest) ≡ rest)

@@ -1,4 +1,4 @@
--- Words of tables: names, and keys and values, of which the values are longer than those of a store.
+-- Words of tables: names, keys, and values, which may be longer than those of a store.
 
 use Rattle.std.specs.Prelude.{ℕ, ◌&&◌, nat_le, if◌then◌else◌, List, length, Option, Some, None, option_and_then}
 use Rattle.std.specs.Result.{result_ok}

@@ -11,7 +11,7 @@ use Rattle.bw_pairs.specs.declared.spelling.Spelling.TheVariants.{Words, Raw, He
 
 -- ---- out
 
--- `0x`, behind which hex digits stand
+-- `0x`, after which hex digits stand
 abbrev pub mark : List ℕ
 mark = 48 ∷ 120 ∷ []
 
@@ -19,7 +19,8 @@ mark = 48 ∷ 120 ∷ []
 abbrev pub has_no_control : List ℕ → Bool
 has_no_control bytes = list_all (λ c. not (is_control c)) (chars bytes)
 
--- whether bytes are written as they are: text without a control character, that does not look like hex
+-- whether bytes are written as they are: text without a control character, that does not look like
+-- hex
 abbrev pub is_text : List ℕ → Bool
 is_text bytes = not (starts_with nat_eq bytes mark) && is_utf8 bytes && has_no_control bytes
 

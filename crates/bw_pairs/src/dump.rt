@@ -2,11 +2,11 @@
 //! `HEADER=END`, then a line for each key and one for its value, each after a space, up to
 //! `DATA=END`.
 
-ghost use Rattle.std.specs.Prelude.{◌≡◌, ◌≤◌, ◌<◌, ◌+◌, ◌*◌, ◌%◌, [], ◌∷◌, ◌++◌, List, ℕ, length, OnOk, OnErr, IfOk, IfSome, flat_map};
+ghost use Rattle.std.specs.Prelude.{◌≡◌, ◌≤◌, ◌<◌, ◌+◌, ◌*◌, ◌%◌, [], ◌∷◌, ◌++◌, List, ℕ, length, OnOk, OnErr, IfOk, IfSome, flat_map, None, option_copied};
 ghost use Rattle.std.specs.Io.KnownBytes.{Appends, prepend_known};
 ghost use Rattle.std.specs.Result.{result_ok};
 ghost use Rattle.hex.specs.Hex.{decode_of, hex_digit_value};
-ghost use Rattle.bw_pairs.specs.Dumps.{escape, dump_line, unescaped, behind_space, dump_meant, dump_key, dump_value};
+ghost use Rattle.bw_pairs.specs.Dumps.{escape, dump_line, unescaped, behind_space, dump_meant, dump_key, dump_value, dump_header, dump_end, format_line, name_line, size_line};
 
 use crate::buffer::Buffer;
 use crate::fault::LineFault;
@@ -34,7 +34,10 @@ pub fn write_header<O: Write>(
     output: &mut O,
     letters: Letters,
     mapsize: Option<u64>,
-) -> io::Result<()> {
+) -> io::Result<()>
+    ensures { OnOk result (Appends (O.contents output.old) (O.contents output.new)
+        (dump_header letters None mapsize)) }
+{
     write_named_header(output, letters, None, mapsize)
 }
 
@@ -45,26 +48,57 @@ pub fn write_named_header<O: Write>(
     letters: Letters,
     name: Option<&[u8]>,
     mapsize: Option<u64>,
-) -> io::Result<()> {
+) -> io::Result<()>
+    ensures { OnOk result (Appends (O.contents output.old) (O.contents output.new)
+        (dump_header letters (option_copied name.entry) mapsize)) }
+{
     output.write_all(b"VERSION=3\n")?;
-    match letters {
-        Letters::Hex => output.write_all(b"format=bytevalue\n")?,
-        Letters::Print => output.write_all(b"format=print\n")?,
-    }
-    if let Some(name) = name {
-        output.write_all(b"database=")?;
-        write_escaped(output, name)?;
-        output.write_all(b"\n")?;
-    }
+    write_format(output, letters)?;
+    write_name(output, name)?;
     output.write_all(b"type=btree\n")?;
-    if let Some(size) = mapsize {
-        writeln!(output, "mapsize={size}")?;
-    }
+    write_size(output, mapsize)?;
     output.write_all(b"HEADER=END\n")
 }
 
+/// Writes how a dump spells bytes.
+fn write_format<O: Write>(output: &mut O, letters: Letters) -> io::Result<()>
+    ensures { OnOk result (Appends (O.contents output.old) (O.contents output.new)
+        (format_line letters)) }
+{
+    match letters {
+        Letters::Hex => output.write_all(b"format=bytevalue\n"),
+        Letters::Print => output.write_all(b"format=print\n"),
+    }
+}
+
+/// Writes the name of a database, if it has one.
+fn write_name<O: Write>(output: &mut O, name: Option<&[u8]>) -> io::Result<()>
+    ensures { OnOk result (Appends (O.contents output.old) (O.contents output.new)
+        (name_line (option_copied name.entry))) }
+{
+    let Some(name) = name else {
+        return Ok(());
+    };
+    output.write_all(b"database=")?;
+    write_escaped(output, name)?;
+    output.write_all(b"\n")
+}
+
+/// Writes the size of a map, if one is wanted.
+fn write_size<O: Write>(output: &mut O, mapsize: Option<u64>) -> io::Result<()>
+    ensures { OnOk result (Appends (O.contents output.old) (O.contents output.new)
+        (size_line mapsize)) }
+{
+    match mapsize {
+        Some(size) => writeln!(output, "mapsize={size}"),
+        None => Ok(()),
+    }
+}
+
 /// Writes the end of a dump.
-pub fn write_end<O: Write>(output: &mut O) -> io::Result<()> {
+pub fn write_end<O: Write>(output: &mut O) -> io::Result<()>
+    ensures { OnOk result (Appends (O.contents output.old) (O.contents output.new) dump_end) }
+{
     output.write_all(b"DATA=END\n")
 }
 

@@ -24,7 +24,7 @@ pub use dump::{
 };
 pub use fault::{LineFault, PairsFault};
 pub use input::{Pairs, Skipped, Source};
-pub use json::write_json;
+pub use json::{json_del_of, json_put_of, write_json};
 pub use lines::{Lines, READS};
 pub use long::{
     WordFault, limited, long_from, long_of, name_from, name_of, row_key_from, row_key_of,

@@ -1,1 +1,11 @@
 mod OneMore
+mod SameFiles
+mod WholeTaken
+mod PiecesLooked
+mod RowTaken
+mod FilesCut
+mod SameTallies
+mod BlocksRead
+mod PagesEnd
+mod GapsTold
+mod AllGathered

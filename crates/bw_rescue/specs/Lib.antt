@@ -1,1 +1,9 @@
 pub mod Images
+pub mod Alike
+pub mod Hurt
+pub mod Taken
+pub mod Walked
+pub mod Cut
+pub mod Tallied
+pub mod Pages
+pub mod Gathered

@@ -36,7 +36,8 @@ fn image_at(alloc: Global, home: &mut Home, index: u32) -> Result<Option<Image>,
 }
 
 /// A copy of each live segment of an open store, byte by byte, the oldest first: all that was
-/// flushed. The store stays as it is. Refused `NoMemory`, and `Home` if a segment was not read.
+/// flushed. Refused `NoMemory`, and `Home` if a segment was not read. After Ok the store is as it
+/// was; a read that failed counts as a failure of its segment.
 ///
 /// It takes memory for the bytes of all live segments.
 pub fn live_images(alloc: Global, home: &mut Home) -> Result<Vec<Image>, RescueFault>

@@ -1,5 +1,11 @@
 //! Whether a new folder holds what was read.
 
+ghost use Rattle.std.specs.Prelude.{◌≡◌, ◌<◌, ◌^◌, ◌++◌, ◌∷◌, List, []};
+ghost use Rattle.std.specs.Prelude.{IfOk, OnOk, IsTrue, ◌↔◌};
+ghost use Rattle.bw_digest.specs.Rows.{reach};
+ghost use Rattle.bw_digest.specs.Sums.{after, sum_of};
+ghost use Rattle.bw_rescue.specs.Tallied.{Pair as PairValue, IsTallyOf, Compares};
+
 use bw_codec::Pair;
 use bw_digest::{Row, Sum};
 use bw_look::Image;
@@ -11,7 +17,7 @@ const ENOUGH: u64 = u64::MAX / 2;
 /// Pairs in the order of their keys: a row of digests, one for each of them, of which each goes on
 /// from the one before it.
 #[derive(Drop)]
-pub(crate) struct Tally {
+pub struct Tally {
     row: Row,
     /// The sum of the last pair.
     last: Option<Sum>,
@@ -19,8 +25,13 @@ pub(crate) struct Tally {
     piece: Vec<u8>,
 }
 
-/// The row with a sum for one more piece, which has a byte; and that sum.
-fn after(row: &Row, piece: &[u8]) -> Result<(Row, Sum), AllocError> {
+// The row with a sum for one more piece, which has a byte; and that sum.
+fn after(row: &Row, piece: &[u8]) -> Result<(Row, Sum), AllocError>
+    ensures row { IfOk result (λ r. reach r.0
+        ≡ after (reach row.now) (sum_of (reach row.now) piece.now)) }
+    ensures sum { IfOk result (λ r. r.1 ≡ sum_of (reach row.now) piece.now) }
+    ensures short { IfOk result (λ r. r.1.end < 2 ^ 64) }
+{
     if piece.is_empty() || piece.len() as u64 > ENOUGH || row.end() > ENOUGH {
         return Err(AllocError);
     }
@@ -28,9 +39,25 @@ fn after(row: &Row, piece: &[u8]) -> Result<(Row, Sum), AllocError> {
     Ok((row.with(sum), sum))
 }
 
+// Whether both are no sum, or one sum.
+fn are_one(last: Option<Sum>, other: Option<Sum>) -> bool
+    ensures { IsTrue result ↔ (last ≡ other) }
+{
+    match (last, other) {
+        (Some(sum), Some(theirs)) => {
+            sum.end == theirs.end && sum.digest == theirs.digest && sum.mark == theirs.mark
+        }
+        (None, None) => true,
+        (Some(_), None) => false,
+        (None, Some(_)) => false,
+    }
+}
+
 impl Tally {
     /// Of no pair.
-    pub(crate) fn new(alloc: Global) -> Tally {
+    pub fn new(alloc: Global) -> Tally
+        ensures { IsTallyOf [] result }
+    {
         Tally {
             row: Row::new(),
             last: None,
@@ -38,8 +65,12 @@ impl Tally {
         }
     }
 
-    /// Adds a pair. A refused growth is the only error.
-    pub(crate) fn add(&mut self, pair: &Pair) -> Result<(), AllocError> {
+    /// Adds a pair. A refused growth is the only error, as long as all pairs together have less
+    /// than 2^63 bytes.
+    pub fn add(&mut self, pair: &Pair) -> Result<(), AllocError>
+        ensures { (pairs : List PairValue) → IsTallyOf pairs self.old
+            → OnOk result (IsTallyOf (pairs ++ pair.now ∷ []) self.new) }
+    {
         self.piece.clear();
         self.piece.push(pair.key().len() as u8)?;
         self.piece.extend_from_slice(pair.key())?;
@@ -50,8 +81,11 @@ impl Tally {
         Ok(())
     }
 
-    /// Adds pairs.
-    pub(crate) fn add_all(&mut self, pairs: &[Pair]) -> Result<(), AllocError> {
+    /// Adds pairs. It is refused as `add` is.
+    pub fn add_all(&mut self, pairs: &[Pair]) -> Result<(), AllocError>
+        ensures { (before : List PairValue) → IsTallyOf before self.old
+            → OnOk result (IsTallyOf (before ++ pairs.now) self.new) }
+    {
         for pair in pairs {
             self.add(pair)?;
         }
@@ -59,13 +93,11 @@ impl Tally {
     }
 
     /// Whether other pairs were as many, of the same bytes as far as digests say.
-    pub(crate) fn is_same(&self, other: &Tally) -> bool {
-        let is_last = match (self.last, other.last) {
-            (Some(sum), Some(theirs)) => sum == theirs,
-            (None, None) => true,
-            _ => false,
-        };
-        is_last && self.row.count() == other.row.count()
+    pub fn is_same(&self, other: &Tally) -> bool
+        ensures { (pairs others : List PairValue) → IsTallyOf pairs self.now
+            → IsTallyOf others other.now → Compares result pairs others }
+    {
+        are_one(self.last, other.last) && self.row.count() == other.row.count()
     }
 }
 
@@ -75,27 +107,4 @@ impl Tally {
 pub(crate) struct Wanted<'a> {
     pub(crate) images: &'a [Image],
     pub(crate) tally: Option<&'a Tally>,
-}
-
-/// Whether a segment that was read is one of these: it has a byte, and another one of its lease has
-/// the same.
-fn is_among(images: &[Image], read: &Image) -> bool {
-    let mut its = images.iter().filter(|image| image.lease == read.lease);
-    match its.next() {
-        Some(image) => image.bytes.as_slice() == read.bytes.as_slice(),
-        None => read.bytes.is_empty(),
-    }
-}
-
-/// How many segments have bytes.
-fn count_held(images: &[Image]) -> usize {
-    images
-        .iter()
-        .filter(|image| !image.bytes.is_empty())
-        .count()
-}
-
-/// Whether the segments that were read are these.
-pub(crate) fn are_same(images: &[Image], read: &[Image]) -> bool {
-    count_held(images) == count_held(read) && read.iter().all(|image| is_among(images, image))
 }

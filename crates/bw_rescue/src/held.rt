@@ -1,33 +1,41 @@
 //! The whole frames of a segment, be others damaged or not.
 
+ghost use Rattle.std.specs.Prelude.{◌≡◌, ◌<◌, ◌+◌, ℕ, List, Some, drop};
+ghost use Rattle.std.specs.Prelude.{IfOk, OnOk, IsTrue, MatchOption};
+ghost use Rattle.bw_record.specs.declared.block.Frame.{Frame as FrameValue};
+ghost use Rattle.bw_codec.specs.declared.head.Header.{Header as HeaderValue};
+ghost use Rattle.bw_rescue.specs.Taken.{StandsAt, NoneAt, IsSpotAt, AreTaken, last_of};
+ghost use Rattle.bw_rescue.specs.Taken.{IsFormat, IsReadBy, BeginsWith, TakesAll};
+ghost use Rattle.bw_rescue.specs.Hurt.{cuts, is_hurt_at, is_hurt_in, AreOpen, ArePieces};
+ghost use Rattle.bw_rescue.specs.Walked.{is_damaged, GoesTo};
+
 use crate::pieces::{Piece, Pieces};
 use bw_codec::limits::{HEADER_LEN, MAX_FRAME, MAX_PAIRS};
-use bw_codec::{Frame, Header, HeaderRead, read_header};
-use bw_look::{Frames, Step};
+use bw_codec::{CodecFault, Frame, FrameRead, Header, HeaderRead, read_frame, read_header};
 use std::alloc::{AllocError, Global};
 
 /// A whole frame of a segment.
 #[derive(Debug, Clone, Copy)]
-pub(crate) struct Spot {
+pub struct Spot {
     /// Its number.
-    pub(crate) number: u64,
+    pub number: u64,
     /// Where it begins, in bytes.
-    pub(crate) at: usize,
+    pub at: usize,
 }
 
 /// A segment as it was read, and its whole frames.
 #[derive(Drop)]
-pub(crate) struct Held {
+pub struct Held {
     /// The lease of its file.
-    pub(crate) lease: u32,
+    pub lease: u32,
     /// The bytes of its file.
-    pub(crate) bytes: Vec<u8>,
+    pub bytes: Vec<u8>,
     /// By which its frames are read: of its own header only the format counts.
-    pub(crate) header: Header,
+    pub header: Header,
     /// Its whole frames, in the order of the file.
-    pub(crate) spots: Vec<Spot>,
+    pub spots: Vec<Spot>,
     /// The pieces that have not their digest, and of which frames were taken.
-    pub(crate) unchecked: Vec<Piece>,
+    pub unchecked: Vec<Piece>,
 }
 
 /// The text that a frame of format 1 begins with, and one of format 2.
@@ -42,13 +50,23 @@ fn begins_old(bytes: &[u8]) -> bool {
     bytes.len() >= HEADER_LEN && bytes[HEADER_LEN..].starts_with(&TEXTS[0])
 }
 
-/// A header by which each frame of a segment can be read, whatever its own one says of limits. If
-/// that is damaged, the first frame says the format.
-fn header_of(bytes: &[u8]) -> Header {
-    let version = match read_header(bytes) {
+// The format of the frames of a segment with this heading. If its header is damaged, the first
+// frame says the format.
+fn format_of(heading: HeaderRead, bytes: &[u8]) -> u16
+    ensures { IsFormat heading result }
+{
+    match heading {
         HeaderRead::Whole(header) => header.version,
-        _ => { if begins_old(bytes) { 1 } else { 2 } }
-    };
+        HeaderRead::Part => { if begins_old(bytes) { 1 } else { 2 } }
+        HeaderRead::Bad => { if begins_old(bytes) { 1 } else { 2 } }
+    }
+}
+
+/// A header by which each frame of a segment can be read, whatever its own one says of limits.
+fn header_of(bytes: &[u8]) -> Header
+    ensures { IsReadBy bytes.now result }
+{
+    let version = format_of(read_header(bytes), bytes);
     Header {
         version,
         number: 1,
@@ -71,16 +89,31 @@ fn next_text(bytes: &[u8], from: usize, version: u16) -> Option<usize> {
     None
 }
 
-/// The frame at an offset, with its length, if one is there.
-pub(crate) fn frame_at(
+/// What stands from an offset on.
+fn rest_of(bytes: &[u8], at: usize) -> &[u8]
+    ensures { result.now ≡ drop at bytes.now }
+{
+    if at <= bytes.len() { &bytes[at..] } else { &[] }
+}
+
+/// The frame at an offset, with its length, if a whole one stands there. A refused growth is the
+/// only error.
+pub fn frame_at(
     alloc: Global,
     bytes: &[u8],
     header: Header,
     at: usize,
-) -> Result<Option<(Frame, usize)>, AllocError> {
-    match Frames::behind(bytes, header, at).step(alloc)? {
-        Step::Frame(frame, len) => Ok(Some((frame, len))),
-        _ => Ok(None),
+) -> Result<Option<(Frame, usize)>, AllocError>
+    ensures found { IfOk result (λ found. MatchOption found (NoneAt header bytes.now at)
+        (λ f. StandsAt header bytes.now at f.0 f.1)) }
+    ensures only { (frame : FrameValue) (len : ℕ) → StandsAt header bytes.now at frame len
+        → IfOk result (λ found. found ≡ Some (frame, len)) }
+{
+    match read_frame(alloc, rest_of(bytes, at), &header) {
+        Ok(FrameRead::Whole(frame, len)) => Ok(Some((frame, len))),
+        Ok(FrameRead::Tail) => Ok(None),
+        Err(CodecFault::BadBytes) => Ok(None),
+        Err(CodecFault::NoMemory) => Err(AllocError),
     }
 }
 
@@ -95,11 +128,12 @@ enum Worth {
     Unchecked,
 }
 
-fn worth_of(piece: Option<Piece>, at: usize, len: usize) -> Worth {
+fn worth_of(piece: Option<Piece>, at: usize, end: usize) -> Worth
+    ensures { is_damaged result ≡ is_hurt_at piece at end }
+{
     match piece {
         Some(piece) if !piece.fits => {
-            let end = (at as u64).saturating_add(len as u64);
-            if piece.from == at as u64 && piece.to == end {
+            if piece.from == at as u64 && piece.to == end as u64 {
                 Worth::Damaged
             } else {
                 Worth::Unchecked
@@ -124,44 +158,63 @@ fn next_start(bytes: &[u8], header: Header, piece: Option<Piece>, at: usize) -> 
 
 /// A walk over a segment.
 #[derive(Drop)]
-struct Walk<'a> {
-    alloc: Global,
-    bytes: &'a [u8],
-    header: Header,
-    pieces: &'a mut Pieces,
+struct Walk {
+    pieces: Pieces,
     spots: Vec<Spot>,
     at: usize,
     /// The number of the last frame that was taken.
     last: u64,
 }
 
-impl Walk<'_> {
-    /// Takes a frame, if it is sound.
-    fn take(&mut self, number: u64, len: usize, worth: Worth) -> Result<(), AllocError> {
-        if worth == Worth::Unchecked {
-            self.pieces.take();
+impl Walk {
+    // Takes a frame, if it is sound, and goes on to its end.
+    fn take(&mut self, number: u64, end: usize, worth: Worth) -> Result<(), AllocError>
+        ensures taken { (header : HeaderValue) (bytes : List ℕ)
+            → AreTaken header bytes self.old.last self.old.spots.items
+            → IsSpotAt header bytes number self.old.at → self.old.last < number
+            → OnOk result (AreTaken header bytes self.new.last self.new.spots.items) }
+        ensures goes { OnOk result (GoesTo number end (is_damaged worth) self.old self.new) }
+        ensures passed { self.new.pieces.passed ≡ self.old.pieces.passed }
+    {
+        match worth {
+            Worth::Damaged => {
+                self.at = end;
+                return Ok(());
+            }
+            Worth::Unchecked => self.pieces.take(),
+            Worth::Sound => {}
         }
-        if worth != Worth::Damaged {
-            self.spots.push(Spot {
-                number,
-                at: self.at,
-            })?;
-            self.last = number;
-        }
-        self.at = self.at.saturating_add(len);
+        self.spots.push(Spot {
+            number,
+            at: self.at,
+        })?;
+        self.last = number;
+        self.at = end;
         Ok(())
     }
 
-    /// Looks at what stands next, and says whether there is more.
-    fn step(&mut self) -> Result<bool, AllocError> {
+    // Looks at what stands next, and says whether there is more.
+    fn step(&mut self, alloc: Global, bytes: &[u8], header: Header) -> Result<bool, AllocError>
+        ensures taken { AreTaken header bytes.now self.old.last self.old.spots.items
+            → OnOk result (AreTaken header bytes.now self.new.last self.new.spots.items) }
+        ensures kept { OnOk result (BeginsWith self.old.spots.items self.new.spots.items) }
+        ensures goes { (frame : FrameValue) (len : ℕ)
+            → StandsAt header bytes.now self.old.at frame len → self.old.last < frame.number
+            → AreOpen self.old.at self.old.pieces → IfOk result (λ more. IsTrue more
+            × AreOpen self.old.at self.new.pieces
+            × GoesTo frame.number (self.old.at + len)
+            (is_hurt_in (cuts self.old.pieces) self.old.at (self.old.at + len))
+            self.old self.new) }
+    {
         let piece = self.pieces.around(self.at as u64);
-        match frame_at(self.alloc, self.bytes, self.header, self.at)? {
+        match frame_at(alloc, bytes, header, self.at)? {
             // The frames of a segment ascend: what does not is the image of a frame in a value.
             Some((frame, len)) if frame.number > self.last => {
-                self.take(frame.number, len, worth_of(piece, self.at, len))?;
+                let end = self.at.saturating_add(len);
+                self.take(frame.number, end, worth_of(piece, self.at, end))?;
                 Ok(true)
             }
-            _ => match next_start(self.bytes, self.header, piece, self.at) {
+            _ => match next_start(bytes, header, piece, self.at) {
                 Some(next) => {
                     self.at = next;
                     Ok(true)
@@ -170,36 +223,27 @@ impl Walk<'_> {
             },
         }
     }
-
-    /// Goes over all of it. Each step comes to a later byte.
-    fn run(&mut self) -> Result<(), AllocError> {
-        for _ in 0..self.bytes.len() {
-            if !self.step()? {
-                break;
-            }
-        }
-        Ok(())
-    }
 }
 
-/// The whole frames of these bytes.
-fn spots_of(
-    alloc: Global,
-    bytes: &[u8],
-    header: Header,
-    pieces: &mut Pieces,
-) -> Result<Vec<Spot>, AllocError> {
+// Goes over all bytes of a segment. Each step comes to a later one.
+fn walked(alloc: Global, bytes: &[u8], header: Header, pieces: Pieces) -> Result<Walk, AllocError>
+    ensures taken { IfOk result (λ walk.
+        AreTaken header bytes.now walk.last walk.spots.items) }
+    ensures all { (sums : List ℕ) → ArePieces bytes.now sums pieces
+        → IfOk result (λ walk. TakesAll header bytes.now sums walk.spots.items) }
+{
     let mut walk = Walk {
-        alloc,
-        bytes,
-        header,
-        pieces: &mut *pieces,
+        pieces,
         spots: Vec::new(alloc),
         at: HEADER_LEN,
         last: 0,
     };
-    walk.run()?;
-    Ok(walk.spots)
+    'steps: for _ in 0..bytes.len() {
+        if !walk.step(alloc, bytes, header)? {
+            return Ok(walk);
+        }
+    }
+    Ok(walk)
 }
 
 /// The pieces that have not their digest, and of which frames were taken.
@@ -214,16 +258,23 @@ fn unchecked_of(alloc: Global, pieces: &Pieces) -> Result<Vec<Piece>, AllocError
 }
 
 impl Held {
-    /// The segment of a lease, with these bytes and sums.
-    pub(crate) fn of(
-        alloc: Global,
-        lease: u32,
-        bytes: Vec<u8>,
-        sums: &[u8],
-    ) -> Result<Held, AllocError> {
+    /// The segment of a lease, with these bytes and sums. Each frame that is taken is whole, and
+    /// their numbers ascend. All frames that stand in a row after the header are taken first, but
+    /// for those of which each is a piece by itself that has not its digest. After the row more may
+    /// be found, as behind damaged bytes, or in a value that holds the image of a frame. A refused
+    /// growth is the only error.
+    pub fn of(alloc: Global, lease: u32, bytes: Vec<u8>, sums: &[u8]) -> Result<Held, AllocError>
+        ensures lease { IfOk result (λ h. h.lease ≡ lease) }
+        ensures bytes { IfOk result (λ h. h.bytes ≡ bytes) }
+        ensures header { IfOk result (λ h. IsReadBy bytes.items h.header) }
+        ensures taken { IfOk result (λ h. AreTaken h.header h.bytes.items
+            (last_of 0 h.spots.items) h.spots.items) }
+        ensures all { IfOk result (λ h.
+            TakesAll h.header h.bytes.items sums.now h.spots.items) }
+    {
         let header = header_of(bytes.as_slice());
-        let mut pieces = Pieces::of(alloc, bytes.as_slice(), sums)?;
-        let spots = spots_of(alloc, bytes.as_slice(), header, &mut pieces)?;
+        let pieces = Pieces::of(alloc, bytes.as_slice(), sums)?;
+        let Walk { pieces, spots, .. } = walked(alloc, bytes.as_slice(), header, pieces)?;
         let unchecked = unchecked_of(alloc, &pieces)?;
         Ok(Held {
             lease,
@@ -235,7 +286,7 @@ impl Held {
     }
 
     /// The most pairs that a page has, as its own header says, if it has one.
-    pub(crate) fn m(&self) -> Option<u16> {
+    pub fn m(&self) -> Option<u16> {
         match read_header(self.bytes.as_slice()) {
             HeaderRead::Whole(header) => Some(header.m),
             _ => None,

@@ -1,6 +1,7 @@
 //! A store as of an earlier frame, in another folder.
 
 use crate::copying::Copied;
+use crate::cutting::cut_at;
 use crate::fault::RescueFault;
 use crate::judged::{Judged, judge};
 use crate::reading::{Seen, seen_images};
@@ -8,7 +9,7 @@ use bw_beside::{already_there, ends_of};
 use bw_care::RecoverCause;
 use bw_file::{Folder, FolderFault};
 use bw_home::{Found, System};
-use bw_look::{BlockRow, Image, Kind, Survey, Watch, carry, kept_bytes, pages_at};
+use bw_look::{BlockRow, Image, Kind, Survey, Watch, carry, pages_at};
 use std::alloc::{AllocError, Global};
 use std::collections::BTreeMap;
 
@@ -71,17 +72,6 @@ fn with_pages(then: Judged, pages: u64) -> Result<Judged, RescueFault> {
         return Err(RescueFault::Recovery(RecoverCause::Unlawful { page }));
     }
     Ok(then)
-}
-
-/// The segments as they were when this frame was the last.
-fn cut_at(alloc: Global, images: Vec<Image>, frame: u64) -> Result<Vec<Image>, AllocError> {
-    let mut cut = Vec::new(alloc);
-    for mut image in images {
-        let kept = kept_bytes(alloc, &image, frame)?;
-        image.bytes.truncate(kept);
-        cut.push(image)?;
-    }
-    Ok(cut)
 }
 
 /// Refuses segments of which a piece is kept, in a part at least, that has not its digest.

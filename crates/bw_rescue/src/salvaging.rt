@@ -3,10 +3,10 @@
 use crate::compared::{Tally, Wanted};
 use crate::copying::Copied;
 use crate::fault::RescueFault;
-use crate::held::{Held, frame_at};
+use crate::gathered::pages_of;
+use crate::held::Held;
 use crate::lost::Loss;
 use crate::order::pairs_of;
-use crate::pages::Pages;
 use crate::target::Target;
 use crate::whole::whole;
 use bw_care::RecoverCause;
@@ -16,7 +16,6 @@ use bw_file::{FolderFault, FolderReader};
 use bw_home::{Options, System};
 use bw_look::{Watch, Work, folder_bytes, frame_in_folder};
 use std::alloc::{AllocError, Global};
-use std::collections::BTreeMap;
 
 /// What was salvaged, and what was not.
 #[derive(Drop)]
@@ -32,13 +31,6 @@ pub struct Salvaged {
 struct Wreck {
     held: Vec<Held>,
     losses: Vec<Loss>,
-}
-
-/// Where a whole frame stands: the position of its segment, and its offset.
-#[derive(Debug, Clone, Copy)]
-struct At {
-    segment: usize,
-    at: usize,
 }
 
 impl Wreck {
@@ -146,53 +138,6 @@ impl Wreck {
             most
         }
     }
-
-    /// All whole frames, by their numbers. If two have one number, the first one counts.
-    fn frames(&self, alloc: Global) -> Result<BTreeMap<u64, At>, AllocError> {
-        let mut frames = BTreeMap::new(alloc);
-        for (segment, held) in self.held.as_slice().iter().enumerate() {
-            add_spots(&mut frames, segment, held)?;
-        }
-        Ok(frames)
-    }
-
-    /// Reads a frame into the pages.
-    fn read(&self, alloc: Global, pages: &mut Pages, at: At) -> Result<(), AllocError> {
-        let Some(held) = self.held.as_slice().get(at.segment) else {
-            return Ok(());
-        };
-        match frame_at(alloc, held.bytes.as_slice(), held.header, at.at)? {
-            Some((frame, _)) => pages.read(frame),
-            None => Ok(()),
-        }
-    }
-
-    /// Reads all whole frames, in their order.
-    fn pages(&self, alloc: Global) -> Result<Pages, AllocError> {
-        let mut pages = Pages::new(alloc);
-        for (_, at) in &self.frames(alloc)? {
-            self.read(alloc, &mut pages, *at)?;
-        }
-        Ok(pages)
-    }
-}
-
-/// Adds the whole frames of a segment.
-fn add_spots(
-    frames: &mut BTreeMap<u64, At>,
-    segment: usize,
-    held: &Held,
-) -> Result<(), AllocError> {
-    for spot in held.spots.as_slice() {
-        if !frames.contains_key(&spot.number) {
-            let at = At {
-                segment,
-                at: spot.at,
-            };
-            let _ = frames.insert(spot.number, at)?;
-        }
-    }
-    Ok(())
 }
 
 /// What was read of a folder.
@@ -213,7 +158,7 @@ fn read_saved<R: System, W: Watch>(
     let wreck = Wreck::of(rt, path, leases, watch)?;
     watch.see(Work::Recovering, 0, wreck.bytes());
     let m = wreck.m();
-    let pages = wreck.pages(rt.alloc())?;
+    let pages = pages_of(rt.alloc(), wreck.held.as_slice())?;
     let mut losses = wreck.losses;
     pages.add_gaps(&mut losses)?;
     let leaves = pages.end(&mut losses)?;

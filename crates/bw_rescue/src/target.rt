@@ -1,7 +1,11 @@
 //! A new folder. It is made under another name beside, and gets its own at the end: whatever stops
 //! this in between, a part of it is never taken for a store.
 
-use crate::compared::{Tally, Wanted, are_same};
+ghost use Rattle.std.specs.Prelude.{IfOk};
+ghost use Rattle.bw_rescue.specs.Alike.{AreHeld};
+
+use crate::alike::are_same;
+use crate::compared::{Tally, Wanted};
 use crate::copying::Copied;
 use crate::fault::RescueFault;
 use crate::judged::{Judged, bytes_of, judge_owned};
@@ -69,6 +73,23 @@ fn judge_again<W: Watch>(
     Ok(judged)
 }
 
+// Compares what was read again with what it has to be, and says what recovery finds in it: an
+// answer says that both have the same files.
+fn compared<W: Watch>(
+    alloc: Global,
+    images: Vec<Image>,
+    wanted: Wanted<'_>,
+    watch: &mut W,
+) -> Result<Judged, RescueFault>
+    ensures { IfOk result (λ judged. AreHeld wanted.entry.images.now images.items
+        × AreHeld images.items wanted.entry.images.now) }
+{
+    if !are_same(wanted.images, images.as_slice()) {
+        return Err(RescueFault::Unlike);
+    }
+    judge_again(alloc, images, wanted.tally, watch)
+}
+
 impl Target {
     /// A folder of this path, which nothing may have yet. The one in which it is made has
     /// `.partial` after its name, and may not be there either, but for what an earlier run left.
@@ -128,10 +149,7 @@ impl Making {
             Err(RescueFault::Source(fault)) => return Err(RescueFault::Partial(fault)),
             Err(fault) => return Err(fault),
         };
-        if !are_same(wanted.images, images.as_slice()) {
-            return Err(RescueFault::Unlike);
-        }
-        let copied = Copied::of(&judge_again(rt.alloc(), images, wanted.tally, watch)?);
+        let copied = Copied::of(&compared(rt.alloc(), images, wanted, watch)?);
         if let Some(from) = noted {
             let _ = carry(rt, from, self.partial(), copied.frame);
         }

@@ -51,10 +51,11 @@ impl Run {
         unsafe { slice::from_raw_parts((ptr as *const u8).add(10), (*ptr).len as usize) }
     }
 
-    /// One more owner of the same bytes. No memory is taken; it is refused only if the count of the
-    /// owners is full.
+    /// One more owner of the same bytes, in the same place. No memory is taken; it is refused only if
+    /// the count of the owners is full.
     pub fn share(&self) -> Result<Run, AllocError>
-        ensures { IfOk result (λ run. run.bytes ≡ self.now.bytes) }
+        ensures bytes { IfOk result (λ run. run.bytes ≡ self.now.bytes) }
+        ensures shares { IfOk result (λ run. run.ptr ≡ self.now.ptr) }
     {
         match self.another() {
             Some(run) => Ok(run),
@@ -63,7 +64,7 @@ impl Run {
     }
 
     fn another(&self) -> Option<Run>
-        ensures { IfSome result (λ run. run.bytes ≡ self.now.bytes) }
+        ensures { IfSome result (λ run. (run.bytes ≡ self.now.bytes) × (run.ptr ≡ self.now.ptr)) }
     {
         let ptr = self.ptr;
         let alloc = self.alloc;

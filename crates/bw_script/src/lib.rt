@@ -10,16 +10,21 @@
 #![tactic(auto)]
 
 mod answers;
+mod asking;
 mod calls;
+mod doing;
 mod events;
 mod keyed;
 mod mark;
+mod noting;
 mod program;
 mod replay;
 mod rows;
+mod script;
 mod shell;
 mod tabled;
 mod tables;
+mod telling;
 mod tended;
 
 pub use program::run;

@@ -206,7 +206,10 @@ impl Site {
     pub fn empty<R: System>(&self, rt: &R, lease: u32) -> Result<(), FolderFault> {
         match &self.place {
             Place::Memory => Ok(()),
-            Place::Folder(folder) => folder.empty(rt, lease),
+            Place::Folder(folder) => {
+                let _ = folder.empty(rt, lease)?;
+                Ok(())
+            }
         }
     }
 

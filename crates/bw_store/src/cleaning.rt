@@ -53,8 +53,8 @@ impl Store {
         // found.
         ensures runs { RunsAs (kept_by self.old holding) result (kept_by self.new holding) }
 
-        // So it is as long as the segment that was given up has what it had, and stands before the
-        // others: its file is emptied after this call.
+        // What a stop leaves is found even if the segment that was given up still has what it had,
+        // and stands before the others: its file is emptied after this call.
         ensures before { MayBeStoppedBefore 1 (kept_by self.old holding) result
             (kept_by self.new holding) }
     {
@@ -103,8 +103,8 @@ impl Store {
         // found.
         ensures runs { RunsAs (kept_by self.old holding) result (kept_by self.new holding) }
 
-        // So it is as long as segments that were given up have what they had, and stand before the
-        // others: their files are emptied after this call, one after the other.
+        // What a stop leaves is found even if segments that were given up still have what they had,
+        // and stand before the others: their files are emptied after this call, one by one.
         ensures before { MayBeStoppedBefore (old_segments (kept_by self.old holding).log)
             (kept_by self.old holding) result (kept_by self.new holding) }
     {

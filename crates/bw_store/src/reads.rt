@@ -7,6 +7,7 @@ ghost use Rattle.bw_page.specs.Ahead.{IsFirst, IsStretch};
 ghost use Rattle.bw_page.specs.Leaves.{leaf_at, home, plain};
 ghost use Rattle.bw_history.specs.Entries.{records};
 ghost use Rattle.bw_walks.specs.Back.{IsLast, IsLastBelow};
+ghost use Rattle.bw_walks.specs.Shared.{with_key};
 ghost use Rattle.bw_core.specs.Counting.{noted_left};
 ghost use Rattle.bw_making.specs.Overlay.{is_made};
 ghost use Rattle.bw_store.specs.Reading.{leaves_now, PageLeaves, ReadLeaves};
@@ -58,6 +59,29 @@ impl Store {
             self.old ≡ false → IfErr result (λ fault. fault ≡ StoreFault.NoMemory) }
     {
         self.core.get(key)
+    }
+
+    /// The pair of a key, with the value that `get` finds. If its page is in memory, the pair
+    /// shares its bytes with the page: nothing is copied, and no memory is taken. It stays as it
+    /// was found, whatever becomes of the page, and its bytes stay in memory as long as it does. If
+    /// the page is evicted, it has bytes of its own.
+    ///
+    /// It costs what `get` does, without the copy; of an evicted page, memory for the pair and a
+    /// copy more. Refused as `get` is; `NoMemory` also if the count of those that share the pair is
+    /// full.
+    pub fn get_shared(&mut self, key: &Key) -> Result<Option<Pair>, StoreFault>
+        requires { IsSound self.old holding }
+        ensures value { IfOk result (λ pair. pair ≡ with_key key.now
+            (finite.get (plain (kept_by self.old holding).start
+            (records (kept_by self.old holding).entries)) key.now)) }
+        ensures reads { OnlyReads self.old self.new holding }
+        ensures leaves { ReadLeaves (HoldsPage (kept_by self.old holding).log
+            (home key.now (leaves_now (kept_by self.old holding))).page)
+            (kept_by self.old holding) result (kept_by self.new holding) }
+        ensures memory { is_evicted (home key.now (leaves_now (kept_by self.old holding))).page
+            self.old ≡ false → IfErr result (λ fault. fault ≡ StoreFault.NoMemory) }
+    {
+        self.core.get_shared(key)
     }
 
     /// The pair with the least key at or above this one, as all records of the history leave it,

@@ -8,6 +8,7 @@ use Rattle.bw_leaf.specs.Changed.{Bytes, Pairs}
 use Rattle.bw_page.specs.Leaves.{plain, leaf_at}
 use Rattle.bw_page.specs.Shown.{Shown, run}
 use Rattle.bw_history.specs.declared.entry.Entry.{Entry}
+use Rattle.bw_walks.specs.Shared.{with_key}
 use Rattle.bw_versions.specs.Batches.{BatchData}
 use Rattle.bw_history.specs.Entries.{records}
 
@@ -25,6 +26,10 @@ pages_of p = run p.start (records p.entries)
 abbrev pub value_in : Option Posted → Bytes → Option Bytes
 value_in None key = None
 value_in (Some p) key = finite.get (plain p.start.leaves (records p.entries)) key
+
+-- a key with its value, if it has one
+abbrev pub pair_in : Option Posted → Bytes → Option (Bytes × Bytes)
+pair_in p key = with_key key (value_in p key)
 
 abbrev pub leaf_in : Option Posted → ℕ → Option Leaf
 leaf_in None page = None

@@ -12,10 +12,11 @@
 ghost use Rattle.std.specs.Prelude.{◌≡◌, ◌++◌, ◌∷◌, [], map, ◌+◌, ◌≤◌, Err, vec_len, length, IfOk, OnOk, OnErr, IsErr};
 ghost use Rattle.std.specs.Vec.{vec_capacity};
 ghost use Rattle.bw_page.specs.Ahead.{IsFirst, IsStretch};
+ghost use Rattle.bw_walks.specs.Shared.{with_key};
 ghost use Rattle.bw_page.specs.Leaves.{plain, union};
 ghost use Rattle.bw_page.specs.Batch.{SomeIsSpent};
 ghost use Rattle.bw_history.specs.Entries.{records};
-ghost use Rattle.bw_versions.specs.Posted.{pages_of, brings, posted_of, value_in, leaf_in, IsFirstIn, IsStretchIn};
+ghost use Rattle.bw_versions.specs.Posted.{pages_of, brings, posted_of, value_in, pair_in, leaf_in, IsFirstIn, IsStretchIn};
 ghost use Rattle.std.specs.Option.{ForSome};
 ghost use Rattle.std.specs.FinMap as finite;
 
@@ -23,7 +24,7 @@ use crate::book::Front;
 use bw_codec::{Key, Leaf, Pair, Value};
 use bw_history::PackedEntry;
 use bw_page::{ApplyError, Leaves, Start};
-use bw_walks::share_stretch;
+use bw_walks::{share_of, share_stretch};
 use std::alloc::{AllocError, Global};
 use std::marker::Model;
 use std::snapshot::Snapshot;
@@ -99,6 +100,15 @@ impl Board {
         ensures { IsFirst (plain self.now.start.leaves (records self.now.entries)) key.now result }
     {
         self.leaves.next_at(key)
+    }
+
+    /// The pair of a key, if it has one. It shares its bytes with the pages. Refused if the count
+    /// of those that share it is full.
+    pub fn get_shared(&self, key: &Key) -> Result<Option<Pair>, AllocError>
+        ensures { IfOk result (λ pair. pair ≡ with_key key.now
+            (finite.get (plain self.now.start.leaves (records self.now.entries)) key.now)) }
+    {
+        share_of(&self.leaves, key)
     }
 
     /// Puts the pairs at or above a key into `found`, in order and no more than so many. They share
@@ -265,6 +275,13 @@ impl Posts {
         next(&self.board, key)
     }
 
+    /// The pair of a key, if it has one; it shares its bytes.
+    pub fn get_shared(&self, key: &Key) -> Result<Option<Pair>, AllocError>
+        ensures { IfOk result (λ pair. pair ≡ pair_in (posted_of self.now) key.now) }
+    {
+        shared(&self.board, key)
+    }
+
     /// The pairs at or above a key, in order and no more than so many.
     pub fn stretch(&self, key: &Key, most: usize) -> Result<Vec<Pair>, AllocError>
         ensures { IfOk result (λ pairs. IsStretchIn (posted_of self.now) key.now most pairs.items) }
@@ -333,6 +350,15 @@ fn next(board: &Option<Board>, key: &Key) -> Option<(Key, Value)>
     match board {
         Some(board) => board.next_at(key),
         None => None,
+    }
+}
+
+fn shared(board: &Option<Board>, key: &Key) -> Result<Option<Pair>, AllocError>
+    ensures { IfOk result (λ pair. pair ≡ pair_in board.now key.now) }
+{
+    match board {
+        Some(board) => board.get_shared(key),
+        None => Ok(None),
     }
 }
 

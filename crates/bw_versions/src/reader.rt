@@ -7,11 +7,11 @@
 
 ghost use Rattle.std.specs.Prelude.{◌≡◌, ◌⊎◌, OnOk, OnErr, IfOk, IfSome};
 ghost use mathlib.Core.List.{IsPrefix};
-ghost use Rattle.bw_versions.specs.Posted.{posted_of, value_in, leaf_in, IsFirstIn, IsStretchIn};
+ghost use Rattle.bw_versions.specs.Posted.{posted_of, value_in, pair_in, leaf_in, IsFirstIn, IsStretchIn};
 ghost use Rattle.bw_versions.specs.Heard.{Beyond, Reads};
 
 use crate::book::Front;
-use crate::view::{Looker, NextAt, PageOf, Question, Stretch, VersionReader};
+use crate::view::{Looker, NextAt, PageOf, Question, SharedOf, Stretch, VersionReader};
 use bw_codec::{Key, Leaf, Pair, Value};
 use core::mem::replace_with;
 use std::marker::Model;
@@ -115,6 +115,32 @@ impl<L: Looker> ReaderOf<L> {
         *seen = mark.again();
         *learnt = mark;
         Ok(value)
+    }
+
+    /// The pair of a key, with the value that `get` finds. Its bytes are not copied, and stay in
+    /// memory as long as the pair does. No memory is taken.
+    ///
+    /// Refused `NoReader` as `get` is, or `NoMemory` if the count of those that share the pair is
+    /// full.
+    pub fn get_shared(&mut self, key: &Key) -> Result<Option<Pair>, ReadFault>
+        ensures reads { OnOk result (Reads self.old self.new) }
+        ensures answer { IfOk result (λ pair. pair ≡ pair_in (posted_of self.new.seen) key.now) }
+        ensures unchanged { OnErr result (self.new ≡ self.old) }
+    {
+        let ReaderOf {
+            inner,
+            seen,
+            learnt,
+        } = self;
+        let Some((pair, mark)) = looked(inner, seen, learnt, &SharedOf(key)) else {
+            return Err(ReadFault::NoReader);
+        };
+        let Ok(pair) = pair else {
+            return Err(ReadFault::NoMemory);
+        };
+        *seen = mark.again();
+        *learnt = mark;
+        Ok(pair)
     }
 
     /// The pair with the least key at or above this one in what was published, if there is one. No

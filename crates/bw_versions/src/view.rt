@@ -71,6 +71,23 @@ impl Question for Key {
     }
 }
 
+/// The pair of a key, which shares its bytes.
+#[derive(Drop)]
+pub struct SharedOf<'k>(pub &'k Key);
+
+impl<'k> Question for SharedOf<'k> {
+    type Answer = Result<Option<Pair>, AllocError>;
+
+    ghost use Rattle.std.specs.Prelude.{◌≡◌, IfOk};
+    ghost use Rattle.bw_versions.specs.Posted.{pair_in};
+
+    ghost answers = { λ asked p answer. IfOk answer (λ pair. pair ≡ pair_in p asked.0.now) };
+
+    fn ask(&self, posts: &Posts) -> Result<Option<Pair>, AllocError> {
+        posts.get_shared(self.0)
+    }
+}
+
 /// The pair with the least key at or above this one.
 #[derive(Drop)]
 pub struct NextAt<'k>(pub &'k Key);

@@ -1,2 +1,3 @@
 -- What callers see.
 pub mod Back
+pub mod Shared

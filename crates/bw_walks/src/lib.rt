@@ -11,4 +11,4 @@ mod back;
 mod shared;
 
 pub use back::{Look, Reach, found_on, page_before};
-pub use shared::{share_pairs, share_stretch};
+pub use shared::{share_of, share_pair, share_pairs, share_stretch};

@@ -3,12 +3,15 @@
 //! A page holds each pair as a handle to one run of bytes, and so does whoever asked for it: the
 //! run never changes, and stays in memory as long as one of them holds it.
 
-ghost use Rattle.std.specs.Prelude.{◌≡◌, ◌+◌, ◌≤◌, ◌++◌, [], length, vec_len, OnOk};
+ghost use Rattle.std.specs.Prelude.{◌≡◌, ◌+◌, ◌≤◌, ◌++◌, [], length, vec_len, IfOk, IsTrue, OnOk};
 ghost use Rattle.std.specs.Vec.{vec_capacity};
+ghost use Rattle.std.specs.FinMap as finite;
+ghost use Rattle.bw_record.specs.Keys.{ascends};
 ghost use Rattle.bw_leaf.specs.Above.{pairs_above, with_some};
 ghost use Rattle.bw_leaf.specs.Seek.{seek_of, end_of};
 ghost use Rattle.bw_page.specs.Ahead.{IsStretch};
 ghost use Rattle.bw_page.specs.Leaves.{home, union};
+ghost use Rattle.bw_walks.specs.Shared.{pair_at, with_key};
 
 use bw_codec::{Key, Leaf, Pair, Pairs};
 use bw_leaf::find_key;
@@ -45,6 +48,37 @@ fn push_shared(found: &mut Vec<Pair>, pairs: &[Pair]) -> Result<(), AllocError>
         found.push_reserved(pair.copy()?);
     }
     Ok(())
+}
+
+/// The pair of this key on a page, if it has one. It shares its bytes with the page.
+///
+/// It costs a search among the page's pairs. Refused if the count of those that share the pair is
+/// full.
+pub fn share_pair(leaf: &Leaf, key: &Key) -> Result<Option<Pair>, AllocError>
+    requires { IsTrue (ascends leaf.now.pairs) }
+    ensures { IfOk result (λ pair. pair ≡ pair_at key.now leaf.now.pairs) }
+{
+    match find_key(&leaf.pairs, key.as_slice()) {
+        Ok(at) => {
+            let pair = leaf.pairs.as_slice()[at].copy()?;
+            Ok(Some(pair))
+        }
+        Err(_) => Ok(None),
+    }
+}
+
+/// The pair of this key, if it has one; no page is evicted. As `share_pair`, after a search among
+/// the pages.
+pub fn share_of(leaves: &Leaves, key: &Key) -> Result<Option<Pair>, AllocError>
+    requires { leaves.now.evicted ≡ [] }
+    ensures { IfOk result (λ pair.
+        pair ≡ with_key key.now (finite.get (union leaves.now.leaves) key.now)) }
+{
+    let _ = leaves.count(); // For the proof.
+    match leaves.page(leaves.find(key)) {
+        Some(leaf) => share_pair(leaf, key),
+        None => unreachable!(),
+    }
 }
 
 /// Adds the pairs of a page at or above a key, in order, until `found` has so many: what stood

@@ -86,6 +86,23 @@ pub fn has(store: &mut Subject, key: &[u8], text: &[u8]) -> bool
     }
 }
 
+/// Whether a key has this value, by the pair that shares its bytes; with no text, whether it has
+/// none.
+pub fn has_shared(store: &mut Subject, key: &[u8], text: &[u8]) -> bool
+    requires { IsSound store.old holding }
+    ensures sound { IsSound store.new holding }
+    ensures rings { rings_by store.new holding ≡ rings_by store.old holding }
+{
+    let Ok(key) = Key::new(key) else {
+        return false;
+    };
+    match store.get_shared(&key) {
+        Ok(Some(pair)) => pair.key() == key.as_slice() && pair.value() == text,
+        Ok(None) => text.len() == 0,
+        Err(_) => false,
+    }
+}
+
 // Whether a walk back answers this pair; with no key, whether it answers none.
 fn is_pair(found: Result<Option<(Key, Value)>, StoreFault>, at: &[u8], text: &[u8]) -> bool {
     match found {

@@ -5,7 +5,7 @@ ghost use Rattle.bw_ring.specs.Ends.{ring_of_feed};
 ghost use Rattle.test_subjects.specs.Views.{rings_by, IsSound};
 
 use crate::asking::{
-    are_bytes, has, is_history, is_last, is_last_below, is_page, is_stretch, is_unread,
+    are_bytes, has, has_shared, is_history, is_last, is_last_below, is_page, is_stretch, is_unread,
 };
 use crate::putting::{Op, are_each_put, are_put, are_same, is_grouped, is_put, record};
 use crate::reading::reads;
@@ -70,6 +70,9 @@ pub enum Step {
     Evict(u32, Result<bool, StoreFault>),
     /// The value of a key; no text if it has none.
     Get(&'static [u8], &'static [u8]),
+    /// The pair of a key, which shares its bytes with its page: its value; no text if there is
+    /// none.
+    Shared(&'static [u8], &'static [u8]),
     /// The last pair at or below a key: its key and its value; no key if there is none.
     Last(&'static [u8], &'static [u8], &'static [u8]),
     /// The last pair below a key: its key and its value; no key if there is none.
@@ -110,8 +113,8 @@ pub enum Step {
 use Step::{
     Below, Bytes, Clean, Count, Counts, Cuts, Del, Each, Evict, Flush, Forget, Full, FullGroup,
     Get, Group, History, Last, Live, Lives, Needed, NotUpgraded, Page, Pages, Pays, Put, Puts,
-    Reads, Receipt, Refused, Rewrite, Same, Stands, Stops, Stretch, Turn, Uncleaned, Unread,
-    Upgrade, Walk,
+    Reads, Receipt, Refused, Rewrite, Same, Shared, Stands, Stops, Stretch, Turn, Uncleaned,
+    Unread, Upgrade, Walk,
 };
 
 fn are_cuts(cuts: &[u64], told: &[u64]) -> bool {
@@ -221,6 +224,7 @@ pub fn answers(alloc: Global, store: &mut Subject, step: &Step) -> bool
         Unread(page, fault) => is_unread(store, *page, *fault),
         Evict(page, told) => store.evict(*page) == *told,
         Get(key, value) => has(store, *key, *value),
+        Shared(key, value) => has_shared(store, *key, *value),
         Last(key, at, value) => is_last(store, *key, *at, *value),
         Below(key, at, value) => is_last_below(store, *key, *at, *value),
         Stretch(key, most, text) => is_stretch(alloc, store, *key, *most, *text),

@@ -232,6 +232,17 @@ impl Subject {
         }
     }
 
+    pub fn get_shared(&mut self, key: &Key) -> Result<Option<Pair>, StoreFault>
+        requires { IsSound self.old holding }
+        ensures sound { IsSound self.new holding }
+        ensures rings { rings_by self.new holding ≡ rings_by self.old holding }
+    {
+        match self {
+            Subject::Bare(core) => core.get_shared(key),
+            Subject::Shown(store) => store.get_shared(key),
+        }
+    }
+
     pub fn prev_at(&mut self, key: &Key) -> Result<Option<(Key, Value)>, StoreFault>
         requires { IsSound self.old holding }
         ensures sound { IsSound self.new holding }

@@ -20,6 +20,7 @@ ghost use Rattle.bw_page.specs.Aim.{IsAim};
 
 use super::Leaves;
 use crate::fault::ApplyError;
+use crate::gap::pass;
 use crate::index::take_above;
 use crate::journal::{Displaced, Undo};
 use bw_codec::{Leaf, Packed};
@@ -333,6 +334,7 @@ impl Leaves {
         ensures { self.new ≡ undone self.old (Undo.Back back) }
     {
         let (at, _, found) = self.aim(self.find_packed(&back), &back);
+        pass(&mut self.gap, back.key());
         self.leaves.take_back(at, found, back);
     }
 
@@ -342,6 +344,7 @@ impl Leaves {
         requires { IsNewest self.old (Undo.Page displaced) }
         ensures { self.new ≡ undone self.old (Undo.Page displaced) }
     {
+        pass(&mut self.gap, displaced.key());
         let upper = take_above(&mut self.leaves, &mut self.index, displaced.pages());
         let leaf = displaced.into_leaf(&mut self.leaves, upper);
         let at = leaf.page as usize - 1;

@@ -258,7 +258,7 @@ fn empty(stand: &Stand, lease: u32) -> Told {
         return Told::No;
     };
     match folder.empty(&stand.rt, lease) {
-        Ok(()) => Told::Done,
+        Ok(_) => Told::Done,
         Err(cause) => fault(cause),
     }
 }
@@ -321,7 +321,7 @@ fn whole(stand: &Stand, lease: u32, text: &str, ends: &[u64]) -> Told {
         return Told::No;
     };
     match folder.write(&stand.rt, lease, text.as_bytes(), ends) {
-        Ok(()) => Told::Done,
+        Ok(_) => Told::Done,
         Err(cause) => fault(cause),
     }
 }
@@ -335,7 +335,7 @@ fn held_back(stand: &Stand, lease: u32, text: &str, ends: &[u64]) -> Told {
         Err(cause) => return fault(cause),
     };
     match begun.end() {
-        Ok(()) => Told::Done,
+        Ok(_) => Told::Done,
         Err(cause) => fault(cause),
     }
 }

@@ -42,9 +42,10 @@ returns-in_err-append_care-clause-reason g c =
     let p = err_from_is_err_and c.from_residual-in_err-append_care.result c.from_residual-in_err-append_care.ensures.1 in
     let filled = c.in_ok-count.ensures.filled in
     let s = sends_of _ _ _ _ _ _ _ _ c.in_ok-buffer.ensures c.limit.ensures filled.2 filled.3 c.seal.ensures in
-    rw (p.1, p.2) (append_reason _ _ c.args.pages.now (frame_of c.seal.new.self) c.in_err-append_care.field-0.0
+    rw (p.1, p.2) (append_reason _ _ (seen c.append_care.new.self (λ b. (goal.Segment-dyn g b).holding b.1)) c.args.pages.now (frame_of c.seal.new.self) c.in_err-append_care.field-0.0
     (next_sent _ c.fill.new.buffer c.seal.new.self c.args.pages.now c.in_ok-count.count c.in-Some.number s filled.0 filled.1 c.seal.ensures filled.4)
-    c.in_ok-count.ensures.stops c.requires.works (short_enough s c.bytes.ensures.fits) c.in_err-append_care.ensures.leaves.answers)
+    c.in_ok-count.ensures.stops c.requires.works (short_enough s c.bytes.ensures.fits) c.in_err-append_care.ensures.leaves.answers
+    c.in_err-append_care.ensures.leaves.device)
 
 pub returns-clause-some : goal.returns-clause-some
 returns-clause-some g c = (c.in_ok-count.ensures.filled.0, c.in_ok-count.ensures.filled.1)

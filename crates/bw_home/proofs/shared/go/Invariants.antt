@@ -1,4 +1,5 @@
--- The home is ready, a leg adds nothing to what is said of the answer, and if the next leg is to be the first one, the home is begun.
+-- The home is ready, a leg adds nothing to what is said of the answer, and if the next leg is to be
+-- the first one, the home is begun.
 use Rattle.bw_device.specs.Memory.{memory_holding}
 use Rattle.bw_file.specs.FileHolding.{file_holding}
 use Rattle.bw_home.specs.Beginning.{IsSharedBegunBeside}

@@ -20,16 +20,23 @@ const READS: u32 = 10_000;
 /// How many values of one key are put, taken and flushed meanwhile.
 const VALUES: u8 = 200;
 
-/// Whether a reader answers this value of `k`; no bytes if it has none.
+/// Whether a reader answers this value of `k`, by a copy and by a pair that shares its bytes; no
+/// bytes if it has none.
 pub(super) fn reads(reader: &mut Reader, value: &[u8]) -> bool {
     let Ok(key) = Key::new(b"k") else {
         return false;
     };
-    match reader.get(&key) {
+    let is_copied = match reader.get(&key) {
         Ok(Some(found)) => found.as_slice() == value,
         Ok(None) => value.is_empty(),
         Err(NoReader) => false,
-    }
+    };
+    let is_shared = match reader.get_shared(&key) {
+        Ok(Some(pair)) => pair.value() == value,
+        Ok(None) => value.is_empty(),
+        Err(_) => false,
+    };
+    is_copied && is_shared
 }
 
 /// Whether a put of `k` is accepted and taken.

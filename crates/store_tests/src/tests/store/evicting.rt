@@ -6,8 +6,8 @@ use test_kit::vectors::FIRST;
 use test_subjects::putting::{BESIDE_ZERO, FOUR, TWO};
 use test_subjects::steps::Step;
 use test_subjects::steps::Step::{
-    Below, Clean, Del, Each, Evict, Flush, Frame, Get, Last, Page, Pages, Put, Segments, Settle,
-    Stands, Stops, Stretch, Taken, Turn, Unread, Walk,
+    Below, Clean, Del, Each, Evict, Flush, Frame, Get, Group, Last, Page, Pages, Put, Segments,
+    Settle, Shared, Stands, Stops, Stretch, Taken, Turn, Unread, Walk,
 };
 
 /// A page that no frame has yet stays. One that left is read from its segment, which fails once,
@@ -22,6 +22,7 @@ const READ_AGAIN: &[Step] = &[
     Unread(1, StoreFault::Device { lease: 0 }),
     Page(1, "1 : k=v"),
     Get(b"k", b"v"),
+    Shared(b"k", b"v"),
     Evict(1, Ok(false)),
 ];
 
@@ -46,10 +47,17 @@ const UNFLUSHED: &[Step] = &[
     Page(1, "1 : a=1 b=2"),
     Get(b"b", b"2"),
     Get(b"x", b""),
+    Shared(b"a", b"1"),
+    Shared(b"b", b"2"),
+    Shared(b"x", b""),
     Put(0, b"a", b"3"),
     Del(0, b"b"),
     Turn(9, 2),
+    Shared(b"a", b"3"),
+    Shared(b"b", b""),
     Evict(1, Ok(true)),
+    Shared(b"a", b"3"),
+    Shared(b"b", b""),
     Page(1, "1 : a=3"),
     Flush(Some(2)),
     Page(1, "1 : a=3"),
@@ -164,6 +172,37 @@ const SHARED: &[Step] = &[
     Evict(2, Ok(false)),
 ];
 
+/// The first page loses its pairs, and a walk passes by it; so does the next walk. A record that
+/// comes there is found by each walk after it, also one of a group, and one that was put back.
+const EMPTIED: &[Step] = &[
+    Each(0, FOUR),
+    Turn(9, 4),
+    Taken(b"e", b"5"),
+    Del(0, b"a"),
+    Del(0, b"b"),
+    Turn(9, 2),
+    Stretch(b"A", 1, " c=3"),
+    Stretch(b"a", 9, " c=3 d=4 e=5"),
+    Taken(b"b", b"6"),
+    Stretch(b"A", 1, " b=6"),
+    Stretch(b"bz", 1, " c=3"),
+    Del(0, b"b"),
+    Turn(9, 1),
+    Stretch(b"A", 2, " c=3 d=4"),
+    Group(0, TWO),
+    Turn(9, 2),
+    Stretch(b"A", 3, " a=1 b=2 c=3"),
+    Del(0, b"a"),
+    Del(0, b"b"),
+    Turn(9, 2),
+    Flush(Some(1)),
+    Evict(1, Ok(true)),
+    Stretch(b"A", 1, " c=3"),
+    Stretch(b"A", 1, " c=3"),
+    Taken(b"A", b"7"),
+    Stretch(b"A", 2, " A=7 c=3"),
+];
+
 /// The second page begins with a key that ends with a byte 0, and the first one has its front.
 const ZERO: &[Step] = &[
     Each(0, BESIDE_ZERO),
@@ -181,7 +220,7 @@ const TABLES: &[Tables] = &[
     (Stand::Fuse(0, (2, 2), (0, 0)), &[READ_AGAIN, TURNED_AGAIN]),
     (
         Stand::Boxes(4, 8),
-        &[UNFLUSHED, CUT, CLEANED, BACKWARDS, SHARED, ZERO],
+        &[UNFLUSHED, CUT, CLEANED, BACKWARDS, SHARED, EMPTIED, ZERO],
     ),
     (Stand::Bytes(&[FIRST]), &[OPENED_AGAIN]),
 ];

@@ -1,5 +1,14 @@
+use Rattle.std.proofs.Common.{◌≡◌, take}
 use Rattle.bw_care.specs.Found.{IsRecovered}
+use Rattle.bw_keys.specs.Stretches.{stretch_on}
+use Rattle.bw_keys.specs.Listed.{Writes}
 use Rattle.bw_keys.proofs.listing.Listing.all_up.Given as goal
 
 abbrev pub invariant-pages : goal.invariant-pages
-invariant-pages g l = IsRecovered (λ b. (goal.Segment-dyn g (b.vtable, b.value)).holding b.value) l.pages
+invariant-pages g l = record {
+  recovered : IsRecovered (λ b. (goal.Segment-dyn g (b.vtable, b.value)).holding b.value) l.pages;
+  leaves : l.pages.leaves.leaves ≡ l.initial.pages.leaves.leaves;
+  written :
+      Writes l.self.order.style l.initial.due l.due (g.O.Write.contents l.initial.output) (g.O.Write.contents l.output)
+      (stretch_on l.self.span.now l.initial.pages.leaves.leaves (take l.index l.numbers));
+}

@@ -1,5 +1,5 @@
 use Rattle.std.proofs.Common.{◌∙◌}
-use Rattle.bw_keys.proofs.Wanted.{wanted_then, wanted_else}
+use Rattle.bw_keys.proofs.WantedKeys.{wanted_then, wanted_else}
 use Rattle.bw_keys.proofs.span.Span.has.Goals as goal
 
 pub returns-then-has_begun : goal.returns-then-has_begun

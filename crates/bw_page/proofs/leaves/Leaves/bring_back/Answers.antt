@@ -13,7 +13,7 @@ invariant_of-self c =
     same_filed c.self.inside _ c.self.invariant refl
     (c.set.ensures.items ∙ set_itself c.self.inside.leaves.items c.args.page c.args.leaf
     (ap (λ (f : Shown). leaf_at c.args.page f.leaves) c.self.view_is ∙ c.requires))
-    (λ q. refl)
+    (λ q. refl) refl
 
 pub returns-clause-leaves : goal.returns-clause-leaves
 returns-clause-leaves c =

@@ -4,10 +4,11 @@ use Rattle.bw_record.specs.Keys.{ascends}
 use Rattle.bw_codec.specs.Grammar.{IsBase}
 use Rattle.bw_record.specs.Record.{key_of}
 use Rattle.bw_record.specs.declared.leaf.Leaf.{Leaf}
-use Rattle.bw_leaf.specs.Changed.{order, empty_leaf}
+use Rattle.bw_leaf.specs.Changed.{Bytes, order, empty_leaf}
 use Rattle.bw_page.specs.Leaves.{home}
 use Rattle.bw_leaf.specs.Seek.{back_of}
 use Rattle.bw_page.specs.Shown.{Shown}
+use Rattle.bw_page.specs.Gap.{IsPassed}
 use Rattle.bw_page.proofs.Homes.{home-all}
 use Rattle.bw_page.proofs.Closed.{leaf_is, same_filed, found_at, within_at, Follows, follows_whole}
 use Rattle.bw_page.proofs.leaves.Leaves.change_at.Goals as goal
@@ -23,15 +24,15 @@ change-requires-clause-found_within c =
     c.requires.aim.page c.requires.aim.pairs c.args.found c.requires.aim.ends
 
 pub invariant_of-self : goal.invariant_of-self
-invariant_of-self c = same_filed c.self.inside _ c.self.invariant refl c.in_err-back.ensures.unchanged (λ q. refl)
+invariant_of-self c = same_filed c.self.inside _ c.self.invariant refl c.in_err-back.ensures.unchanged (λ q. refl) refl
 
-whole : (c : goal.In_ok-back) → Follows c.args.self.now c.args.change.now
-    (record { m = c.self.inside.m; leaves = c.change.new.self; index = c.self.inside.index })
+whole : (c : goal.After-pass) → Follows c.args.self.now c.args.change.now
+    (record { m = c.self.inside.m; leaves = c.change.new.self; index = c.self.inside.index; gap = c.pass.new.gap })
 whole c =
     let m = ap (λ (f : Shown). f.m) c.self.view_is in
     let few = c.requires.few in
     follows_whole c.self.inside c.self.invariant c.args.self.now c.self.view_is c.args.change.now c.requires.aim.lawful c.args.at c.args.count
-    c.requires.aim.page c.requires.aim.pairs _ refl c.change.ensures.evicted (omega arith) c.in_ok-back.ensures.ok (λ q. refl)
+    c.requires.aim.page c.requires.aim.pairs _ refl c.change.ensures.evicted (omega arith) c.in_ok-back.ensures.ok (λ q. refl) (subst (λ (k : Bytes). IsPassed c.self.inside.gap k c.pass.new.gap) c.key.ensures.value c.pass.ensures)
 
 pub invariant_of-self-2 : goal.invariant_of-self-2
 invariant_of-self-2 c = (whole c).filed

@@ -19,3 +19,4 @@ invariant_of-result c =
     filed_new _ c.requires.limit
     (subst (AreLeaves c.args.m) (sym same) c.requires.lawful)
     (λ q. c.in_ok-index.ensures q ∙ ap (λ (ls : List Leaf). find order q (lows_of (drop 1 ls))) (c.as_slice.ensures.value ∙ sym same))
+    tt

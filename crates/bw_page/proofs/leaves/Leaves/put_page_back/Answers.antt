@@ -1,11 +1,12 @@
-use Rattle.std.proofs.Common.{◌≡◌, ◌+◌, ◌-◌, ◌∙◌, List, Some, false, ap, refl, length, length-set, take, get_or, cond, None, arith}
+use Rattle.std.proofs.Common.{◌≡◌, ◌+◌, ◌-◌, ◌∙◌, List, Some, false, ap, subst, refl, length, length-set, take, get_or, cond, None, arith}
 use Rattle.std.specs.Prelude.{slice_set}
 use Rattle.std.specs.Ordering.{eq_by_cmp}
 use Rattle.bw_record.specs.declared.leaf.Leaf.{Leaf}
 use Rattle.bw_page.specs.declared.journal.Undo.TheVariants.{Page}
 use Rattle.bw_page.specs.Index.{view_of}
 use Rattle.bw_page.specs.Journal.{undone}
-use Rattle.bw_leaf.specs.Changed.{order}
+use Rattle.bw_leaf.specs.Changed.{Bytes, order}
+use Rattle.bw_page.specs.Gap.{IsPassed}
 use Rattle.bw_lows.specs.LowHeads.{page_of_low}
 use Rattle.bw_page.specs.Seats.{is_among}
 use Rattle.bw_page.specs.Shown.{Shown}
@@ -74,6 +75,7 @@ invariant_of-self c =
     (λ few. same_gets c.self.inside.index c.take_above-upper.new.index (c.take_above-upper.ensures.kept (omega arith)))
     (λ d more q. c.take_above-upper.ensures.dropped d (omega arith) q
     ∙ ap (λ p. cond (eq_by_cmp order q (get_or c.self.inside.leaves.items p d).low) None (page_of_low c.self.inside.index q)) pages)
+    (subst (λ (k : Bytes). IsPassed c.self.inside.gap k c.pass.new.gap) c.key.ensures c.pass.ensures)
 
 pub returns : goal.returns
 returns c =

@@ -4,11 +4,13 @@ use Rattle.std.proofs.lemmas.Bool.{lt-leb}
 use Rattle.bw_record.specs.Record.{key_of}
 use Rattle.bw_page.specs.Leaves.{home, result_of, AreLeaves}
 use Rattle.bw_page.specs.Shown.{Shown}
+use Rattle.bw_leaf.specs.Changed.{Bytes}
+use Rattle.bw_page.specs.Gap.{IsPassed}
 use Rattle.bw_page.proofs.Law.{home_base}
 use Rattle.bw_page.proofs.Parting.{adds_one}
 use Rattle.bw_page.proofs.Closed.{home_at, found_at, within_at, same_filed, same_gets, over_at, Follows, follows_split}
 use Rattle.bw_page.proofs.leaves.Leaves.split_page.Goals as goal
-use Rattle.bw_page.proofs.leaves.Leaves.split_page.Goals.{In_ok-split_one}
+use Rattle.bw_page.proofs.leaves.Leaves.split_page.Goals.{After-pass}
 
 pub split_one-requires-clause-over : goal.split_one-requires-clause-over
 split_one-requires-clause-over c =
@@ -20,17 +22,17 @@ split_one-requires-clause-over c =
 pub invariant_of-self : goal.invariant_of-self
 invariant_of-self c =
     same_filed c.self.inside _ c.self.invariant refl c.in_err-split_one.ensures.leaves_stay
-    (same_gets c.self.inside.index c.split_one.new.index c.in_err-split_one.ensures.index_stays)
+    (same_gets c.self.inside.index c.split_one.new.index c.in_err-split_one.ensures.index_stays) refl
 
-split : (c : In_ok-split_one) → Follows c.args.self.now c.args.change.now
-    (record { m = c.self.inside.m; leaves = c.split_one.new.leaves; index = c.split_one.new.index })
+split : (c : After-pass) → Follows c.args.self.now c.args.change.now
+    (record { m = c.self.inside.m; leaves = c.split_one.new.leaves; index = c.split_one.new.index; gap = c.pass.new.gap })
 split c =
     let m = ap (λ (f : Shown). f.m) c.self.view_is in
     let many = c.requires.many in
     follows_split c.self.inside c.self.invariant c.args.self.now c.self.view_is c.args.change.now c.requires.aim.lawful c.args.at c.args.count
     c.requires.aim.page c.requires.aim.pairs _ (c.len-before.result + 1) refl c.in_ok-split_one.ensures.evicted (omega arith)
     (ap (λ n. n + 1) c.len-before.ensures.value) (omega arith)
-    c.in_ok-split_one.ensures.leaves c.in_ok-split_one.ensures.index
+    c.in_ok-split_one.ensures.leaves c.in_ok-split_one.ensures.index (subst (λ (k : Bytes). IsPassed c.self.inside.gap k c.pass.new.gap) c.key.ensures.value c.pass.ensures)
 
 pub invariant_of-self-2 : goal.invariant_of-self-2
 invariant_of-self-2 c = (split c).filed

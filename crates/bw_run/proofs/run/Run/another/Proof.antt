@@ -52,7 +52,7 @@ another_spec 𝓤 𝓛 𝓜 𝓡 wired =
     let b : ℕ = a.0.ref_ptr.0 in let o : ℕ = a.0.ref_ptr.1 in let κ : Lft = κs.0 in let q : Share = qs.0 in let p : Ptr = a.0.now.ptr in let h = a.0.now.alloc in let xs : List ℕ = a.0.now.bytes in
     let y : (walk_of 𝓛 F.ended hs c).Ghost = ((κs, qs, bounds, a, (vptr b o ∷ [], tt)), gh) in let Post : Val → SProp 𝓤 = (walk_of 𝓛 F.ended hs c).post y in
     let me : R.Denot = record { ptr = p; alloc = h; bytes = xs } in let cb : ℕ = block_of p in let co : ℕ = count_of p + 0 in
-    let out : (r : Out.Denot) (v : Val) → IfSome r (λ run. run.bytes ≡ xs) → Sq 𝓛 (‵ (Out.own_val r (v ∷ [])) ∷ ‵ (flft κ q) ∷ []) (prop (Post v)) = λ r v g.
+    let out : (r : Out.Denot) (v : Val) → IfSome r (λ run. (run.bytes ≡ xs) × (run.ptr ≡ p)) → Sq 𝓛 (‵ (Out.own_val r (v ∷ [])) ∷ ‵ (flft κ q) ∷ []) (prop (Post v)) = λ r v g.
     suffices ! _ (ends_at 𝓛 F.ended hs c y v r (tt, tt) (tt, tt)) $ says ! g $ nothing ! $ nothing ! $ join ! $ nothing ! $ move ! (3 ∷ 0 ∷ []) $ join ! $ done ! in
     qed 𝓛 (((‵ (flft κ q) ⊛ ‵ ftrue) ⊛ ‵ (owns (types_at F.ended.signature.params κs) a y.0.4)) ∷ ‵ ftrue ∷ []) ∵
     split ! $ split ! $ move ! (2 ∷ []) $ fsplit ! $ fsplit ! $ keep ! (1 ∷ 3 ∷ []) $
@@ -86,7 +86,7 @@ another_spec 𝓤 𝓛 𝓜 𝓡 wired =
     move ! (1 ∷ []) $ use1 𝓛 (‵ (part 63 i)) (all_e 𝓤 (λ (_ : n + 1 < 2 ^ 63). sem 𝓛 (part 63 i)) more) $ move ! (0 ∷ 2 ∷ 3 ∷ []) $ fjoin3 ! $ fpack ! ℕ (owner_owns p xs) i $
     flt_i ! (length xs) (2 ^ 16) small $ nothing ! $ fpack ! (InBlock p) (λ _. ftrue) inb $ fjoin ! $ fjoin ! $
     word_made p h ! $ fjoin ! $ use1 𝓛 (‵ (Out.own_val (Some me) (live 1 (vcons (word p) vnil) ∷ []))) (Some-of 𝓛 R me (word p)) $
-    returns ! (look_at ! 0 refl) $ free_all ! refl $ out (Some me) (live 1 (vcons (word p) vnil)) refl)
+    returns ! (look_at ! 0 refl) $ free_all ! refl $ out (Some me) (live 1 (vcons (word p) vnil)) (refl, refl))
     (λ full. sets_last ! (agg ! (and_then ! (lit ! tt) (no_more !))) refl (tt, (record { fits = lit< tt }, tt)) $ exec ! 𝓣.C 𝓣.Λ En (after 6 fn.body) (at_ret En Post) $
     sets ! (of_opd ! (get ! refl)) refl (tt, (record { fits = lit< tt }, tt)) $ use0 𝓛 (‵ (Out.own_val None (live 0 vnil ∷ []))) (none_of 𝓛 R) $
     returns ! (look_at ! 0 refl) $ free_all ! refl $ keep ! (0 ∷ 1 ∷ []) $ out None (live 0 vnil) tt))))))))))

@@ -9,7 +9,7 @@ use super::picture::{
     Picture, is_cleaned, is_flushed, is_out, is_seen, is_taken, is_unchanged, shown,
 };
 use super::telling::is_history;
-use bw_codec::{Key, Value};
+use bw_codec::{Key, Pair as Found, Value};
 use bw_device::Desk;
 use bw_ring::{Feed, Group as Records};
 use bw_store::{Cleaned, Reader, Store, StoreFault};
@@ -182,18 +182,25 @@ fn is_pair(told: Option<&(Key, Value)>, key: &Key, value: &[u8]) -> bool {
     }
 }
 
-/// Whether the first pair from a key on, which shares its bytes with its page, is this one.
+// Whether a pair that was found is this one.
+fn is_this(found: Option<&Found>, key: &Key, value: &[u8]) -> bool {
+    match found {
+        Some(pair) => pair.key() == key.as_slice() && pair.value() == value,
+        None => false,
+    }
+}
+
+/// Whether the pair of a key, and the first pair from it on, which share their bytes with their
+/// page, are this one.
 fn is_shared(alloc: Global, store: &mut Store, key: &Key, value: &[u8]) -> Result<bool, StoreFault>
     requires { IsSound store.old holding }
     ensures sound { IsSound store.new holding }
     ensures rings { (kept_by store.new holding).rings ≡ (kept_by store.old holding).rings }
 {
+    let its = store.get_shared(key)?;
     let mut found = Vec::new(alloc);
     store.scan_shared(key, 1, &mut found)?;
-    match found.as_slice().first() {
-        Some(pair) => Ok(pair.key() == key.as_slice() && pair.value() == value),
-        None => Ok(false),
-    }
+    Ok(is_this(its.as_ref(), key, value) && is_this(found.as_slice().first(), key, value))
 }
 
 /// Whether a key has a value, by itself, as the first from it on and as the last up to it.

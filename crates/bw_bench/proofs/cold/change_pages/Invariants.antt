@@ -1,0 +1,5 @@
+use Rattle.bw_core.specs.Views.{IsSound}
+use Rattle.bw_bench.proofs.cold.change_pages.Given as goal
+
+abbrev pub invariant-times : goal.invariant-times
+invariant-times g l = IsSound l.core (λ z. (goal.Segment-dyn g z).holding z.1)
