@@ -1,7 +1,7 @@
 use denote.Param.Sent.{Sends}
 use denote.Param.Send.{sendable}
 use Rattle.std.proofs.Crossing.{crosses}
-use Rattle.file_tests.proofs.Crossing.{watched_crosses}
+use Rattle.file_tests.proofs.tests.Crossing.{watched_crosses}
 use Rattle.file_tests.proofs.tests.steps.holds_at.OwnLists.{part-1-1}
 
 pub sends-part-1-1 : Sends part-1-1
