@@ -1,12 +1,13 @@
 -- The bytes of one block among those of its frame and of its segment.
 
 use Rattle.std.proofs.Common.{◌≡◌, ℕ, IfSome, zero, suc, ◌+◌, ◌-◌, ◌^◌, ◌<◌, ◌≤◌, Option, Some, None, Result, Ok, Err, List, [], ◌∷◌, ◌++◌, length}
-use Rattle.std.proofs.Common.{take, drop, get_or, slice_get, refl, sym, ap, subst, ◌∙◌}
+use Rattle.std.proofs.Common.{map, take, drop, get_or, slice_get, refl, sym, ap, subst, ◌∙◌}
 use Rattle.std.proofs.Common.{append_assoc, append-nil, arith, length-append}
 use Rattle.std.specs.List.{AllByRecursion}
 use Rattle.std.proofs.lemmas.List.{drop_at, take_at, take_all, take-append-drop, drop-drop, drop-take, length-drop}
 use Rattle.std.proofs.lemmas.Grind.{flat_map-append}
-use Rattle.std.proofs.lemmas.Option.{slice_get-get_or, get_or_from_slice_get}
+use Rattle.std.proofs.lemmas.List.{length-map}
+use Rattle.std.proofs.lemmas.Option.{slice_get-get_or, get_or_from_slice_get, slice_get_within}
 use Rattle.bw_codec.specs.Grammar.{block_bytes_in, body_bytes_in, head_bytes_in, frame_bytes_in, IsBlockIn, IsFrameIn}
 use Rattle.bw_record.specs.declared.block.Block.{Block}
 use Rattle.bw_record.specs.declared.block.Frame.{Frame}
@@ -416,3 +417,29 @@ lent_at {c} {i} {index} {b} {spot} line span bytes sound inside s own x is lent 
 -- a log that is as it was has its blocks where they were
 pub block_now : {c : Contents} {i index : ℕ} {b : Block} (now : Contents) → now ≡ c → BlockAt (counted c) i index b → BlockAt (counted now) i index b
 block_now {c} {i} {index} {b} now same x = subst (λ (d : Contents). BlockAt (counted d) i index b) (sym same) x
+
+-- a block whose bytes are lent is spelled by them alone
+pub spelled_in_lent : {v m : ℕ} {hs : List Holding} {at from len : ℕ} {block : Block} (held bytes : List ℕ)
+    → IfSome (slice_get hs at) (λ h. held ≡ h.bytes) → bytes ≡ take len (drop from held) → IsSpelledAt v m hs at from len block
+    → IsSpelled v m bytes block
+spelled_in_lent {hs = hs} {at = at} {from = from} {len = len} {block = block} held bytes lent is one =
+    let same : held ≡ one.segment.bytes = rw one.there at lent in
+    record { lawful = one.lawful; rest = []; is = is ∙ ap (λ (b : List ℕ). take len (drop from b)) same ∙ one.is ∙ sym (append-nil _) }
+
+pub lent_reaches : {v m : ℕ} {hs : List Holding} {at from len : ℕ} {block : Block} (held : List ℕ)
+    → IfSome (slice_get hs at) (λ h. held ≡ h.bytes) → IsSpelledAt v m hs at from len block → from + len ≤ length held
+lent_reaches {hs = hs} {at = at} {from = from} {len = len} held lent one =
+    let same : held ≡ one.segment.bytes = rw one.there at lent in
+    rw same one.within
+
+pub lent_inside : {X : Type 0} {v m : ℕ} {at from len : ℕ} {block : Block} (f : X → Holding) (xs : List X)
+    → IsSpelledAt v m (map f xs) at from len block → at < length xs
+lent_inside {at = at} f xs one =
+    let inside : at < length (map f xs) = slice_get_within (map f xs) at one.segment one.there in
+    simp length-map at inside
+
+-- what is cut off at an end that lies further back
+pub cut_within : (held : List ℕ) (from len : ℕ) → from + len ≤ length held
+    → take len (take (length held - from) (drop from held)) ≡ take len (drop from held)
+cut_within held from len within =
+    ap (λ (b : List ℕ). take len b) (take_all (length held - from) (drop from held) (omega (arith, length-drop from held)))

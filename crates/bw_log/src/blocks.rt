@@ -1,7 +1,8 @@
 //! One block of a counted frame, read by its place.
 //!
 //! A frame of which no block was read before is read whole and looked through; of any other only
-//! the block's bytes are read.
+//! the block's bytes are read. If the segment lends its bytes, the block's are decoded where they
+//! lie, and the frame's are copied.
 
 ghost use Rattle.std.specs.Prelude.{◌≡◌, ◌≢◌, ◌+◌, ◌-◌, ◌<◌, ◌≤◌, ◌++◌, length, map, take, drop, slice_get, Err, IfOk, IfErr, OnOk, OnErr, IfSome};
 ghost use Rattle.bw_record.specs.declared.block.Block.{Block};
@@ -15,7 +16,7 @@ use crate::fault::LogFault;
 use crate::log::Log;
 use crate::starts::{span_in, starts_in};
 use bw_codec::{Block, CodecFault, Place, read_block};
-use bw_device::{failures_of, lease_of, len_of, read_from};
+use bw_device::{failures_of, lease_of, len_of, lend_of, read_from};
 use std::alloc::Global;
 
 // The lawful block that these bytes begin with.
@@ -77,7 +78,8 @@ impl Log {
         }
     }
 
-    // Appends bytes of the live segment at an index. A refusal leaves the `Vec` as it was.
+    // Appends bytes of the live segment at an index, which are copied if the segment lends them. A
+    // refusal leaves the `Vec` as it was.
     pub(crate) fn read_onto(
         &mut self,
         at: usize,
@@ -96,6 +98,10 @@ impl Log {
             (seen_by holding self.old) result (seen_by holding self.new) }
         ensures paged { result ≢ Err LogFault.NoPage }
     {
+        if let Some(held) = lend_of(&self.live, at) {
+            out.extend_from_slice(&held[from as usize..][..len as usize])?;
+            return Ok(());
+        }
         if failures_of(&self.live, at) == u64::MAX {
             return Err(LogFault::Spent);
         }
@@ -128,6 +134,14 @@ impl Log {
         ensures paged { result ≢ Err LogFault.NoPage }
     {
         let alloc = *self.frames.allocator();
+        if let Some(held) = lend_of(&self.live, at) {
+            return block_of(
+                alloc,
+                &held[from as usize..][..len as usize],
+                version,
+                self.m,
+            );
+        }
         let mut bytes = Vec::new(alloc);
         self.read_onto(at, from, len, &mut bytes)?;
         block_of(alloc, &bytes, version, self.m)
