@@ -4,8 +4,8 @@ store over files. Prints all lines as they come, keeps them in out/bench.txt, an
 
     bench.py [--program PROGRAM] [--keys N] [--no-files] SUBJECT..
 
-PROGRAM is a built `bw_bench`; without one each run is an `rt run`, which proves it first. N keys are put and as many changed, a million where it
-is not given; the sizes are a tenth, three tenths, all and three times of N. Other stores are left out where rustc or a library of theirs is not
+PROGRAM is a built `bw_bench`; without one each run is an `rt run`, which proves it first. N keys are put and as many changed, a million if it
+is not given; the sizes are a tenth, three tenths, all and three times of N. Other stores are left out if rustc or a library of theirs is not
 there, and that is said."""
 
 import argparse
@@ -45,7 +45,7 @@ def bench(given, kept, subject, keys, operations, more=()):
 
 
 def peers_in(folder):
-    """Other stores under the same load, as a program in this folder; `None` where it cannot be built."""
+    """Other stores under the same load, as a program in this folder; `None` if it cannot be built."""
     program = os.path.join(folder, "peers")
     if not shutil.which("rustc"):
         return None
@@ -76,7 +76,7 @@ def in_memory(given, kept):
 
 
 def over_files(given, kept):
-    """Appends alone, and then large batches and writers in threads, in a folder."""
+    """Only appends, and then large batches and writers in threads, in a folder."""
     with tempfile.TemporaryDirectory() as folder:
         bench(given, kept, "appends", given.keys, given.keys, ["--dir", folder])
         bench(given, kept, "alone", max(1, given.keys // 2), 1, ["--batch", "4096", "--dir", folder])

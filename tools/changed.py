@@ -8,7 +8,7 @@ from shown import TOP
 
 # What a proof of a crate reads.
 PARTS = ("src", "specs", "proofs")
-# A clause, or a ghost member, begins so; else a brace behind a signature begins a body.
+# A clause, or a ghost member, begins so; else a brace after a signature begins a body.
 CLAUSE = re.compile(r"\b(?:requires|ensures|ghost)\*?\s*(?:\w[\w-]*\s*)?[:=]?\s*$")
 COMMENT = re.compile(r"//[^\n]*")
 

@@ -4,7 +4,7 @@ definition changed, and the crates of tests that name one of these, whose tests 
 
     check.py [COMMIT]
 
-COMMIT is the last one if it is not given, so what is not committed yet is asked. `make test` stays the gate: it alone proves all, and
+COMMIT is the last one if it is not given, so what is not committed yet is asked. `make test` stays the gate: only it proves all, and
 tries the wrong bodies. What a crate kept of its last check is not proved again."""
 
 import os

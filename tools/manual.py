@@ -121,7 +121,7 @@ def completion(modes):
 
 
 def wrong_in(name, text):
-    """What a tool of its kind says of a file; nothing where it is not there."""
+    """What a tool of its kind says of a file; nothing if it is not there."""
     path = os.path.join(DOCS, name)
     words = ["groff", "-man", "-Tutf8", "-ww", "-z", path] if name.endswith(".1") else ["bash", "-n", path]
     if not shutil.which(words[0]):

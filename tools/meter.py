@@ -35,7 +35,7 @@ def crate_of(pid):
     name = named[1].decode()
     if b"_tests.o\0" in words and not name.endswith("_tests") or name.endswith("_tests") and b"_tests_tests.o\0" in words:
         return name + " tests"
-    # A gate keeps the work of those checks alone over which wrong bodies are tried.
+    # A gate keeps the work of only those checks over which wrong bodies are tried.
     return name + " wrong bodies" if b"\0--incremental\0" in words else name
 
 

@@ -1,5 +1,5 @@
 #!/usr/bin/env python3
-"""Proves a crate and all that it stands on, side by side where they do not stand on one another.
+"""Proves a crate and all that it stands on, side by side if they do not stand on one another.
 
     prove.py CRATE [JOBS]
 

@@ -4,14 +4,14 @@ The tests sweep by themselves: a test says by marks (crates/test_kit/src/marks.r
 call again and again until it needs no more, and compares what each refusal left. One run of each test, beside the shim (refuse.c), is
 all of it.
 
-The program is run over the worked scripts once for each allocation that it makes. It has to end with status 5, behind
-`refused E1 NoMemory` and the answers of the lines before it; or it answers as with memory, where what is only there to be fast was left
-out. A folder that it leaves has to show the frames that were told, and to be gone on from.
+The program is run over the worked scripts once for each allocation that it makes. It has to end with status 5, after
+`refused E1 NoMemory` and the answers of the lines before it; or it answers as with memory, if what is only there to be fast was left
+out. A folder that it leaves has to show the frames that were answered, and the next run has to go on from it.
 
     refuse.py [--every N] [--tests FILE] [--program FILE] [--jobs N]
 
 `--every 5` refuses every fifth of the program's allocations: the sample of `make test`. FILE is a program of tests, or bwlog; those that
-`rt ci`, `rt test` and `make run` leave under out/ where none is told.
+`rt ci`, `rt test` and `make run` leave under out/ if none is named.
 """
 
 import argparse
@@ -36,7 +36,7 @@ LIMIT = 60
 
 
 def beside(shim, words, number, folder, **more):
-    """A run beside the shim that refuses this allocation: its status, what it printed and told, and the shim's counts."""
+    """A run beside the shim that refuses this allocation: its status, what it printed on each stream, and the shim's counts."""
     count = os.path.join(folder, "count")
     env = {"LD_PRELOAD": shim, "REFUSE": str(number), "REFUSE_COUNT": count}
     try:
@@ -74,7 +74,7 @@ def is_tested(shim, tests, name, folder):
 
 class Case:
     """A worked script: its command line and input, the records that its frames hold, how many bytes a file may have,
-    a segment that stands in the folder "from", where one does, and whether a refusal is told on standard error. "{}" in a word is the
+    a segment that stands in the folder "from", if one does, and whether a refusal is printed on standard error. "{}" in a word is the
     folder of the run."""
 
     def __init__(self, name, words, text, records=None, file_bytes=None, segment=None, tells=False):
@@ -162,13 +162,13 @@ def pairs_in(printed):
 
 
 def frames_told(case, printed):
-    """How many frames the answers tell."""
+    """How many frames the answers name."""
     told = [int(it) for it in re.findall(r"^frame (\d+)$", printed.decode(), re.M)]
     return max(told, default=0)
 
 
 def left_wrong(program, case, folder, printed):
-    """What is wrong with the folder that a run left; nothing where the frames that were told are there, and another run goes on."""
+    """What is wrong with the folder that a run left; nothing if the frames that were answered are there, and another run goes on."""
     store = os.path.join(folder, "store")
     told = frames_told(case, printed)
     if not os.path.isdir(store):
@@ -183,7 +183,7 @@ def left_wrong(program, case, folder, printed):
         return "%d frames were told, and the folder has %r" % (told, scan.stdout)
     if case.records is None:
         return goes_on(program, store, pairs_in(scan.stdout))
-    # Each put is flushed alone; behind them come the cleaner's frames.
+    # Each put is flushed by itself; after them come the cleaner's frames.
     wanted = dict(case.records[: int(found[1])])
     if pairs_in(scan.stdout) != wanted:
         return "the folder has %r, and the frames %r" % (scan.stdout, wanted)

@@ -3,8 +3,8 @@
 
     rounds.py [ROUNDS]
 
-One page of 32 keys leaves memory behind each flush, and each put brings it back: it is read from all frames that touched it since it
-was written whole. With rewrite, the page is written again as soon as `walk 1` tells 64 frames. It prints the microseconds of a round,
+One page of 32 keys leaves memory after each flush, and each put brings it back: it is read from all frames that touched it since it
+was written whole. With rewrite, the page is written again as soon as `walk 1` names 64 frames. It prints the microseconds of a round,
 as the mean of the last hundred, at some rounds up to 8,000, and the walk then."""
 
 import os

@@ -1,8 +1,8 @@
 #!/usr/bin/env python3
 """The example of README.md stands to the letter in a program of the gate, the lines of INSIDE.md in the sources, the dumps of
 FORMAT.md have the bytes that the tests read, and the stored folder from which the program goes on has the second of them. Each file that a
-page names is there, each `Type::name` is a function or a public field, and what stands behind a file is one of its functions. So none can
-go stale. It prints nothing where all hold."""
+page names is there, each `Type::name` is a function or a public field, and what stands after a file is one of its functions. So none can
+go stale. It prints nothing if all hold."""
 
 import os
 import re
@@ -40,7 +40,7 @@ def dumps(page):
 
 
 def files():
-    """All files of the repository but what is made, each behind a slash."""
+    """All files of the repository but what is made, each after a slash."""
     for folder, inner, names in os.walk("."):
         inner[:] = [it for it in inner if it not in (".git", "out", "target", "__pycache__")]
         yield from (os.path.join(folder, name)[1:] for name in names + inner)

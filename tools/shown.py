@@ -4,8 +4,8 @@
     shown.py COMMAND [WORD..]
 
 Its lines are those of `rt ci`, and go to standard output as they come. Where standard error is a terminal, one line that is written
-over says behind them how many crates are proved of how many, and how long the rest takes by the times of the last run, which stand in
-out/test-times.json. The processor time of each crate stands in out/cpu-times.json then (tools/times.py makes a table of it). Nothing is said where it is no terminal, and the exit status is the command's."""
+over says after them how many crates are proved of how many, and how long the rest takes by the times of the last run, which stand in
+out/test-times.json. The processor time of each crate stands in out/cpu-times.json then (tools/times.py makes a table of it). Nothing is said if it is no terminal, and the exit status is the command's."""
 
 import json
 import os
@@ -59,7 +59,7 @@ def keep_times(kind, times):
 
 def left(waiting, named, known, lanes):
     """How many seconds are left for these crates: those of all of them over so many lanes, but no fewer than those of one that stands on
-    another, and so on. A crate of which nothing is known takes as long as the others do in the mean. `None` where nothing is known."""
+    another, and so on. A crate of which nothing is known takes as long as the others do in the mean. `None` if nothing is known."""
     if not known:
         return None
     mean = sum(known.values()) / len(known)
@@ -79,7 +79,7 @@ def span(seconds):
 
 
 class Line:
-    """One line on a terminal that is written over; none where there is no terminal."""
+    """One line on a terminal that is written over; none if there is no terminal."""
 
     def __init__(self, kind, all_of, named, lanes):
         self.is_seen = sys.stderr.isatty()
@@ -115,7 +115,7 @@ def tick(line, done, ended):
 
 
 def passed_on(ran, line, named, done):
-    """Prints the command's lines, and shows behind each how many crates are done. `rt ci` does not say when it begins one, so a crate's time
+    """Prints the command's lines, and shows after each how many crates are done. `rt ci` does not say when it begins one, so a crate's time
     is that from the moment on at which the last of those that it stands on was done."""
     begun, took = time.time(), {}
     for text in ran.stdout:

@@ -2,11 +2,11 @@
 """The lists of PROMISES, "Definitions behind the theorems": which definitions of specs/ each main theorem stands on.
 
     specs.py            writes the lists between the two marks of the page
-    specs.py --check    says where they are not what it would write; it prints nothing where they are
+    specs.py --check    says where they are not what it would write; it prints nothing if they are
 
 A theorem is the contract of a public function, or some of its clauses. It reaches each definition whose name its clauses use, and all
 that these use. A clause sees a type with a model as its view: so each such type that a reached definition, or a field of a type that it
-names, or the function's own signature names, has its view and the type of its value reached too. What is the kit's is told by name.
+names, or the function's own signature names, has its view and the type of its value reached too. What is the kit's is named.
 Lines of definitions are counted, and no comments. A function, a clause or an import that is not found ends it."""
 
 import os
@@ -19,8 +19,8 @@ TOP = os.path.join(HERE, "..")
 PAGE = ("docs", "PROMISES.md")
 MARKS = ("<!-- tools/specs.py writes from here -->\n", "<!-- to here -->\n")
 GOAL = ("bw_core", "Goal", "Goal", ["exactly", "last_cut", "shares", "whole", "stand"])
-# The title, the function, its crate, its file, and its clauses: none where all are meant. In place of clauses may stand a record that
-# they name, as its crate, its file of specs/, its name and a list of its fields: these alone are meant then.
+# The title, the function, its crate, its file, and its clauses: none if all are meant. In place of clauses may stand a record that
+# they name, as its crate, its file of specs/, its name and a list of its fields: only these are meant then.
 THEOREMS = [
     ("The machine, and any number of lives", "lives_lose_nothing", "bw_history", "laws.rt", None),
     ("The goal", "settle", "bw_core", "settle.rt", GOAL),
@@ -152,7 +152,7 @@ def sources(crate):
 
 
 def block(page, at):
-    """The text between the braces that open behind a place."""
+    """The text between the braces that open after a place."""
     begin = page.index("{", at)
     depth = 0
     for end in range(begin, len(page)):
@@ -221,7 +221,7 @@ def views_of(found, seen):
 
 
 def stands_on(page, crate, function, only):
-    """The definitions that a theorem uses by name, and then those of views alone."""
+    """The definitions that a theorem uses by name, and then those of views only."""
     fields = only if isinstance(only, tuple) else None
     used = names_in(contract(page, function, None if fields else only))
     if fields and fields[2] not in used:
@@ -238,7 +238,7 @@ def stands_on(page, crate, function, only):
 
 
 def in_order(files):
-    """Files, each behind those that it uses."""
+    """Files, each after those that it uses."""
     order = []
 
     def put(file, above):

@@ -3,7 +3,7 @@
 
     speed.py [--note TEXT] FILE.. > docs/speed.svg
 
-The files hold the lines of runs of `bw_bench --times` and of the peers, one behind the other, in any order; what a later one says of the same
+The files hold the lines of runs of `bw_bench --times` and of the peers, one after the other, in any order; what a later one says of the same
 operation counts. A run of `bw_bench` begins by how many keys it has, and so does one of the peers. `core` is the store without readers, and
 `alone` the store with one. The left side is drawn of the size at which most was measured, and the right one of all sizes."""
 
@@ -118,7 +118,7 @@ def growth(figures):
         out.append('<polyline fill="none" stroke="%s" stroke-width="2" points="%s"/>' % (colour, " ".join("%.1f,%.1f" % it for it in points)))
         out += ['<circle cx="%.1f" cy="%.1f" r="3" fill="%s"/>' % (x, y, colour) for x, y in points]
         ends.append([points[-1][1], store, colour, points[-1][0]])
-    # Names behind the ends, one below the other where these are near.
+    # Names after the ends, one below the other if these are near.
     ends.sort()
     y = 0
     for at, store, colour, x in ends:

@@ -2,7 +2,7 @@
 """Each public call of a library crate has a row in the table of tools/surface.md, and each row is a call: so a new call without a
 row fails `make test` and `make memory`. Laws are left out. The calls are read from the sources: what `lib.rt` names by `pub use` or `pub mod`, the functions
 among it, the `pub fn` of its types, and the methods of its traits. Each call is also looked for in the sources of the tests that its row
-names. It prints nothing where all holds."""
+names. It prints nothing if all holds."""
 
 import os
 import re
@@ -55,7 +55,7 @@ def calls_in(source, names, all_functions):
             kind = None
         begun = re.match(r"(?:pub )?(impl|trait)\b(?:<.*?>+)? ?(?:(\w+)(?:<.*?>+)? for )?(\w+)", line)
         if begun and (begun[1] == "impl" or line.startswith("pub ")):
-            # A method of a trait stands under the trait alone.
+            # A method of a trait stands only under the trait.
             kind = (begun[1], begun[3]) if not begun[2] else None
         function = re.match(r"(\s*)(pub )?(?:unsafe )?fn (\w+)", line)
         if not function:
@@ -88,7 +88,7 @@ def rows():
 
 
 def tests_text(crate, module):
-    """The sources of a module of a crate of tests, told as "::page::codec", and of those within it."""
+    """The sources of a module of a crate of tests, named as "::page::codec", and of those within it."""
     if not module:
         return "".join(sources(crate))
     root = os.path.join(CRATES, crate, "src", "tests")

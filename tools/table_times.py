@@ -12,7 +12,7 @@ import subprocess
 import sys
 
 LINE = re.compile(r"(\S.*): (\d+), (\d+) ns each")
-# Of each subject and operation: beside which it is told, as a subject and an operation.
+# Of each subject and operation: beside which it is printed, as a subject and an operation.
 BESIDE = {
     ("a table without long values", "put, new"): ("the store itself", "set, new"),
     ("a table without long values", "put, changed"): ("the store itself", "set, changed"),

@@ -129,7 +129,7 @@ class Reader(threading.Thread):
             self.wrong = wrong
 
     def answer(self, mode, *words, status=(0,)):
-        """What a mode prints; `None` where the folder is in use."""
+        """What a mode prints; `None` if the folder is in use."""
         ended = run(mode, "--dir", self.folder, *words)
         if ended == in_use(self.folder):
             return None

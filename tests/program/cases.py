@@ -1,5 +1,5 @@
 #!/usr/bin/env python3
-"""Runs the built program over the cases of cases/*.toml, and compares its exit status and all that it prints and tells.
+"""Runs the built program over the cases of cases/*.toml, and compares its exit status and all that it prints, on both streams.
 
 It takes the programs to run (none: those that `rt ci` or `make run` leaves under out/, one of each compiler). Each file of cases is run in an
 empty folder of its own, from its first case to its last, by each program; what a run leaves there, the next one finds. The first
@@ -8,9 +8,9 @@ case that goes otherwise ends the whole with status 1.
 A file's keys before its first case stand for each case that does not give them. A case is a run:
 
   words          the words of the command line, each a text, or a table with its bytes in hex, as { hex = "ff" }
-  script         what is read: a text, or pieces that stand one behind the other
-  lines          the same, with an end of the line behind each piece
-  status         the exit status (0 where it is not given)
+  script         what is read: a text, or pieces that follow each other
+  lines          as a script, with an end of the line after each piece
+  status         the exit status (0 if it is not given)
   prints         what stands on standard output, to the last byte (nothing where it is not given)
   prints_last    how that ends, in place of `prints`
   prints_either  a list of texts, one of which it is, in place of `prints`
@@ -20,10 +20,10 @@ A file's keys before its first case stand for each case that does not give them.
   memory         how many MB of addresses the process may have
   stack          how many of them a thread's stack wants
   resident       how many MB of memory the process may have touched at most
-  as_owner       true: who runs it may do with files what their owner may, and no more, also where that is root
-  fails_behind   what is read ends in an error of the system behind so many bytes of the script
-  goes_on        what is read does not end behind the script: this text comes again and again (nothing, where it is empty)
-  takes          standard output is a file, and the system refuses bytes behind so many: `prints` is what it took
+  as_owner       true: who runs it may do with files what their owner may, and no more, also if that is root
+  fails_behind   what is read ends in an error of the system after so many bytes of the script
+  goes_on        what is read does not end after the script: this text comes again and again (nothing, if it is empty)
+  takes          standard output is a file, and the system refuses bytes after so many: `prints` is what it took
   errors_take    the same of standard error, and `tells`
 
 or a step of one who stands outside:
@@ -47,7 +47,7 @@ A piece is a text, or a table:
   of, times                a text that the file's table `texts` names, once or so many times
   of, first                of such a text, which is bytes in hex, so many bytes
   of, at, with             such bytes, with others from the byte at an offset on
-  of, behind               such bytes, with others behind
+  of, behind               such bytes, with others after them
 """
 
 import contextlib
@@ -91,7 +91,7 @@ def changed(text, piece):
 
 
 def text_of(piece, texts):
-    """The text of a piece, or of pieces one behind the other."""
+    """The text of a piece, or of pieces that follow each other."""
     if isinstance(piece, str):
         return piece
     if isinstance(piece, list):
@@ -112,7 +112,7 @@ def script_of(case, texts):
 
 
 def ended(piece, texts):
-    """A piece with an end of the line behind it; lines have theirs."""
+    """A piece with an end of the line after it; lines have theirs."""
     has_ends = isinstance(piece, dict) and "line" in piece
     return text_of(piece, texts) + ("" if has_ends else "\n")
 
@@ -173,7 +173,7 @@ def endless(text, again):
         thread = threading.Thread(target=pour, args=(other, text, again))
         thread.start()
         yield end
-        # (who waits for room is told that nobody reads any more)
+        # (who waits for room learns that nobody reads any more)
         other.shutdown(socket.SHUT_RDWR)
         thread.join()
 
@@ -191,7 +191,7 @@ def given_to(case, text, stack):
 
 
 def ended_run(program, case, texts, folder):
-    """A run that has ended: its exit status, what it printed and what it told, and how many KB of memory it had touched at most."""
+    """A run that has ended: its exit status, what it printed on each stream, and how many KB of memory it had touched at most."""
     words = [it if isinstance(it, str) else bytes.fromhex(it["hex"]) for it in case["words"]]
     text = script_of(case, texts).encode()
     with contextlib.ExitStack() as stack:

@@ -1,4 +1,4 @@
-"""What the scripts here share: the program, how they tell that something went otherwise, the files of a folder, and what a library noted of the
+"""What the scripts here share: the program, how they say that something went otherwise, the files of a folder, and what a library noted of the
 system's calls."""
 
 import os
@@ -37,7 +37,7 @@ def held_in(folder):
 
 
 def write(folder, files):
-    """A folder with these files alone."""
+    """A folder with only these files."""
     shutil.rmtree(folder, ignore_errors=True)
     os.makedirs(folder)
     for name, data in files.items():

@@ -226,7 +226,7 @@ def rows_of(case, names):
 
 
 def is_as(found, wanted):
-    """Whether an answer is that of the table, which may leave out the words of an error, or behind a star its end."""
+    """Whether an answer is that of the table, which may leave out the words of an error, or its end after a star."""
     if wanted.endswith(" *"):
         return found.startswith(wanted[:-1])
     return found == wanted or (re.fullmatch(r"error \w+", wanted) and found.startswith(wanted + " "))

@@ -48,7 +48,7 @@ def script(run):
 
 
 def beginning(before, found, writer, run):
-    """How many records of its script a writer's pairs show behind what it had before; None where they show no beginning."""
+    """How many records of its script a writer's pairs show after what it had before; None if they show no beginning."""
     pairs, count = dict(before), 0
     for word, key, value in records(writer, run):
         if pairs == found:
@@ -62,7 +62,7 @@ def beginning(before, found, writer, run):
 
 
 def pages_of(lines):
-    """The pairs of all pages, where these are lawful: numbers and counts, keys within their page and in order."""
+    """The pairs of all pages, if these are lawful: numbers and counts, keys within their page and in order."""
     pages = []
     for number, line in enumerate(lines, 1):
         words = line.split(" ")
@@ -116,7 +116,7 @@ def run_writers(folder, run, seconds):
 
 
 def look(folder, had, run):
-    """What the folder holds behind a run: frames, the pairs of each writer, and how many records of its script these show."""
+    """What the folder holds after a run: frames, the pairs of each writer, and how many records of its script these show."""
     frames, pairs = scan(folder)
     found = [{k: v for k, v in pairs.items() if k[0] == chr(ord("a") + writer)} for writer in range(WRITERS)]
     ask(sum(map(len, found)) == len(pairs), "keys of no writer")

@@ -38,7 +38,7 @@ class Disk:
             self.stands[name] = self.now[name]
 
     def left(self, note, draw, most=8):
-        """The folders in which this call may leave all, each with the last frame that has to be found, and 0 where none. Of a long piece so many
+        """The folders in which this call may leave all, each with the last frame that has to be found, and 0 if there is none. Of a long piece so many
         cuts are drawn."""
         letter, offset, length, name, piece = note
         if name in self.unnamed or name not in self.stands:

@@ -1,9 +1,9 @@
 #!/usr/bin/env python3
-"""Runs the built program over drawn scripts, and compares all that it answers with a map that is told the same.
+"""Runs the built program over drawn scripts, and compares all that it answers with a map that gets the same changes.
 
 It takes the program to run (none: the one that `rt ci` or `make run` leaves under out/). A subject has one or more
 lives: runs of `replay`, over memory or over a folder in which each life goes on from what the one before left. Its lines are drawn from a
-seed: puts and deletes of two writers, alone and in groups, turns, flushes, evictions, gets, pages, rolls, cleanings. A call that wants a segment is made again behind
+seed: puts and deletes of two writers, one by one and in groups, turns, flushes, evictions, gets, pages, rolls, cleanings. A call that wants a segment is made again after
 an `add`. The first answer that is not the map's ends the whole with status 1.
 """
 
@@ -19,7 +19,7 @@ import sys
 import tempfile
 
 HERE = os.path.dirname(os.path.abspath(__file__))
-# What stands on standard error behind a run that met a full log.
+# What stands on standard error after a run that met a full log.
 FULL = b"the log is full: `clean` gives up its oldest segment, and `add` adds a new one\n"
 BUILT = os.path.join(HERE, "..", "..", "crates", "bwlog", "out", "bwlog")
 LIMIT = 60
@@ -38,7 +38,7 @@ def check(is_told, *what):
 
 
 def below(draw, limit):
-    """A drawn number, the same on each machine: of its draws python keeps those of `random` alone as they are."""
+    """A drawn number, the same on each machine: of its draws python keeps only those of `random` as they are."""
     return int(draw.random() * limit)
 
 
@@ -57,7 +57,7 @@ def word(data):
 
 
 def printed(data):
-    """As the program prints a word: its bytes where these are plain, and else hex."""
+    """As the program prints a word: its bytes if these are plain, and else hex."""
     is_plain = data != b"" and not data.startswith(b"0x") and all(0x21 <= it <= 0x7E and it != 0x3D for it in data)
     return data.decode() if is_plain else word(data)
 
@@ -107,7 +107,7 @@ class Model:
         return True
 
     def take(self, writer):
-        """Takes a group, and tells how many changes it has."""
+        """Takes a group, and says how many changes it has."""
         check(self.rings[writer], "nothing waits of writer", writer)
         changes = self.rings[writer].popleft()
         for change in changes:
@@ -154,7 +154,7 @@ def pairs_of(line, number, most):
 
 
 class Life:
-    """One run of `replay`, which is made anew, with a segment more, from its beginning on where a call wants one."""
+    """One run of `replay`, which is made anew, with a segment more, from its beginning on, if a call wants one."""
 
     def __init__(self, table, folder=None, limit=None):
         self.table, self.model, self.draw, self.m = table, table.model, table.draw, table.m
@@ -164,7 +164,7 @@ class Life:
             shutil.copytree(folder, self.before, dirs_exist_ok=True)
         self.lines = []
         self.answers = []
-        # How many lines are answered as told, and how many lines of answers that were; of segments that were there two lines tell.
+        # How many lines were answered as they should be, and how many lines of answers that were; two lines speak of segments that were there.
         self.done = 0
         self.at = 0 if self.model.waits else 2
         self.is_failed = False
@@ -238,7 +238,7 @@ class Life:
         check(answer == "took %d" % self.model.turn(int(limit)), line, answer)
 
     def again(self, line):
-        """A call that was refused for want of a segment is made again with one more; what it took by then the history tells."""
+        """A call that was refused for want of a segment is made again with one more; the history says what it took by then."""
         self.table.refusals += 1
         self.lines[self.done + 1 : self.done + 1] = ["history", "add", line]
         self.run()
@@ -312,7 +312,7 @@ class Life:
         check(all(self.model.values.get(key) == value for key, value in pairs), line, answer)
 
     def no_page(self, line, page):
-        """No page that was there is gone; and the pairs of all, by their low keys, are the map's, where all were asked for."""
+        """No page that was there is gone; and the pairs of all, by their low keys, are the map's, if all were asked for."""
         check(page > self.table.pages, line)
         if self.lines[self.done - 1] == "page %d" % (page - 1) and self.answers[self.at - 2].startswith("page "):
             rows = sorted(pairs_of(it, number, self.m) for number, it in enumerate(self.answers[self.at - page : self.at - 1], 1))
@@ -405,7 +405,7 @@ class Table:
         return [self.program, "replay", *self.options, *(["--dir=" + folder] if folder else [])]
 
     def live(self, plans, folder=None, limit=None):
-        """A life, each of whose plans goes as told."""
+        """A life, each of whose plans goes as the map says."""
         life = Life(self, folder, limit)
         try:
             life.go([line for plan in plans for line in life.lines_of(*plan)])
@@ -467,7 +467,7 @@ def lives(program, folder):
 
 
 def refusals(program, _folder):
-    """1,500 records of two writers, taken by one turn, or flushed by fifties, over two segments, where each further one is wanted once."""
+    """1,500 records of two writers, taken by one turn, or flushed by fifties, over two segments; each further one is wanted once."""
     for plans in (
         [(1, 1500, ["put"], ["turn %d" % ALL, "flush", "read all"])],
         [(30, 50, ["put"], ["turn %d" % ALL, "flush"]), (1, 0, [], ["read all"])],
@@ -496,7 +496,7 @@ def held_in(folder):
 
 
 def twin_of(table, place, plans):
-    """The frames that a life appends where nothing fails, as the file in which they stand, and where each begins and the last ends."""
+    """The frames that a life appends if nothing fails, as the file in which they stand, and where each begins and the last ends."""
     table = copy.deepcopy(table)
     twin = place + "-twin"
     shutil.copytree(place, twin)

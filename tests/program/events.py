@@ -1,10 +1,10 @@
 #!/usr/bin/env python3
-"""What an operator is told by the built program: `serve --log` and `serve --every` on standard error, the numbers of `stats`, and the warning
+"""What the built program says to an operator: `serve --log` and `serve --every` on standard error, the numbers of `stats`, and the warning
 of a log that is nearly full.
 
 Each line has the one form of docs/USING.md, with the time of its run; the events come in the order of what was asked, with the numbers that
-the answers give. Numbers are told only behind a request, and only once their time has come. A program that is refused ten thousand times has
-a line a second. What is not asked for is not told.
+the answers give. Numbers are printed only after a request, and only once their time has come. A program that is refused ten thousand times has
+a line a second. What is not asked for is not printed.
 
     events.py [PROGRAM]
 """
@@ -117,7 +117,7 @@ def each_event(folder):
     last = [it for name, it in events if name == "cleaned"][-1]
     expect({name: last[name] for name in ("segment", "lease", "pages", "frames")}, {name: told[name] for name in ("segment", "lease", "pages", "frames")}, "cleaned")
     expect(events[-2][1], {"durable": stats["durable"], "lost": 0}, "reopened")
-    # Behind `stats` came nothing but `quit`, and before it `durable` behind `reopen`.
+    # After `stats` came nothing but `quit`, and before it `durable` after `reopen`.
     expect(events[-1][1], {**stats, "requests": stats["requests"] + 1}, "ended")
     expect(stats["requests"], 2, "requests since the store was opened once more")
     return "%d events" % len(events)
@@ -149,7 +149,7 @@ def counted(folder):
 
 
 def every_second():
-    """Numbers come behind a request, once a second has passed, and not before."""
+    """Numbers come after a request, once a second has passed, and not before."""
     run = Run("--every", "1")
     expect(run.many(["put a 1", "put b 2", "get a"]), ["ok", "ok", "value 1"], "requests")
     time.sleep(2.5)
@@ -164,7 +164,7 @@ def every_second():
 
 
 def refused_often():
-    """Of one refusal a line a second is told, and how many there were."""
+    """Of one refusal a line a second is printed, and how many there were."""
     run = Run("--log")
     for _ in range(10):
         expect(run.many(["evict 9"] * 1000), ["refused E9 NoPage"] * 1000, "evict")

@@ -5,12 +5,12 @@ that the device is at fault.
 The program is run once for each call that it makes below its folders. It has to end by itself, and
 
 - a folder that is only read stays as it was, to the byte;
-- a new folder (`copy`, `copy --compact`, `follow`, `salvage`, `restore`, `backup`) is not there, or holds what it holds where nothing fails; that of a salvage
-  that told a file as not read holds nothing else, and that of a restore may be no store;
-- of a folder that is written each frame that was told is there, a further run goes on from it, and what it answers was put;
-- the answer is the one that is given where nothing fails, or it ends with the folder's fault, a refusal, or what a salvage lost.
+- a new folder (`copy`, `copy --compact`, `follow`, `salvage`, `restore`, `backup`) is not there, or holds what it holds if nothing fails; that of a salvage
+  that named a file as not read holds nothing else, and that of a restore may be no store;
+- of a folder that is written each frame that was answered is there, a further run goes on from it, and what it answers was put;
+- the answer is the one that is given if nothing fails, or it ends with the folder's fault, a refusal, or what a salvage lost.
 
-With a number N behind the program every N-th call fails.
+With a number N after the program every N-th call fails.
 """
 
 import concurrent.futures
@@ -109,7 +109,7 @@ class Writes:
         store = os.path.join(folder, "from")
         there = pairs_of(store)
         if isinstance(there, tuple):
-            # A file that could not be emptied or removed is told by its name, and nothing of the store is lost by it.
+            # A file that could not be emptied or removed is named, and nothing of the store is lost by it.
             return "the folder is not opened: %r" % (there,)
         there = {key: value for key, value in there.items() if key in dict(self.puts)}
         count = len(there)
@@ -185,7 +185,7 @@ def one(shim, mode, made, number, whole_answer, whole):
 
 
 def is_refusal(answer, whole):
-    """What was answered before, and then a word why it ends: the folder's fault (status 6), a refusal or a loss (4). A backup that is not made is told
+    """What was answered before, and then a word why it ends: the folder's fault (status 6), a refusal or a loss (4). A backup that is not made is reported
     in a line of its own, and the store goes on."""
     status, printed, told = answer
     if status == 0:

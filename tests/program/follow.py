@@ -7,8 +7,8 @@ Each round of updates is one group of four records, and a flush: two keys get th
 it so many rounds before is deleted. So the pairs say of which round they are, and what is a mix of two moments is of none.
 
 First `bwlog follow --once` is stopped by `tools/failing.c`: it is killed before each call that changes something, and in the middle of each write, and
-each EVERY-th call on a file fails. So it is done where there is nothing yet, where segments have grown, where some were given up and their files
-used again, where all were that the follower has, and where an earlier stop left two names. Each time the folder that is followed stays as it was;
+each EVERY-th call on a file fails. So it is done if there is nothing yet, if segments have grown, if some were given up and their files
+used again, if all were that the follower has, and if an earlier stop left two names. Each time the folder that is followed stays as it was;
 the other one is a store of a round that is not older than before, which `verify` and `export` take (or, between the two renames of a whole copy,
 stands under the name that the page says); and the next run brings it up to date.
 
@@ -137,7 +137,7 @@ class Scene:
 
 
 def state_of(scene, outer):
-    """Of which round the follower is; 0 where there is none."""
+    """Of which round the follower is; 0 if there is none."""
     to = os.path.join(outer, "to")
     if os.path.exists(to):
         return round_in(to)
@@ -392,7 +392,7 @@ def refusals(room):
     expect(run("get", "--dir", fresh, "last")[0], 0, "get beside a follower")
     other.send_signal(signal.SIGTERM)
     other.communicate()
-    # Each name that a whole copy needs, where somebody else has it.
+    # Each name that a whole copy needs, if somebody else has it.
     for ending, told in ((".partial", "it is not what an earlier run left"), (".old", "is no copy that an earlier run replaced")):
         gone = os.path.join(room, "gone")
         shutil.rmtree(gone, ignore_errors=True)

@@ -3,7 +3,7 @@
 
 Of each row: new keys are put until that is refused, `refused E5 NoSegment`. Then what was taken is flushed, a key is deleted, and the oldest
 segment is given up, each as it is asked; deletes go on, and in the end there is room for puts again. A second run over the folder finds each pair
-that was flushed, and no other. A line of several puts says how many of them went in, and none goes in twice where room was made amid them. And updates of a few
+that was flushed, and no other. A line of several puts says how many of them went in, and none goes in twice if room was made amid them. And updates of a few
 keys beside a set that never changes go on as long as they are asked."""
 
 import os
@@ -87,7 +87,7 @@ def fills_in_lines(folder, words):
 
 
 def delete(run, keys):
-    """Deletes all these keys. Where one is refused, the oldest segment is given up, as somebody does who is told that the log is full."""
+    """Deletes all these keys. If one is refused, the oldest segment is given up, as somebody does who reads that the log is full."""
     cleaned = 0
     for key in keys:
         answer = run.one("del " + key)
@@ -143,7 +143,7 @@ def stays_beside(folder, words, cold, updates):
 
 
 def keeps_its_size(folder):
-    """A later run makes segments as long as the longest there is, whatever it is told."""
+    """A later run makes segments as long as the longest there is, whatever its options say."""
     for at, words in ((0, ["--capacity", "1048576", "--frame", "65536"]), (800, ["--capacity", "65560"])):
         run = Run(folder, words)
         expect(run.ask_all(["put k%06d %s" % (number, VALUE) for number in range(at, at + 800)]), ["ok"] * 800, "put")

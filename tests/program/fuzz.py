@@ -3,14 +3,14 @@
 
 Segments are made by drawn runs of the program or by this script, and changed: bits, numbers, pieces; frames and blocks exchanged,
 doubled, dropped, cut, or spliced from two runs. `bwlog scan` has to answer what hostile/reader.py answers, byte by byte, which is
-written from docs/FORMAT.md alone and shares nothing with the program. Scripts have to end at the fault that docs/USING.md tells, behind
-the answers of the lines before it. Folders have to be refused as docs/USING.md and docs/FORMAT.md tell, and stay as they are. Logs
+written only from docs/FORMAT.md and shares nothing with the program. Scripts have to end at the fault that docs/USING.md names, after
+the answers of the lines before it. Folders have to be refused as docs/USING.md and docs/FORMAT.md say, and stay as they are. Logs
 of both formats are upgraded, and have the same pages then.
 
     fuzz.py [--cases N] [--seed N] [--from N] [--program FILE] [--jobs N]
 
-Each case draws from the seed and its own number alone: the line that tells a failure names both, and `--from N --cases 1` makes it again.
-What failed is left in a folder that is told.
+Each case draws only from the seed and its own number: the line that reports a failure names both, and `--from N --cases 1` makes it again.
+What failed is left in a folder whose name is printed.
 """
 
 import argparse

@@ -7,9 +7,9 @@ A way is something that a run does so many times, or over so much. It is timed a
 each, and of each size the least time counts. The time is that of a processor, for the whole child or, of `serve`, between two requests: so
 other work on the machine is not counted. The ratio of the two has to be below the bound of the way:
 
-  - where four times as much is done, below 8: a cost that is linear, but for a logarithm, makes 4 to 5, and a square makes 16;
-  - where a request may not cost more in a greater store, of 100,000 keys in place of 10,000, below 4: caches alone make up to 2.5;
-  - where it may not cost more at a frame limit that is four times as great, below 1.4; or beside four times as many blocks in the frame in
+  - if four times as much is done, below 8: a cost that is linear, but for a logarithm, makes 4 to 5, and a square makes 16;
+  - if a request may not cost more in a greater store, of 100,000 keys in place of 10,000, below 4: caches make up to 2.5;
+  - if it may not cost more at a frame limit that is four times as great, below 1.4; or beside four times as many blocks in the frame in
     the making, below 2.
 
 A way that fails is timed once more, with more turns, before the whole ends with status 1. All ways take about a minute."""
@@ -105,7 +105,7 @@ def forwards(order):
 
 
 def puts(count):
-    """n puts of keys in a drawn order, a flush behind each 100."""
+    """n puts of keys in a drawn order, a flush after each 100."""
     keys = [key_of(number) for number in range(count)]
     random.Random(1).shuffle(keys)
     lines = []
@@ -142,7 +142,7 @@ class Blocks:
 
     def begin(self, program, count):
         self.served = Served(program, "--m", "4", "--frame", "262144", "--places", "4096")
-        # (two keys a page: where keys ascend, a page of four is cut behind its second key once there is a fifth)
+        # (two keys a page: if keys ascend, a page of four is cut after its second key once there is a fifth)
         self.served.load([key_of(number) for number in range(2 * count + 3)], "1")
         self.keys = [key_of(2 * number) for number in range(count)]
         self.served.do(["put %s 2" % key for key in self.keys], "ok")
@@ -233,7 +233,7 @@ class InStore:
 
 
 class AtLimit(InStore):
-    """The same over two thousand keys, where the frame limit is the size."""
+    """Updates of two thousand keys; the frame limit is the size."""
 
     def begin(self, program, limit):
         self.words = ["--frame", str(limit)]

@@ -1,5 +1,5 @@
 #!/usr/bin/env python3
-"""Pages that leave memory by `bwlog serve --memory BYTES`, beside a map that is told the same.
+"""Pages that leave memory by `bwlog serve --memory BYTES`, beside a map that gets the same changes.
 
     memory.py [PROGRAM]
 
@@ -122,7 +122,7 @@ def goes_on(folder, told, words):
 
 
 def drawn(folder, budget, words):
-    """One row: what was told of it."""
+    """One row: what was printed of it."""
     run, told, left = Told(folder, "--memory", str(budget), *words), Map(budget + len(words), words), [0]
     if told.place:
         expect(run.one("create t"), "ok", "create")
@@ -170,7 +170,7 @@ def stays_small(outer):
 
 
 def writes_little(outer):
-    """One pair is changed again and again, and no page may stay: its page is written again once, where it would be read from a fifth frame."""
+    """One pair is changed again and again, and no page may stay: its page is written again once it would be read from a fifth frame."""
     run = Told(os.path.join(outer, "store"), "--memory", "0")
     expect(set(run.ask_all(["put k%04d %s" % (number, "v" * 100) for number in range(KEYS)])), {"ok"}, "the answers to puts")
     ask(run.one("flush").startswith("frame "), "no flush goes")

@@ -40,7 +40,7 @@ class Clock:
             file.write(str(BEGAN + past))
 
     def run(self, *words, text="", status=0):
-        """A run that ends with this status: what it printed and told."""
+        """A run that ends with this status: what it printed on each stream."""
         ended = subprocess.run([PROGRAM, *words], input=text.encode(), capture_output=True, timeout=SECONDS, check=False, env=self.env)
         expect(ended.returncode, status, "the status of %s, which printed %r and told %r" % (" ".join(words), ended.stdout, ended.stderr))
         return ended.stdout.decode(), ended.stderr.decode()
@@ -206,7 +206,7 @@ def hurt(clock, room, folder):
         # A line without its last digits names no time.
         ask(all(it.split()[3] >= words_of(BEGAN)[:4] or "\0" in text for it in printed), printed, "of", repr(text))
     expect(clock.run("verify", "--dir", store)[0].split()[0], "verified", "verify")
-    # What is no plain file is left alone.
+    # What is no plain file is left as it is.
     os.remove(path)
     for name, make in (("a folder", os.mkdir), ("a pipe", os.mkfifo), ("a link", lambda it: os.symlink(os.path.join(room, "elsewhere"), it))):
         make(path)

@@ -4,10 +4,10 @@
     people.py [PROGRAM [NUMBER]]
 
 Without a program it takes the one that `make run` leaves. It makes 63,000 records as of a list of packages, and imports, counts, lists and
-exports them, also as JSON and as CSV, which Python's own modules read and write; they go to LMDB and to Berkeley DB and come back, where `mdb_load`, `mdb_dump`, `db_load` and `db_dump` are installed
+exports them, also as JSON and as CSV, which Python's own modules read and write; they go to LMDB and to Berkeley DB and come back, if `mdb_load`, `mdb_dump`, `db_load` and `db_dump` are installed
 (lmdb-utils and db-util), and any bytes go to them and come back too. Then: an output that nobody reads ends a list with status 0 and
-nothing told; updates of a few keys want no more segments; a full disk is
-told, where this process may mount a small one; and NUMBER pairs of 108 bytes are imported, a million where it is not given, with the
+nothing on standard error; updates of a few keys want no more segments; a full disk is
+reported, if this process may mount a small one; and NUMBER pairs of 108 bytes are imported, a million if it is not given, with the
 time and the memory that it took. What is not tried is said."""
 
 import base64
@@ -42,7 +42,7 @@ class Program:
         return subprocess.run([self.path, *words], input=given, capture_output=True, cwd=self.folder, check=False)
 
     def do(self, *words, given=b""):
-        """What it prints, once it ended well and told nothing."""
+        """What it prints, once it ended well with nothing on standard error."""
         ended = self.run(*words, given=given)
         expect((ended.returncode, ended.stderr), (0, b""), " ".join(words))
         return ended.stdout
@@ -83,7 +83,7 @@ def raw_words(program):
 
 
 def forgotten(program):
-    """What a script's history forgot, where segments were given up, and what it has are all records of the run."""
+    """What a script's history forgot, if segments were given up, and what it has are all records of the run."""
     script = b"".join(b"put 0 k%d %s\nflush\n" % (number % 7, b"v" * 100) for number in range(1500)) + b"history\nsettle\n"
     words = ["--take", "--segments=2", "--capacity=65560", "--m=4", "--most-segments=3"]
     ended = program.run("replay", "--dir", "forgetful", *words, given=script)
@@ -127,7 +127,7 @@ def pipes(program, pairs):
 
 
 def as_member(name, word):
-    """A member of an object: a text, or base64 where the bytes are no UTF-8."""
+    """A member of an object: a text, or base64 if the bytes are no UTF-8."""
     try:
         return {name: word.decode()}
     except UnicodeDecodeError:
@@ -160,7 +160,7 @@ def from_field(field):
 
 
 def through_csv(program, pairs):
-    """What goes out as CSV is that for Python's csv, and what that writes comes in: texts, between quotes where it likes."""
+    """What goes out as CSV is that for Python's csv, and what that writes comes in: texts, between quotes if it likes."""
     out = program.do("export", "--dir", "by-lines", "--format", "csv").decode()
     expect([tuple(map(from_field, row)) for row in csv.reader(io.StringIO(out, newline=""))], sorted(pairs.items()), "an export of CSV")
     texts = {}
@@ -259,7 +259,7 @@ def updates(program):
 
 @contextlib.contextmanager
 def small_disk(folder, size):
-    """A disk of so many bytes, where this process may mount one; else nothing."""
+    """A disk of so many bytes, if this process may mount one; else nothing."""
     os.mkdir(folder)
     mounted = subprocess.run(["mount", "-t", "tmpfs", "-o", "size=%d" % size, "tmpfs", folder], capture_output=True, check=False).returncode == 0
     try:
@@ -342,7 +342,7 @@ def served_on_a_full_disk(program):
     return "%d pairs stand on a full disk, %d behind them were told as lost, and serve went on" % (flushed, put - flushed)
 
 
-# Run by an interpreter of its own: the greatest resident set of a process is never told below that of the one that began it.
+# Run by an interpreter of its own: the greatest resident set of a process is never reported below that of the one that began it.
 TIMED = """
 import os, subprocess, sys, time
 begun = time.monotonic()

@@ -5,14 +5,14 @@ A run of `bwlog replay --dir` over a drawn script goes under a library that note
 (tools/watch.c). For each of these in turn there are folders in which all that was synced before stands, and of the write in flight its first
 bytes: all of a short piece's cuts, or eight drawn ones of a long piece, none of it and all of it among them. What was not synced is left out: the
 name of a new file before its folder is synced, a file's cut before its file is. `bwlog scan --dir` then has to find the last frame that was
-synced, or the one in flight where all its bytes stand, and exactly the pairs that a map has which is told the records up to that frame's
+synced, or the one in flight if all its bytes stand, and exactly the pairs that a map has which gets the records up to that frame's
 cut. It may find nothing only before the first frame. Some of the folders are gone on from, too.
 
 Scripts have flushes, rolls, cleanings, added segments and a second life over what the first one left; half of them have `--reuse`. This
 is what the calls of the system allow, and not a disk: a device that loses what it synced, or keeps other bytes than a beginning, is not
 tried.
 
-The same is done of runs whose calls are told by a table (RUNS): an upgrade of a folder, `serve` with cleanings, `threads` with and without
+So it is done to runs whose calls stand in a table (RUNS): an upgrade of a folder, `serve` with cleanings, `threads` with and without
 `--reuse`, each also with a cut of a file that fails, and then each later one; of restores, whose folder has to be refused until all of it
 stands, and then holds the store as of its frame; and of `follow`, whose folder is never of an earlier frame than before, and is brought up to date by
 the next run.
@@ -35,7 +35,7 @@ from hostile.upgrades import a_page_a_segment
 FOLDERS = int(sys.argv[1]) if len(sys.argv) > 1 else 10000
 SEED = int(sys.argv[2]) if len(sys.argv) > 2 else 1
 OPTIONS = ["--places", "64", "--m", "4", "--segments", "6", "--capacity", "65560"]
-# What stands on standard error behind a run: nothing, or that it met a full log, without `--reuse` and with it.
+# What stands on standard error after a run: nothing, or that it met a full log, without `--reuse` and with it.
 TELLS = ("", "the log is full: `clean` gives up its oldest segment, and `add` adds a new one\n",
          "the log is full: `clean` gives up its oldest segment, whose room is a spare again\n")
 
@@ -170,7 +170,7 @@ def two_lives(shim, room, draw, most):
 
 
 def last_whole(data):
-    """The number of the last whole frame in a segment's bytes; 0 where there is none."""
+    """The number of the last whole frame in a segment's bytes; 0 if there is none."""
     at, last = HEAD, 0
     while data[at : at + 4] == WORD and at + 20 <= len(data):
         number, body = struct.unpack_from("<QI", data, at + 4)
@@ -181,7 +181,7 @@ def last_whole(data):
 
 
 def end_again(shim, room):
-    """Whether opening a file without sums writes its last 262,168 bytes again at their place, or all of a shorter one; and nothing, where each byte
+    """Whether opening a file without sums writes its last 262,168 bytes again at their place, or all of a shorter one; and nothing, if each byte
     has a sum."""
     for records, most in ((800, 262168), (4000, 262168)):
         folder, log = os.path.join(room, "end%d" % records), os.path.join(room, "end%d.notes" % records)
@@ -244,7 +244,7 @@ def states(disk, notes, draw):
 
 
 def pairs_of(image, files, allowed=("",)):
-    """The last frame of such a folder and its pairs; the refusal in place of them, where it is one that is allowed."""
+    """The last frame of such a folder and its pairs; the refusal in place of them, if it is one that is allowed."""
     write(image, files)
     ran = subprocess.run([PROGRAM, "scan", "--dir", image], capture_output=True, text=True, check=False)
     if ran.returncode == 4 and ran.stdout.strip() in allowed:
@@ -256,7 +256,7 @@ def pairs_of(image, files, allowed=("",)):
 
 
 class Maps:
-    """The maps behind each of so many records, in their order: a folder holds one of them, and never an older one than before."""
+    """The maps after each of so many records, in their order: a folder holds one of them, and never an older one than before."""
 
     def __init__(self, records):
         self.maps = [{}]
@@ -295,7 +295,7 @@ def threads_run(words):
 
 
 def serve_run(draw, folder):
-    """`serve`, which cleans behind each few flushes."""
+    """`serve`, which cleans after each few flushes."""
     records, lines = drawn_records(draw, 900, 30), []
     for at in range(0, len(records), 10):
         lines += ["put %s %s" % it for it in records[at : at + 10]] + ["flush"]
@@ -384,7 +384,7 @@ def restores(shim, room, draw):
 
 
 def followed(shim, room, draw):
-    """A follower holds what the other folder held at some frame, behind each of its writes, and never less than before; the next run goes on."""
+    """A follower holds what the other folder held at some frame, after each of its writes, and never less than before; the next run goes on."""
     source, target, image, seen = os.path.join(room, "source"), os.path.join(room, "target"), os.path.join(room, "left"), 0
     records, maps, words = drawn_records(draw, 150, 20), None, ["follow", "--dir", source, "--once", "--to"]
     begun(source, None)

@@ -5,8 +5,8 @@
 
 It needs `make run` and `make lib`. Folders are made by `import` and by `serve`: keys of 1 and 128 bytes and values of 0 and 512 among
 others, keys that begin one another, deletes and groups, cleanings, one pair, none, a cut tail. Of each folder every key is asked for,
-absent keys, the first pair at or above each, and walks of prefixes; C is compiled as C11 and as C++14, with a sanitizer where there is
-one, and run under valgrind where it is there; Rust where cargo is there. Refused have to be: a folder that is not there, has no store,
+absent keys, the first pair at or above each, and walks of prefixes; C is compiled as C11 and as C++14, with a sanitizer if there is
+one, and run under valgrind if it is there; Rust if cargo is there. Refused have to be: a folder that is not there, has no store,
 has other files, or has one byte changed; and each allocation of an opening is refused in turn. Folders that `serve` writes meanwhile are
 read as one of their frames. No file is changed by a reader. The two examples of EMBED run.
 It prints one line with counts; what is left out is said."""
@@ -48,7 +48,7 @@ def run(*words, given=b"", **how):
 
 
 def do(*words, given=b"", **how):
-    """What a program prints that ends well and tells nothing."""
+    """What a program prints that ends well with nothing on standard error."""
     ended = run(*words, given=given, **how)
     expect((ended.returncode, ended.stderr), (0, b""), " ".join(words))
     return ended.stdout
@@ -415,7 +415,7 @@ def turning(folder, readings=60):
 
 
 def ways_in(programs, folder, pairs):
-    """By a link, by a path that ends in a slash, and where the files may only be read."""
+    """By a link, by a path that ends in a slash, and if the files may only be read."""
     link = folder + "-link"
     os.symlink(folder, link)
     wanted = b"count %d\n" % len(pairs)
@@ -444,7 +444,7 @@ def together(programs, folder, pairs):
 
 
 def refused_memory(program, room, folder, pairs):
-    """Each allocation is refused in turn: it is told, or the answer is right all the same. How many were told."""
+    """Each allocation is refused in turn: it is reported, or the answer is right all the same. How many were reported."""
     shim, count = os.path.join(room, "refuse.so"), os.path.join(room, "refused")
     do("cc", "-O2", "-shared", "-fPIC", "-o", shim, os.path.join(TOP, "tools", "refuse.c"))
     wanted, tellings = b"count %d\n" % len(pairs), 0

@@ -3,11 +3,11 @@
 
 A drawn script leaves a folder of several segments, whose pages were split and whose oldest segment was given up. Then
 
-- a bit of each byte of it is changed in turn, and `verify` has to tell the file and where the piece with that byte begins;
-- its files of digests are cut, emptied, removed, and put beside the segments of another folder, and `verify` tells what the check of sums.py tells;
+- a bit of each byte of it is changed in turn, and `verify` has to name the file and where the piece with that byte begins;
+- its files of digests are cut, emptied, removed, and put beside the segments of another folder, and `verify` reports what the check of sums.py reports;
 - `salvage` is asked of each beginning of its newest segment, of the folder without each of its segments, of the folder with a changed bit in each of
   its frames and headers, with digests and without: what it prints and what its new folder holds are compared with what a walk over the format
-  tells, which is written here from docs/FORMAT.md and docs/USING.md;
+  says, which is written here from docs/FORMAT.md and docs/USING.md;
 - `copy` and `copy --compact` have its pairs, whose pages are full; `restore` of each frame before a changed bit is that of the whole folder.
 
 Then `serve` is asked for backups while records come. Each opens as what was put before it, and is whole. Copies are killed at drawn moments: the
@@ -132,7 +132,7 @@ def block(reader):
 
 
 def frame(data, at):
-    """The frame at an offset: its number, its blocks, and where it ends; None where there is none."""
+    """The frame at an offset: its number, its blocks, and where it ends; None if there is none."""
     head = Reader(data, at)
     try:
         need(head.run(4) == b"FRM2")
@@ -150,7 +150,7 @@ def frame(data, at):
 
 
 def frames(data, pieces):
-    """The whole frames of a segment, and the pieces that are told as unchecked."""
+    """The whole frames of a segment, and the pieces that are named as unchecked."""
     around = {}
     for begin, end, told in pieces:
         fits = digests.digest(data[begin:end]) == told
@@ -184,7 +184,7 @@ def changed(held, name, new):
 
 
 def touch(pages, gaps, number, back, here, change):
-    """A block changes a page behind another block."""
+    """A block changes a page after another block."""
     line = pages.get(number)
     if line is None or line["lost"]:
         return
@@ -200,7 +200,7 @@ def touch(pages, gaps, number, back, here, change):
 
 
 def salvaged(files):
-    """What is told of these files, and the pairs; None where nothing is left."""
+    """What is said of these files, and the pairs; None if nothing is left."""
     lines, all_frames = [], {}
     for name in digests.segments_of(files):
         data = files.get(name, b"")
@@ -309,7 +309,7 @@ def ask_verify(room, files, expected, *what):
 
 
 def flips(room, files):
-    """A changed bit of each byte is told."""
+    """A changed bit of each byte is reported."""
     count = 0
     for name in segments_of(files):
         pieces = digests.pieces(files[name], digests.sums_of(files, name))
@@ -323,7 +323,7 @@ def flips(room, files):
 
 
 def told_of(files):
-    """What `verify` has to tell of whole segments, be their digests whole or not."""
+    """What `verify` has to say of whole segments, be their digests whole or not."""
     hurts, bare, bytes_, frames_, live = [], 0, 0, 0, 0
     for name in digests.segments_of(files):
         data, beside = files.get(name, b""), digests.sums_of(files, name)
@@ -443,7 +443,7 @@ def copies(room, files):
 
 
 def restores(room, files):
-    """Each frame before a fault is restored as if there was none. One that went with a segment is told by the page that is missing, where there is one."""
+    """Each frame before a fault is restored as if there was none. For one that went with a segment the missing page is named, if there is one."""
     path, names, count = os.path.join(room, "image"), segments_of(files), 0
     numbers = sorted(it[0] for name in names for it in frames(files[name], [])[0])
     first, last = numbers[0], numbers[-1]

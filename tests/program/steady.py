@@ -5,10 +5,10 @@
 
 A mode is serve, beside, settle, replay or threads; without one all of them are run. In serve and in replay, which has --take and --reuse, a flush
 comes after each 1,000 updates, and in settle, which is serve, a settlement. Where one spare is left, serve cleans by itself, and replay is
-told to. beside is serve
+asked to. beside is serve
 over eight segments, of which keys that never change fill two: these are the oldest again and again, and hold back none of the others. threads
-has --reuse and --forget, and two writers of half of the keys each. The greatest resident set of serve behind its last
-flushes, a tenth of those after a million updates, or after half of them, has to be at most a tenth above that behind the first tenth of
+has --reuse and --forget, and two writers of half of the keys each. The greatest resident set of serve after its last
+flushes, a tenth of those after a million updates, or after half of them, has to be at most a tenth above that after the first tenth of
 these. At the end each key has the value that it was last given, also in a second run over the folder. A million updates take some ten
 seconds by serve."""
 
@@ -99,7 +99,7 @@ class Beside(Served):
 
 
 class Settled(Served):
-    """The same, where each flush is a settlement."""
+    """The requests, but that each flush is a settlement."""
 
     keeps, kept = "settle", "settled "
 
@@ -112,7 +112,7 @@ class Replayed(Served):
     forgets = False
 
     def greet(self, is_old):
-        # What was found is told by two lines, once something is asked.
+        # Two lines say what was found, once something is asked.
         self.is_old = is_old
 
     def send(self, lines):
@@ -129,7 +129,7 @@ class Replayed(Served):
                 return int(words[1])
 
     def cleaned(self):
-        """What a cleaning comes to, where one spare is left."""
+        """What a cleaning comes to, if one spare is left."""
         if self.spares() > 1:
             return ""
         self.send(["clean"])
@@ -157,7 +157,7 @@ def ended(run, updates):
 
 
 def asked(folder, updates, of):
-    """What went otherwise than told where each line is answered, or nothing."""
+    """What went otherwise than it should, if each line is answered, or nothing."""
     run = of(folder)
     first, looks = min(updates // 2, 1000000), []
     for start in range(0, updates, KEYS):

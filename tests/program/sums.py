@@ -1,5 +1,5 @@
 #!/usr/bin/env python3
-"""The third part of make crash: damage is told, and no loss of power is told as damage.
+"""The third part of make crash: damage is reported, and no loss of power is reported as damage.
 
 Runs of `bwlog replay --dir` over drawn scripts go under a library that notes each write, cut and sync of the folder's files
 (tools/watch.c). Then folders are put together as a loss of power could leave them. Of a segment's file stands all that was synced, and of a
@@ -8,14 +8,14 @@ last synced: each of these wholly, in part or not at all, a lost one with bytes 
 None of these folders may be damaged, by a check that is written here from docs/FORMAT.md; drawn ones are looked at by `bwlog scan` too. And
 before each append to a file that was emptied none of its old sums may come back.
 
-Last, of the folder that each run leaves, each of many drawn bits is changed: in a segment's file `bwlog scan` has to tell the damage, by the
-file and by where its piece begins; in a file of sums it has to tell what it told before. And each segment's file is cut, at and beside the end of
-each piece and at drawn lengths, and removed: `scan` and `put` have to tell what is missing, and `put` leaves the folder as it is.
+Last, of the folder that each run leaves, each of many drawn bits is changed: in a segment's file `bwlog scan` has to report the damage, by the
+file and by where its piece begins; in a file of sums it has to say what it said before. And each segment's file is cut, at and beside the end of
+each piece and at drawn lengths, and removed: `scan` and `put` have to say what is missing, and `put` leaves the folder as it is.
 
     sums.py [STATES [SEED [WHOLE]]]
 
 WHOLE is how many small folders are asked in full (one if it is not given): each bit of each file is changed, and each file is cut at each length,
-with the files of sums and without them. With them each change of a segment is told, and none of the sums changes an answer. Without them no byte
+with the files of sums and without them. With them each change of a segment is reported, and none of the sums changes an answer. Without them no byte
 has a digest: a change may go unseen then, as docs/FORMAT.md says, but the program ends by itself, with an answer or a refusal, and `verify` says
 that the bytes have none.
 """
@@ -91,7 +91,7 @@ def damage(data, sums):
 
 
 def told_end(sums):
-    """Where the last piece ends of which a sum tells, be it there or not."""
+    """Where the last piece ends that has a sum, be it there or not."""
     begin, mark = 0, 0
     for at in range(0, len(sums) - SUM + 1, SUM):
         end, told, its = struct.unpack_from("<QQQ", sums, at)
@@ -245,7 +245,7 @@ def with_bit(data, bit):
 
 
 def flipped(files, image, draw):
-    """How many changed bits were told."""
+    """How many changed bits were reported."""
     write(image, files)
     before = scan(image)
     ask(before[0] == 0, "what a run left is refused:", before)
@@ -276,7 +276,7 @@ def lengths_of(data, sums, draw):
 
 
 def shortened(files, image, draw):
-    """How many files that were cut or removed were told."""
+    """How many files that were cut or removed were reported."""
     seen = 0
     for name in segments_of(files):
         data, sums = files[name], sums_of(files, name)
@@ -307,7 +307,7 @@ def changes_of(data):
 
 
 def told_of(image, files, name, data):
-    """What has to be told of a folder whose file has this in place of its bytes; nothing, if that is what was told before."""
+    """What has to be said of a folder whose file has this in place of its bytes; nothing, if that is what was said before."""
     if is_beside(name):
         return None
     sums = sums_of(files, name)
@@ -369,7 +369,7 @@ MANY = 2800
 
 
 def many(folder, image):
-    """A changed bit is told behind however many sums."""
+    """A changed bit is reported after however many sums."""
     script_ = "".join("put 0 k %d\nflush\n" % number for number in range(MANY))
     ran = subprocess.run([PROGRAM, "replay", "--dir", folder], input=script_, capture_output=True, text=True, check=False)
     ask(ran.returncode == 0, "many flushes:", ran.returncode, ran.stdout[-200:], ran.stderr)

@@ -5,7 +5,7 @@
 
 Without a program it takes the one that `make run` leaves. Each command answers in so many words; values of each length go in and come
 out byte for byte; so do 3,000 pairs with values to 64 KiB, 300,000 with --full, in each format, and the databases of a dump, also through
-LMDB and Berkeley DB where `mdb_load`, `mdb_dump`, `db_load` and `db_dump` are installed. An import is killed at moments that are drawn, and
+LMDB and Berkeley DB if `mdb_load`, `mdb_dump`, `db_load` and `db_dump` are installed. An import is killed at moments that are drawn, and
 the folder then opens and has whole calls only. Long values that are put over and over want no more segments than a few. With --full a
 log gets full, too. What is not tried is said."""
 
@@ -38,13 +38,13 @@ class Program:
         return subprocess.run([self.path, *words], input=given, capture_output=True, cwd=self.folder, check=False)
 
     def do(self, *words, given=b""):
-        """What it prints, once it ended well and told nothing."""
+        """What it prints, once it ended well with nothing on standard error."""
         ended = self.run(*words, given=given)
         expect((ended.returncode, ended.stderr), (0, b""), " ".join(words))
         return ended.stdout
 
     def says(self, words, status=0, prints="", tells="", given=b""):
-        """It ends so, prints that, and tells this on standard error."""
+        """It ends so, prints that, and has this on standard error."""
         ended = self.run(*words, given=given)
         found = (ended.returncode, ended.stdout.decode(), ended.stderr.decode())
         expect(found, (status, prints, tells), " ".join(words))

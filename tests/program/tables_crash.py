@@ -15,7 +15,7 @@ folders are the beginning of a further run, whose opening is stopped likewise.
 A call of each kind, and then the opening that follows, is stopped after each of its groups: a frame ends there, since what was put before is of that
 length.
 
-Then runs are killed at random moments, and what they leave is asked the same. And wrong folders and a wrong model have to be told as such.
+Then runs are killed at random moments, and what they leave is asked likewise. And wrong folders and a wrong model have to be found.
 
 Before all of this the same program, asked for times, makes its calls in memory once, and has to read back each row as it was put."""
 
@@ -46,7 +46,7 @@ SHAPES = (("8", "1048576", "32"), ("40", "131104", "4"), ("40", "131104", "32"))
 # What may stand half done: a number that is doomed, a table that is gone, a batch that stands, a row that is aside.
 DOOMED, GONE, STANDS, ASIDE = 2, 3, 5, 6
 HALF_DONE = {DOOMED: "a number is doomed", GONE: "a table is gone", STANDS: "a batch stands", ASIDE: "a row is aside"}
-# What `bw_tabled --times` tells, without numbers: of each subject its operations, and how many of each. A row that is not right is a line more.
+# What `bw_tabled --times` prints, without numbers: of each subject its operations, and how many of each. A row that is not right is a line more.
 COUNTED = (
     ("the store itself", ("set, new", "set, changed", "get of the store"), 1000),
     ("a table without long values", ("put, new", "put, changed", "get of a table"), 1000),
@@ -66,7 +66,7 @@ def word_of(some):
 
 
 def put(tables, name, key, value):
-    """The tables, with this value of a key; without the key where the value is none."""
+    """The tables, with this value of a key; without the key if the value is none."""
     rows = dict(tables[name])
     if value is None:
         rows.pop(key, None)
@@ -357,7 +357,7 @@ class Stops:
         self.states, self.images = {}, []
 
     def after(self, size):
-        """What stands of the call if so many bytes come before it: a text where no frame ends in it."""
+        """What stands of the call if so many bytes come before it: a text if no frame ends in it."""
         if size not in self.states:
             self.states[size] = self.look(size)
         return self.states[size]
@@ -455,7 +455,7 @@ def each_group(shim, room, draw, seen, kinds):
         count += found
         files, pairs = max(stops.images, key=lambda image: (len(half_done(image[1])), len(image[1])))
         tables = {name: rows for name, rows in tables_in(pairs).items() if name != FILLER}
-        # (the first line comes behind what an opening of the files themselves writes)
+        # (the first line comes after what an opening of the files themselves writes)
         again = Stops(shim, room, seen, files, [row_of_store(b"")], row_of_store, ["open"], tables, tables)
         count += again.all()
     return count
@@ -486,7 +486,7 @@ def killed(room, draw, seen):
     return ran.returncode == -signal.SIGKILL
 
 
-# ---- what is wrong is told
+# ---- what is wrong is found
 
 
 def told(what, call, *given):

@@ -1,11 +1,11 @@
 #!/usr/bin/env python3
-"""What the built program, and tools/shown.py beside a proof, tell on a terminal of work that takes longer than a second, by a pseudo-terminal;
-and that they tell nothing of it where standard error is none.
+"""What the built program, and tools/shown.py beside a proof, say on a terminal of work that takes longer than a second, by a pseudo-terminal;
+and that they say nothing of it if standard error is none.
 
     terminal.py [PROGRAM]
 
-An input that comes slowly makes an import as long as is wanted; a store of more than 32 MiB makes what goes over all of it long, where the
-program is held back: it is stopped most of the time until it has told something, so that a fast machine does not end the work within a
+An input that comes slowly makes an import as long as is wanted; a store of more than 32 MiB makes what goes over all of it long, if the
+program is held back: it is stopped most of the time until it has printed something, so that a fast machine does not end the work within a
 second. Of each mode the line on the terminal is written over, is gone at the end, and names the work."""
 
 import os
@@ -51,7 +51,7 @@ def read_all(end, into):
 
 
 def hold_back(child, told):
-    """Lets a program run a sixth of the time, until it has told something or has ended."""
+    """Lets a program run a sixth of the time, until it has printed something or has ended."""
     while not told and child.poll() is None:
         child.send_signal(signal.SIGSTOP)
         time.sleep(0.1)
@@ -60,7 +60,7 @@ def hold_back(child, told):
 
 
 def on_terminal(words, shown=False, feed=None, source=subprocess.DEVNULL, start=(PROGRAM,), wanted=0, held=False):
-    """Runs the program, or another, with standard error on a terminal, and standard output too where it is shown; what it printed to a pipe,
+    """Runs the program, or another, with standard error on a terminal, and standard output too if it is shown; what it printed to a pipe,
     and what the terminal got."""
     ours, theirs = pty.openpty()
     told = []
@@ -113,7 +113,7 @@ def check_slow(folder):
     ask(over and all(re.fullmatch(IMPORTING, it) for it in over), "a slow import told", over)
     # Of a pipe nobody knows how much there is.
     ask(all(" of " not in it for it in over), "a slow import told", over)
-    # It is no work of a second where the input comes at once.
+    # It is no work of a second if the input comes at once.
     printed, told = on_terminal(["import", "--dir", store], feed=lambda file: file.write(pair_line(1).encode()))
     ask(told == "", "a short import told", told)
     ran = subprocess.run([PROGRAM, "import", "--dir", store + "2"], input="".join(map(pair_line, range(10))).encode(), capture_output=True, check=False)
@@ -121,7 +121,7 @@ def check_slow(folder):
 
 
 def check_silent(folder):
-    """Where standard error is no terminal, a slow import tells nothing."""
+    """If standard error is no terminal, a slow import says nothing there."""
     child = subprocess.Popen([PROGRAM, "import", "--dir", os.path.join(folder, "silent")], stdin=subprocess.PIPE, stdout=subprocess.PIPE, stderr=subprocess.PIPE)
     slowly(child.stdin)
     child.stdin.close()
@@ -168,13 +168,13 @@ def check_large(folder):
     ask(check_mode(["salvage", *words, "--to", store + " saved"], saving).startswith(b"salvaged frame "), "salvage is wrong")
     ask(check_mode(["copy", "--compact", *words, "--to", store + " full"], saving).startswith(b"copied frame "), "copy --compact is wrong")
     ask(check_mode(["replay", *words], ["opening"]).startswith(b"segments "), "replay is wrong")
-    # A listing on the same terminal stands there as it is, and nothing is told in between.
+    # A listing on the same terminal stands there as it is, and nothing is printed in between.
     shown = check_mode(["list", *words, "--limit", "3"], ["reading", "recovering"], shown=True)
     ask(shown == "key\t1\nkey00000000\t%s\nkey00000001\t%s\n" % ("v" * 97, "v" * 97), "list shows", shown[:500])
 
 
 def check_added(folder):
-    """A segment that was added is told, on a terminal or not."""
+    """A segment that was added is reported, on a terminal or not."""
     store = os.path.join(folder, "added")
     script = "put 0 a 1\nflush\n".encode()
     words = ["replay", "--dir", store, "--segments=2", "--capacity=65560", "--most-segments=3"]
@@ -206,7 +206,7 @@ def check_typed(folder):
 
 
 def check_shell(folder):
-    """A shell on a terminal has a prompt there, and what serve waits for on one is told to be no shell."""
+    """A shell on a terminal has a prompt there, and serve says on one that it is no shell."""
     words, store = [PROGRAM, "shell", "--dir", os.path.join(folder, "shell")], os.path.join(folder, "shell")
     ours, theirs = pty.openpty()
     told = []

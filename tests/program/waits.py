@@ -1,10 +1,10 @@
 #!/usr/bin/env python3
-"""When the built program writes its answers out: before it waits for more of its input, whatever stands there behind a request (nothing, an
-empty line, a comment, a part of a line, more than a line may have), and at once behind a receipt: `flush`, `settle`, `clean`, and of
+"""When the built program writes its answers out: before it waits for more of its input, whatever stands there after a request (nothing, an
+empty line, a comment, a part of a line, more than a line may have), and at once after a receipt: `flush`, `settle`, `clean`, and of
 `serve` also `durable`.
 
 Its output is a pipe that keeps each write apart, so what is read at once is what was written at once. The input stays open until the
-answers were read: a program that keeps them while it waits answers nothing, and that is told after some seconds."""
+answers were read: a program that keeps them while it waits answers nothing, and that is reported after some seconds."""
 
 import os
 import select
@@ -43,7 +43,7 @@ SERVE = [
 
 
 def writes_of(words, sent, count):
-    """The first writes of a run that was sent this and waits for more, each as it was written; fewer, where no further one came."""
+    """The first writes of a run that was sent this and waits for more, each as it was written; fewer, if no further one came."""
     read, write = os.pipe2(os.O_DIRECT | os.O_CLOEXEC)
     child = subprocess.Popen([PROGRAM] + words, stdin=subprocess.PIPE, stdout=write)
     os.close(write)
