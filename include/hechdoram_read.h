@@ -12,12 +12,12 @@
  * hechdoram.h has the same reader beside a store that can be written, with one face for both.
  * Link with -lhechdoram_read (pkg-config hechdoram_read).
  *
- * Answers. A call answers BW_OK, or BW_NOT_FOUND where there is no such pair, or a number below 0,
+ * Answers. A call answers BW_OK, or BW_NOT_FOUND if there is no such pair, or a number below 0,
  *   whose text bw_read_error gives. Where it is not BW_OK, what the caller's memory then has says
  *   nothing.
  * Bytes. A key has 1 to BW_MAX_KEY bytes, a value 0 to BW_MAX_VALUE, any bytes, and no 0 ends one.
  *   Keys stand in the order of memcmp; of two that begin alike the shorter comes first. A length
- *   stands behind its pointer.
+ *   stands after its pointer.
  * Time. A folder is read whole when it is opened, and let go of: a reader has the pairs that were
  *   durable then, in memory, and sees nothing of what is written later. While it is read it is
  *   locked beside other readers. If it is open to be written, it is read without a lock, and no
@@ -29,7 +29,7 @@
  *   answered is copied into the caller's memory. Memory is taken by malloc, and none after the
  *   opening; a want of it is BW_NO_MEMORY.
  * Threads. Any number of threads may ask one open reader at once; the opening comes before all of
- *   it, and the closing behind it, by a lock, a join or a start. Several readers, of one folder
+ *   it, and the closing after it, by a lock, a join or a start. Several readers, of one folder
  *   too, do not concern one another.
  * Readers. A bw_reader is one word. An open one may be moved, but not used from two places. A
  *   closed one may be closed again, and every other call on it answers BW_MISUSE, as does a null
@@ -91,7 +91,7 @@ typedef struct bw_pair {
 } bw_pair;
 
 /* The library's own calls, for other languages and for the calls below. No pointer may be null, not
- * even where its length is 0; memory that is written overlaps no other; bw_raw_open writes the word
+ * even if its length is 0; memory that is written overlaps no other; bw_raw_open writes the word
  * of a reader that is not open, and the others are given one that is. clients/c/hechdoram_read.c
  * has them. */
 int32_t bw_raw_open(const uint8_t *path, size_t path_len, void **at, int32_t *reason);
@@ -129,7 +129,7 @@ static inline uint64_t bw_read_count(const bw_reader *reader) {
 }
 
 /* Writes as many of the value's bytes as there is room for, and to `value_len` how many it has.
- * Either may be null: the value where there is no room, the length where it is not asked. */
+ * Either may be null: the value if there is no room, the length if it is not asked. */
 static inline int bw_read_get(const bw_reader *reader, const void *key, size_t key_len, void *value,
                               size_t room, size_t *value_len) {
     uint8_t none = 0;
@@ -169,7 +169,7 @@ static inline int bw_read_first(const bw_reader *reader, bw_pair *pair) {
     return bw_read_at(reader, "", 1, pair);
 }
 
-/* The pair behind the one in `pair`, which has to be one that a call wrote. */
+/* The pair after the one in `pair`, which has to be one that a call wrote. */
 static inline int bw_read_next(const bw_reader *reader, bw_pair *pair) {
     uint8_t from[BW_MAX_KEY];
     if (!reader || !reader->at || !pair) return BW_MISUSE;
@@ -203,7 +203,7 @@ static inline int bw_read_first_of(const bw_reader *reader, const void *prefix, 
     return answer == BW_OK && !bw_begins(pair, begin, len) ? BW_NOT_FOUND : answer;
 }
 
-/* The pair behind the one in `pair` whose key begins with these bytes, which lie outside `pair`. */
+/* The pair after the one in `pair` whose key begins with these bytes, which lie outside `pair`. */
 static inline int bw_read_next_of(const bw_reader *reader, const void *prefix, size_t len,
                                   bw_pair *pair) {
     if (!reader || !reader->at || !prefix || !pair) return BW_MISUSE;

@@ -3,7 +3,7 @@
 #include <sys/mman.h>
 #include <unistd.h>
 
-/* Cells of this size in the file of this name; those that are handed in where there is no such file. */
+/* Cells of this size in the file of this name; those that are handed in if there is no such file. */
 static void *cells_in(const char *name, size_t size, void *unseen)
 {
     int file = name ? open(name, O_RDWR | O_CREAT, 0600) : -1;

@@ -1,4 +1,4 @@
-/* Lets one call of a program on the files below a folder fail: the system then tells a fault of the device.
+/* Lets one call of a program on the files below a folder fail: the system then reports a fault of the device.
    FAILING names the folder, and FAILING_AT says which call fails, counted from 1; none does for 0. How many there were stands in the
    file that FAILING_COUNT names, however the program ends. Beside opening, making, reading, writing, cutting, syncing, naming, listing
    and locking, what is asked of a file's kind and length counts too. With FAILING_HOW=kill the program is killed in place of that: only

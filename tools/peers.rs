@@ -3,9 +3,9 @@
 //!
 //!     peers FOLDER KEYS [--shared N] [--value N] [--batch N] [--readers N] [--synced]
 //!
-//! Keys share so many bytes and have 8 of their own, 0 where it is not said; values have 100 bytes, batches 64 puts. With `--readers` only LMDB
+//! Keys share so many bytes and have 8 of their own, 0 if it is not said; values have 100 bytes, batches 64 puts. With `--readers` only LMDB
 //! over a writable map is asked, with so many threads that look keys up while it is written to; with `--synced` only LevelDB, which then syncs its
-//! log behind each batch.
+//! log after each batch.
 
 use std::collections::BTreeMap;
 use std::ffi::{c_char, c_int, c_uint, c_void, CString};
@@ -319,7 +319,7 @@ fn measure(name: &str, peer: &mut dyn Peer, shape: Shape) {
     println!("{:<22} a walk {walk:>6}   a range of {RANGE} {range:>6}   ns a pair{}", "", if is_whole { "" } else { "; PAIRS LEFT OUT" });
 }
 
-/// Looks keys up until it is told to end, by transactions of 64 look-ups, and answers how many it made.
+/// Looks keys up until it is asked to end, by transactions of 64 look-ups, and answers how many it made.
 fn look_up(env: usize, dbi: c_uint, shape: Shape, is_over: &AtomicBool) -> u64 {
     let (mut made, mut key) = (0, [0; 128]);
     while !is_over.load(Ordering::Relaxed) {

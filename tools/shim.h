@@ -1,10 +1,10 @@
-/* What the shims before the system's calls share: the call behind a name, and the mode of a file that may be made. */
+/* What the shims before the system's calls share: the call that a name stands for, and the mode of a file that may be made. */
 #define REAL(kind, name, ...) \
     static kind (*real)(__VA_ARGS__); \
     if (!real) \
         real = (kind (*)(__VA_ARGS__))dlsym(RTLD_NEXT, name)
 
-/* The mode that stands behind the flags where a file may be made. */
+/* The mode that stands after the flags if a file may be made. */
 #define MODE(mode, flags) \
     va_list more; \
     va_start(more, flags); \

@@ -2,7 +2,7 @@
    WATCH names the folder and WATCH_LOG the file of notes. A note is a letter, then two numbers of eight bytes, then a name with its length in
    four bytes, then the bytes that are written: `o` a file is there, `w` bytes at an offset, `t` a length that is cut to, `s` the file is
    synced, `f` the folder is, `r` something got this name, which had another. A call that failed is not noted. WATCH_CUT says which cut of such a file fails, from 1 on, and with it each later
-   one: the system then tells a fault of the device. */
+   one: the system then reports a fault of the device. */
 #define _GNU_SOURCE
 #include <dlfcn.h>
 #include <errno.h>

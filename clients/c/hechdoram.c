@@ -554,7 +554,7 @@ static int spawn(hechdoram *s, const char *program, words *w, const int ends[3])
     return fault;
 }
 
-/* The same file by a number above those of the child's three. */
+/* A file by a number above those of the child's three. */
 static int above(int file) {
     if (file < 0 || file > 2) return file;
     int other = fcntl(file, F_DUPFD_CLOEXEC, 3);

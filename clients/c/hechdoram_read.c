@@ -1,6 +1,6 @@
 /* The library's part in C: it reads the files of a folder, and looks pairs up in memory of its own.
  *
- * What the bytes of the files say is for the part in Rattle to tell, crates/bw_reading: it checks
+ * What the bytes of the files say is for the part in Rattle to say, crates/bw_reading: it checks
  * them, finds the pairs, writes them into one run of memory here, and searches there. `make lib`
  * makes one library of both. */
 #define _DEFAULT_SOURCE
@@ -17,11 +17,11 @@
 #include <sys/stat.h>
 #include <unistd.h>
 
-/* The calls of crates/bw_reading. No pointer may be null, not even where its length is 0. */
+/* The calls of crates/bw_reading. No pointer may be null, not even if its length is 0. */
 
-/* The pairs of the segments whose bytes, and the sums beside them, stand one behind the other; of
+/* The pairs of the segments whose bytes, and the sums beside them, follow each other; of
  * each segment `parts` has two lengths, of its bytes and of its sums. Writes to the image as much
- * as there is room for, and tells how many bytes it has and how many pairs. */
+ * as there is room for, and says how many bytes it has and how many pairs. */
 int32_t bw_pairs_in(const uint8_t *bytes, size_t bytes_len, const uint8_t *sums, size_t sums_len,
                     const uint64_t *parts, size_t parts_len, uint8_t *image, size_t image_len,
                     uint64_t *needed, uint64_t *count);
@@ -55,7 +55,7 @@ static void *room_for(size_t count, size_t size) {
     return count > SIZE_MAX / 2 / size ? NULL : malloc((count ? count : 1) * size);
 }
 
-/* What is told of a call that the system refused. */
+/* What is said of a call that the system refused. */
 static int refusal(int32_t *reason) {
     if (errno == ENOMEM) return BW_NO_MEMORY;
     if (errno == ENOENT) return BW_NO_STORE;
@@ -65,7 +65,7 @@ static int refusal(int32_t *reason) {
 
 /* ---- files */
 
-/* Opens a file of the folder to be read; BW_NOT_FOUND where it is not there. What has its name and
+/* Opens a file of the folder to be read; BW_NOT_FOUND if it is not there. What has its name and
  * is no plain file is not opened. */
 static int open_plain(int dir, const char *name, int *fd, int32_t *reason) {
     struct stat about;
@@ -77,7 +77,7 @@ static int open_plain(int dir, const char *name, int *fd, int32_t *reason) {
     return errno == ENOENT ? BW_NOT_FOUND : refusal(reason);
 }
 
-/* Takes the lock of the folder beside other readers, where it has the file for it. */
+/* Takes the lock of the folder beside other readers, if it has the file for it. */
 static int lock(int dir, int *fd, int32_t *reason) {
     int answer = open_plain(dir, "lock", fd, reason);
     if (answer == BW_NOT_FOUND) return BW_OK;
@@ -89,7 +89,7 @@ static int lock(int dir, int *fd, int32_t *reason) {
     return BW_OK;
 }
 
-/* Reads so many bytes of a file behind those of a run. */
+/* Reads so many bytes of a file, which go after those of a run. */
 static int read_whole(int fd, size_t len, run *into, int32_t *reason) {
     if (len == 0) return BW_OK;
     uint8_t *bytes = (uint8_t *)realloc(into->bytes, into->len + len);
@@ -137,7 +137,7 @@ static int lease_of(const char *name) {
     return number < MAX_LEASES ? number : -1;
 }
 
-/* Says of each lease whether it has a file, or sums alone. */
+/* Says of each lease whether it has a file, or only sums. */
 static int list(int dir, bool *has_file, int32_t *reason) {
     int fd = openat(dir, ".", O_RDONLY | O_CLOEXEC | O_DIRECTORY);
     if (fd < 0) return refusal(reason);

@@ -67,7 +67,7 @@ func begin(program string, words []string, hasTables bool) (*child, error) {
 }
 
 // greeted refuses a program of another protocol: the first answer is `ready frame N protocol 1`,
-// maybe with more after it; where tables are served, the word `tables`.
+// maybe with more after it; if tables are served, the word `tables`.
 func (c *child) greeted(answer string, hasTables bool) error {
 	words := strings.Split(answer, " ")
 	if words[0] == "refused" {

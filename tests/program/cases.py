@@ -232,7 +232,7 @@ def run(program, case, texts, folder):
 
 
 def run_beside(program, case, texts, folder):
-    """The same while somebody holds the folder's lock."""
+    """Runs a case while somebody holds the folder's lock."""
     with open(os.path.join(folder, case["beside"], "lock"), "rb") as lock:
         fcntl.flock(lock, fcntl.LOCK_EX | fcntl.LOCK_NB)
         return run(program, case, texts, folder)

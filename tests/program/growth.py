@@ -249,7 +249,7 @@ class Shared(InStore):
 
 
 class Away(InStore):
-    """The same over pages that are all in the log."""
+    """Gets over pages that are all in the log."""
 
     def begin(self, program, count):
         self.words = ["--memory", "0"]

@@ -204,7 +204,7 @@ def through_lmdb(program, pairs):
 
 
 def through_berkeley(program, pairs):
-    """The same of Berkeley DB."""
+    """Pairs go to Berkeley DB in both forms, and come back."""
     if not shutil.which("db_load") or not shutil.which("db_dump"):
         return "not tried: db_load and db_dump are not installed (db-util)"
     written = program.do("export", "--dir", "by-lines")

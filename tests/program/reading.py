@@ -143,7 +143,7 @@ def questions(drawn, pairs, is_short):
 
 
 def ask_python(drawn, folder, pairs):
-    """The same of the Python class, as a mapping; and a second reader beside it."""
+    """Asks the Python class, as a mapping, and a second reader beside it."""
     keys, asked = sorted(pairs), 0
     with hechdoram.read(folder, SHARED) as reader, hechdoram.read(folder, SHARED) as other:
         expect((len(reader), list(reader), dict(reader)), (len(pairs), keys, pairs), "%s as a mapping" % folder)

@@ -182,7 +182,7 @@ def asked(folder, updates, of):
 
 
 def threaded(folder, updates):
-    """The same of `threads`: its whole script is written first."""
+    """The updates by `threads`: its whole script is written first."""
     script = []
     for start in range(0, updates, 4):
         for writer in range(2):

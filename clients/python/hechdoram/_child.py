@@ -167,7 +167,7 @@ class Child:
 
     def _greeted(self, answer: str, has_tables: bool) -> None:
         """Refuses a program of another protocol: the first answer is `ready frame N protocol 1`,
-        maybe with more after it; where tables are served, the word `tables`."""
+        maybe with more after it; if tables are served, the word `tables`."""
         words = answer.split(" ")
         if words[0] == "refused":
             raise end_by(self._last_words() or answer)

@@ -48,7 +48,7 @@ impl Child {
     }
 
     /// What a first answer is refused for: it is `ready frame N protocol 1`, maybe with more after
-    /// it; where tables are served, the word `tables`.
+    /// it; if tables are served, the word `tables`.
     fn greeted(&mut self, answer: &str) -> Option<Error> {
         let words: Vec<&str> = answer.split(' ').collect();
         match words.as_slice() {
