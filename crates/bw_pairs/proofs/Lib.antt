@@ -20,3 +20,8 @@ pub mod JsonLaws
 pub mod WholeLines
 pub mod JsonLines
 pub mod WrittenLines
+pub mod Cutting
+pub mod Steps
+pub mod Heading
+pub mod ReadOver
+pub mod Stepping

@@ -6,4 +6,8 @@ pub mod Longs
 pub mod Dumps
 pub mod Csv
 pub mod Json
+pub mod Headers
+pub mod Faults
+pub mod Records
+pub mod Readings
 pub mod Laws

@@ -6,6 +6,7 @@ ghost use Rattle.std.specs.Prelude.{◌≡◌, ◌≤◌, ◌<◌, ◌+◌, ◌*
 ghost use Rattle.std.specs.Io.KnownBytes.{Appends, prepend_known};
 ghost use Rattle.std.specs.Result.{result_ok};
 ghost use Rattle.hex.specs.Hex.{decode_of, hex_digit_value};
+ghost use Rattle.bw_pairs.specs.Headers.{letters_named, parted_by, header_by};
 ghost use Rattle.bw_pairs.specs.Dumps.{escape, dump_line, unescaped, behind_space, dump_meant, dump_key, dump_value, dump_header, dump_end, format_line, name_line, size_line};
 
 use crate::buffer::Buffer;
@@ -327,7 +328,9 @@ pub enum Header {
 }
 
 /// How bytes are spelled, by the value of `format`.
-fn letters_of(value: &str) -> Result<Letters, LineFault> {
+fn letters_of(value: &str) -> Result<Letters, LineFault>
+    ensures { result ≡ letters_named value.now }
+{
     match value {
         "bytevalue" => Ok(Letters::Hex),
         "print" => Ok(Letters::Print),
@@ -337,7 +340,9 @@ fn letters_of(value: &str) -> Result<Letters, LineFault> {
 
 /// What is known once a line after the first one is read. What says how another store lays out its
 /// pages, or orders its keys, is read over.
-fn with_line(letters: Letters, text: &str) -> Result<Header, LineFault> {
+fn with_line(letters: Letters, text: &str) -> Result<Header, LineFault>
+    ensures { result ≡ parted_by letters text.now }
+{
     let Some((name, value)) = text.split_once('=') else {
         return Err(LineFault::BadHeader);
     };
@@ -354,7 +359,9 @@ fn with_line(letters: Letters, text: &str) -> Result<Header, LineFault> {
 
 impl Header {
     /// What is known once a line more is read.
-    pub fn then(self, line: &[u8]) -> Result<Header, LineFault> {
+    pub fn then(self, line: &[u8]) -> Result<Header, LineFault>
+        ensures { result ≡ header_by self line.now }
+    {
         let Ok(text) = std::str::from_utf8(line) else {
             return Err(LineFault::BadHeader);
         };

@@ -1,5 +1,8 @@
 //! Why a line is no pair, and why there are no more of them.
 
+ghost use Rattle.std.specs.Prelude.{◌≡◌, None};
+ghost use Rattle.bw_pairs.specs.Faults.{fault_line};
+
 use std::io::{self, ErrorKind};
 use thiserror::Error;
 
@@ -84,7 +87,9 @@ pub enum PairsFault {
 
 impl PairsFault {
     /// An error of a read, or of a growth for what was read.
-    pub fn of_read(error: io::Error) -> PairsFault {
+    pub fn of_read(error: io::Error) -> PairsFault
+        ensures { fault_line result ≡ None }
+    {
         if error.kind() == ErrorKind::OutOfMemory {
             PairsFault::NoMemory
         } else {
