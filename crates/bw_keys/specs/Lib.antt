@@ -5,6 +5,7 @@ pub mod Stretches
 pub mod Listed
 pub mod Asked
 pub mod Loading
+pub mod Handed
 pub mod Keyed
 pub mod Held
 pub mod Filled

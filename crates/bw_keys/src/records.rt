@@ -1,6 +1,6 @@
 //! The records that go into a store, one after another.
 
-ghost use Rattle.std.specs.Prelude.{◌≡◌, ◌++◌, [], List, Some};
+ghost use Rattle.std.specs.Prelude.{◌≡◌, ◌++◌, [], List, Some, IfOk, IsSome, IsNone};
 ghost use Rattle.bw_home.specs.Ready.{IsReady};
 ghost use Rattle.bw_record.specs.declared.record.Record.{Record};
 ghost use Rattle.bw_keys.specs.Loading.{got};
@@ -106,7 +106,10 @@ pub struct Input<I> {
 
 impl<I> Input<I> {
     /// These.
-    pub fn new(pairs: Pairs<I>) -> Input<I> {
+    pub fn new(pairs: Pairs<I>) -> Input<I>
+        ensures none { result.given.value ≡ [] }
+        ensures pairs { result.pairs ≡ pairs }
+    {
         Input {
             pairs,
             given: none_given(),
@@ -114,8 +117,36 @@ impl<I> Input<I> {
     }
 
     /// The pairs that are left of it.
-    pub fn into_pairs(self) -> Pairs<I> {
+    pub fn into_pairs(self) -> Pairs<I>
+        ensures { result ≡ self.pairs }
+    {
         self.pairs
+    }
+}
+
+impl<I: Read + Drop> Input<I> {
+    ghost use Rattle.bw_pairs.specs.Records.{Reading};
+    ghost use Rattle.bw_pairs.specs.Readings.{reading_of};
+    ghost use Rattle.bw_keys.specs.Handed.{HasHanded, AreAll};
+
+    /// The next record of the lines; `None` after the last. As long as the lines can be read, what
+    /// was handed out is what they say, one record after another. At the end that is all of it.
+    pub fn next_record(&mut self) -> Result<Option<Record>, KeysFault>
+        ensures given { self.new.given.value ≡ self.old.given.value ++ got result }
+        ensures handed { (from : Reading)
+            → HasHanded from self.old.given.value (reading_of I.remaining self.old.pairs)
+            → IfOk result (λ item. IsSome item
+            → HasHanded from self.new.given.value (reading_of I.remaining self.new.pairs)) }
+        ensures all { (from : Reading)
+            → HasHanded from self.old.given.value (reading_of I.remaining self.old.pairs)
+            → IfOk result (λ item. IsNone item → AreAll from self.new.given.value) }
+    {
+        let answer = match self.pairs.next_record() {
+            Ok(item) => Ok(item),
+            Err(fault) => Err(KeysFault::from(fault)),
+        };
+        note(&mut self.given, &answer);
+        answer
     }
 }
 
@@ -127,12 +158,7 @@ impl<I: Read + Drop> Records for Input<I> {
     }
 
     fn next_record(&mut self) -> Result<Option<Record>, KeysFault> {
-        let answer = match self.pairs.next_record() {
-            Ok(item) => Ok(item),
-            Err(fault) => Err(KeysFault::from(fault)),
-        };
-        note(&mut self.given, &answer);
-        answer
+        Input::next_record(self)
     }
 
     fn bytes(&self) -> u64 {
