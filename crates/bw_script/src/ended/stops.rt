@@ -5,24 +5,12 @@ use bw_file::FolderFault;
 use bw_keys::TableRefusal;
 use bw_look::{Moment, Note, Printer};
 use bw_words::Stop;
-use std::fmt::Display;
 use std::io::{ErrorKind, Write};
 
 /// Says this of a folder.
 pub fn tell_of<E: Write>(out: &mut Printer<'_, E>, dir: &str, text: &[u8]) {
     out.named("folder ", dir);
     out.text(text);
-}
-
-/// Says this of a folder, and a number or a name after it.
-pub fn tell_line_of<E: Write, D: Display + Copy + Drop>(
-    out: &mut Printer<'_, E>,
-    dir: &str,
-    text: &str,
-    value: D,
-) {
-    out.named("folder ", dir);
-    out.line(text, value);
 }
 
 /// The status of a run that a fault of a folder ended.
@@ -44,13 +32,15 @@ fn is_there(fault: FolderFault) -> bool {
 
 /// Says why a folder was not opened.
 fn tell_folder<E: Write>(out: &mut Printer<'_, E>, dir: &str, fault: FolderFault) -> Status {
-    tell_line_of(out, dir, ": ", fault);
+    out.named("folder ", dir);
+    out.line(": ", fault);
     status_of(fault)
 }
 
 /// Says why a new folder was not made under the name that it has meanwhile.
 fn tell_partial<E: Write>(out: &mut Printer<'_, E>, front: &str, fault: FolderFault) -> Status {
-    tell_line_of(out, front, ".partial: ", fault);
+    out.named("folder ", front);
+    out.line(".partial: ", fault);
     if is_there(fault) {
         out.named("it is not what an earlier run left: give ", front);
         out.text(b".partial another name, and run this again\n");
@@ -60,7 +50,8 @@ fn tell_partial<E: Write>(out: &mut Printer<'_, E>, front: &str, fault: FolderFa
 
 /// Says why a folder was not moved, of which a whole copy takes the place.
 fn tell_old<E: Write>(out: &mut Printer<'_, E>, front: &str, fault: FolderFault) -> Status {
-    tell_line_of(out, front, ".old: ", fault);
+    out.named("folder ", front);
+    out.line(".old: ", fault);
     if is_there(fault) {
         out.named("the folder ", front);
         out.text(
@@ -115,11 +106,13 @@ fn tell_unfit<E: Write>(out: &mut Printer<'_, E>, folders: Folders<'_>, stop: St
             out.line(" is not that of the folder that it follows, ", source);
         }
         Stop::NoFollower(cause) => {
-            tell_line_of(out, dir, ": no store that follows another one: ", cause);
+            out.named("folder ", dir);
+            out.line(": no store that follows another one: ", cause);
         }
         Stop::NoStore => tell_of(out, source, b": no store\n"),
         Stop::Within => {
-            tell_line_of(out, dir, ": it lies in the folder that is read, ", source);
+            out.named("folder ", dir);
+            out.line(": it lies in the folder that is read, ", source);
         }
         Stop::Unlike => {
             let front = dir.trim_end_matches('/');

@@ -1,6 +1,6 @@
 //! What is said of a task over keys, or over tables, beside what it prints.
 
-use crate::ended::stops::{tell_line_of, tell_of};
+use crate::ended::stops::tell_of;
 use crate::ended::{Ending, Folders, Status};
 use bw_core::StoreFault;
 use bw_device::MAX_LEASES;
@@ -25,8 +25,8 @@ impl Ending for Refusal {
         out.line("", self);
         match self {
             Refusal::Store(StoreFault::NoSegment) => {
-                let text = ": the log is full, with segments ";
-                tell_line_of(out, folders.dir, text, MAX_LEASES);
+                out.named("folder ", folders.dir);
+                out.line(": the log is full, with segments ", MAX_LEASES);
             }
             Refusal::Store(StoreFault::Device { .. }) => {
                 let text = b": a file was not written; is its disk full?\n";
