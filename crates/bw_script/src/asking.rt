@@ -1,6 +1,6 @@
 //! What the next line of an input asks for.
 
-use crate::ended::write_out;
+use crate::noting::write_out;
 use crate::script::{Asked, Script};
 use crate::shell::{PROMPT, Shell, tell_text};
 use bw_calls::Change;

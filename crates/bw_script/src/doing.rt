@@ -4,8 +4,8 @@ ghost use Rattle.bw_home.specs.Ready.{IsReady};
 
 use crate::answers::{Answer, tell};
 use crate::calls::{call, put_taking, turn_on};
-use crate::ended::write_out;
 use crate::events::tell_cleaned;
+use crate::noting::write_out;
 use crate::script::{Asked, Done, Ended, Script};
 use crate::shell::{HELP, tell_text};
 use crate::tended::Served;

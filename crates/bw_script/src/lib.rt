@@ -6,14 +6,13 @@
 //!
 //! A script has a `Home` before it, which `bw_home` opens: a store over segments in memory or in a
 //! folder, and a feed for each writer. `run` is the whole program `bwlog` over any reader and
-//! writers, and `ended` has all ends of a run: what is said of each, and its exit status.
+//! writers.
 #![tactic(auto)]
 
 mod answers;
 mod asking;
 mod calls;
 mod doing;
-mod ended;
 mod events;
 mod keyed;
 mod mark;

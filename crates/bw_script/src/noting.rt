@@ -6,6 +6,14 @@ use bw_look::Watch;
 use bw_words::{Met, Miss, Refusal, Stop, missed, refuse_after};
 use std::io::{Read, Write};
 
+/// Writes out what was printed.
+pub(crate) fn write_out<O: Write>(output: &mut O) -> Result<(), Stop> {
+    if output.flush().is_err() {
+        return Err(Stop::Output);
+    }
+    Ok(())
+}
+
 /// What comes of a script and of its next line: what was met, or what ends it.
 pub(crate) fn joined(end: Result<Met, Stop>, answer: Result<Met, Stop>) -> Result<Met, Stop> {
     Ok(end?.and(answer?))

@@ -4,7 +4,6 @@
 ghost use Rattle.bw_home.specs.Ready.{IsReady};
 
 use crate::answers::{Answer, tell};
-use crate::ended::no_output;
 use bw_codec::{Key, Pair, Value};
 use bw_home::Home;
 use bw_keys::above;
@@ -173,7 +172,10 @@ impl Shell {
     {
         match answer {
             Answer::Put(_) | Answer::Unchanged | Answer::Stats(_) => tell(home, output, answer),
-            answer => self.write(output, answer).map_err(no_output),
+            answer => match self.write(output, answer) {
+                Ok(()) => Ok(()),
+                Err(_) => Err(Stop::Output),
+            },
         }
     }
 }
@@ -198,5 +200,8 @@ fn write_one<O: Write>(output: &mut O, key: &Key, value: &Value) -> io::Result<(
 
 /// Prints a text as it is.
 pub fn tell_text<O: Write>(output: &mut O, text: &str) -> Result<(), Stop> {
-    output.write_all(text.as_bytes()).map_err(no_output)
+    match output.write_all(text.as_bytes()) {
+        Ok(()) => Ok(()),
+        Err(_) => Err(Stop::Output),
+    }
 }
